@@ -1,0 +1,9 @@
+-- Laws of the definitions: what proofs cite, so that no proof elsewhere opens a definition. A reader need not read them.
+pub mod Stream
+pub mod Number
+pub mod Sync
+pub mod Crc
+pub mod Mfm
+pub mod Packed
+pub mod Written
+pub mod Triple

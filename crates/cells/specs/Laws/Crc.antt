@@ -1,0 +1,52 @@
+-- Laws of the CRC.
+-- Assumes nothing.
+use mathlib.Core.List.{List, [], _∷_, _++_}
+use mathlib.Core.Path.{_≡_, refl}
+use Prim.Native.Nat.{ℕ, zero, suc, _+_, _-_, _*_, _/_, _%_, _^_, _<_}
+use native.Mathlib.Numerals.{add-one}
+use native.Mathlib.Omega.{arith}
+use lib.Bits.{xor-lt}
+use lib.Dec.{lit<}
+use Rattle.laws.specs.Tab.{tab}
+use Rattle.cells.specs.Stream.{dataByte, dataBytes}
+use Rattle.cells.specs.Crc.{crcStart, crcBit, crcBits, crcFrom, crc}
+use Rattle.cells.specs.Laws.Number.{bytes-more}
+
+-- one more bit of a byte
+pub crcBits-more : (s x k : ℕ) → crcBits s x (k + 1) ≡ crcBit (crcBits s x k) (x / 2 ^ (7 - k) % 2)
+unfolding crcBits
+crcBits-more s x k = rw add-one
+
+crcFrom-snoc : (s : ℕ) (xs : List ℕ) (x : ℕ) → crcFrom s (xs ++ (x ∷ [])) ≡ crcBits (crcFrom s xs) x 8
+unfolding crcFrom
+crcFrom-snoc s [] x = refl
+crcFrom-snoc s (y ∷ ys) x = crcFrom-snoc (crcBits s y 8) ys x
+
+-- no byte, and one more byte of a row
+pub crc-none : (c : List ℕ) (k : ℕ) → crcStart ≡ crc (dataBytes c k 0)
+unfolding crc crcFrom dataBytes tab
+crc-none c k = refl
+
+pub crc-more : (c : List ℕ) (k n : ℕ) → crc (dataBytes c k (n + 1)) ≡ crcBits (crc (dataBytes c k n)) (dataByte c (k + 16 * n)) 8
+unfolding crc
+crc-more c k n = rw bytes-more (crcFrom-snoc crcStart (dataBytes c k n) (dataByte c (k + 16 * n)))
+
+-- ---- the register has 16 bits
+
+crcBit-lt : (s b : ℕ) → crcBit s b < 2 ^ 16
+unfolding crcBit
+crcBit-lt s b = xor-lt 16 (0x1021 * ((s / 0x8000 + b) % 2)) (s * 2 % 0x10000) (omega arith) (omega arith)
+
+crcBits-lt : (s x k : ℕ) → s < 2 ^ 16 → crcBits s x k < 2 ^ 16
+unfolding crcBits
+crcBits-lt s x zero h = h
+crcBits-lt s x (suc k) h = crcBit-lt _ _
+
+crcFrom-lt : (xs : List ℕ) (s : ℕ) → s < 2 ^ 16 → crcFrom s xs < 2 ^ 16
+unfolding crcFrom
+crcFrom-lt [] s h = h
+crcFrom-lt (x ∷ xs) s h = crcFrom-lt xs (crcBits s x 8) (crcBits-lt s x 8 h)
+
+pub crc-lt : (xs : List ℕ) → crc xs < 2 ^ 16
+unfolding crc
+crc-lt xs = crcFrom-lt xs crcStart (lit< tt)

@@ -1,0 +1,67 @@
+-- Laws of a side's stream and of the cells from a place on: how many there are, and each of them.
+-- Assumes nothing.
+use mathlib.Core.List.{List}
+use mathlib.Core.Path.{_≡_, _∙_}
+use Prim.Native.Nat.{ℕ, _+_, _-_, _*_, _/_, _^_, _≤_, _<_}
+use native.Mathlib.Nat.{zero-div, zero-mod, mod-lt, zero-lt-suc, mul-le-mul-left}
+use native.Mathlib.Omega.{arith}
+use lib.ListN.{length, getD, length-drop}
+use lib.Seq.{getD-drop}
+use Rattle.laws.specs.Tab.{tab-length, tab-in, tab-out, tab-below, getD-past}
+use Rattle.cells.specs.declared.Side.{Side}
+use Rattle.cells.specs.Stream.{bytePlace, cellAt, stream, from}
+
+module _ (part : List ℕ) (s : Side) where
+  pub stream-length : length (stream part s) ≡ s .cells
+  unfolding stream
+  stream-length = tab-length (cellAt part s) (s .cells)
+
+  pub stream-in : (i : ℕ) → i < s .cells → getD (stream part s) i 0 ≡ cellAt part s i
+  unfolding stream
+  stream-in i h = tab-in (cellAt part s) (s .cells) i h
+
+  pub stream-out : (i : ℕ) → s .cells ≤ i → getD (stream part s) i 0 ≡ 0
+  unfolding stream
+  stream-out i h = tab-out (cellAt part s) (s .cells) i h
+
+  -- a place whose byte the part does not have
+  pub stream-past : (i : ℕ) → i < s .cells → length part ≤ bytePlace s (i / 8) → getD (stream part s) i 0 ≡ 0
+  unfolding cellAt
+  stream-past i h l = stream-in i h ∙ rw (getD-past part (bytePlace s (i / 8)) l, zero-div, zero-mod)
+
+  cellAt-bit : (i : ℕ) → cellAt part s i < 2
+  unfolding cellAt
+  cellAt-bit i = mod-lt _ (zero-lt-suc 1)
+
+  pub stream-bit : (i : ℕ) → getD (stream part s) i 0 < 2
+  unfolding stream
+  stream-bit i = tab-below (cellAt part s) 1 cellAt-bit (s .cells) i
+
+module _ (c : List ℕ) (i : ℕ) where
+  pub from-length : length (from c i) ≡ length c - i
+  unfolding from
+  from-length = length-drop i c
+
+  pub from-at : (k : ℕ) → getD (from c i) k 0 ≡ getD c (i + k) 0
+  unfolding from
+  from-at k = getD-drop i c k 0
+
+  pub from-past : (k : ℕ) → length (from c i) ≤ k → getD (from c i) k 0 ≡ 0
+  from-past k h = getD-past (from c i) k h
+
+  pub from-bit : ((j : ℕ) → getD c j 0 < 2) → (k : ℕ) → getD (from c i) k 0 < 2
+  from-bit bit k = rw (from-at k) (bit (i + k))
+
+-- the cells from a place on of a side
+module _ (part : List ℕ) (s : Side) (i : ℕ) where
+  pub rest-length : length (from (stream part s) i) ≡ s .cells - i
+  rest-length = rw (from-length (stream part s) i, stream-length part s)
+
+  pub rest-bit : (k : ℕ) → getD (from (stream part s) i) k 0 < 2
+  rest-bit k = from-bit (stream part s) i (stream-bit part s) k
+
+-- a product of factors of 32 and of 21 bits
+pub product-fits : (a b : ℕ) → a < 2 ^ 32 → b < 2 ^ 21 → a * b < 2 ^ 53
+product-fits a b ha hb =
+    let x : a * b ≤ a * 2097151 = mul-le-mul-left a (omega arith) in
+    omega arith

@@ -1,0 +1,127 @@
+-- Laws of a written row: its cells, the sync bytes that stand in it, and what is read of it.
+-- Assumes nothing.
+use mathlib.Core.Path.{_≡_, refl, sym, _∙_}
+use mathlib.Core.Bool.{Bool, true, false}
+use Prim.Native.Nat.{ℕ, zero, suc, _+_, _-_, _*_, _/_, _%_, _^_, _≤_, _<_}
+use native.Mathlib.Nat.{one-mul, zero-add, div-one}
+use native.Mathlib.Omega.{arith}
+use lib.Dec.{eqb, lit≤}
+use lib.ListN.{length, getD}
+use borrow.Author.Tests.{ne-eqb, eqb-true, eqb-false}
+use Rattle.laws.specs.Tab.{tab, tab-length, tab-in, tab-below}
+use Rattle.cells.specs.Stream.{number, dataByte}
+use Rattle.cells.specs.Mfm.{bitOf, clock, before, mfmCell}
+use Rattle.cells.specs.Sync.{syncWord, syncAt}
+use Rattle.cells.specs.Written.{byteOf, leftOut, itemCell, bitBefore, writtenCell, written}
+use Rattle.cells.specs.declared.Item.{Item}
+use Rattle.cells.specs.declared.Item.the-variants.{Plain, Sync, Index}
+use Rattle.cells.specs.Laws.Number.{number-same, number-digits}
+use Rattle.cells.specs.Laws.Mfm.{itemCell-bit}
+use Rattle.cells.specs.Laws.Sync.{sync-all}
+
+-- ---- the cells of an item
+module _ (items : ℕ → Item) (q : ℕ) where
+  cell-at : (j : ℕ) → j < 16 → writtenCell items (16 * q + j) ≡ itemCell (bitBefore items q) (items q) j
+  unfolding writtenCell
+  cell-at j h =
+      let a : (16 * q + j) / 16 ≡ q = omega arith in
+      let b : (16 * q + j) % 16 ≡ j = omega arith in
+      rw (a, b)
+
+  -- the clock that is left out stands at an even cell
+  left-even : (a : Item) (k : ℕ) → 2 * k + 1 ≡ leftOut a → ⊥
+  left-even (Plain x) k e = omega arith
+  left-even Sync k e = omega arith
+  left-even Index k e = omega arith
+
+  pub data-cell : (k : ℕ) → k < 8 → writtenCell items (16 * q + (2 * k + 1)) ≡ bitOf (byteOf (items q)) k
+  unfolding itemCell mfmCell
+  data-cell k h =
+      let a : (2 * k + 1) % 2 ≡ 1 = omega arith in
+      let b : (2 * k + 1) / 2 ≡ k = omega arith in
+      cell-at (2 * k + 1) (omega arith) ∙ rw (ne-eqb _ _ (left-even (items q) k), a, b)
+
+  pub clock-cell : (k : ℕ) → k < 8 → (2 * k ≡ leftOut (items q) → ⊥)
+      → writtenCell items (16 * q + 2 * k) ≡ clock (before (bitBefore items q) (byteOf (items q)) k) (bitOf (byteOf (items q)) k)
+  unfolding itemCell mfmCell
+  clock-cell k h n =
+      let a : (2 * k) % 2 ≡ 0 = omega arith in
+      let b : (2 * k) / 2 ≡ k = omega arith in
+      cell-at (2 * k) (omega arith) ∙ rw (ne-eqb _ _ n, a, b)
+
+-- the data cell before a clock cell
+before-cell : (items : ℕ → Item) (q k l : ℕ) → k < 8 → l + 1 ≡ 16 * q + 2 * k
+    → writtenCell items l ≡ before (bitBefore items q) (byteOf (items q)) k
+unfolding before bitBefore
+before-cell items zero zero l h e = absurd (omega arith)
+before-cell items (suc q) zero l h e = let a : l ≡ 16 * q + (2 * 7 + 1) = omega arith in rw a (data-cell items q 7 (omega arith))
+before-cell items q (suc k) l h e = let a : l ≡ 16 * q + (2 * k + 1) = omega arith in rw a (data-cell items q k (omega arith))
+
+clock-zero : (a b : ℕ) → a ≡ 0 → b ≡ 0 → clock a b ≡ 0 → ⊥
+unfolding clock
+clock-zero a b ea eb e = let z : _≡_ {A = ℕ} 1 0 = rw (ea, eb) at e in omega arith
+
+-- three cells 0 with a clock in the middle: that clock is left out
+pub left-out : (items : ℕ → Item) (l : ℕ) → l % 2 ≡ 1
+    → writtenCell items l ≡ 0 → writtenCell items (l + 1) ≡ 0 → writtenCell items (l + 2) ≡ 0
+    → (l + 1) % 16 ≡ leftOut (items ((l + 1) / 16))
+left-out items l odd e₀ e₁ e₂ = go (eqb ((l + 1) % 16) (leftOut (items ((l + 1) / 16)))) refl
+  where
+    q : ℕ
+    q = (l + 1) / 16
+
+    k : ℕ
+    k = (l + 1) % 16 / 2
+
+    go : (t : Bool) → eqb ((l + 1) % 16) (leftOut (items ((l + 1) / 16))) ≡ t → (l + 1) % 16 ≡ leftOut (items ((l + 1) / 16))
+    go true e = eqb-true _ _ e
+    go false e =
+        let m : l + 1 ≡ 16 * q + 2 * k = omega arith in
+        let n : l + 2 ≡ 16 * q + (2 * k + 1) = omega arith in
+        let r : 2 * k ≡ (l + 1) % 16 = omega arith in
+        absurd
+        (clock-zero _ _ (sym (before-cell items q k l (omega arith) m) ∙ e₀)
+        (sym (data-cell items q k (omega arith)) ∙ rw n at e₂)
+        (sym (clock-cell items q k (omega arith) (λ s. eqb-false _ _ e (sym r ∙ s))) ∙ rw m at e₁))
+
+writtenCell-bit : (items : ℕ → Item) (m : ℕ) → writtenCell items m < 2
+unfolding writtenCell
+writtenCell-bit items m = itemCell-bit _ _ _
+
+pub written-bit : (items : ℕ → Item) (n i : ℕ) → getD (written items n) i 0 < 2
+unfolding written
+written-bit items n i = tab-below (writtenCell items) 1 (writtenCell-bit items) (16 * n) i
+
+pub written-length : (items : ℕ → Item) (n : ℕ) → length (written items n) ≡ 16 * n
+unfolding written
+written-length items n = tab-length (writtenCell items) (16 * n)
+
+-- ---- what was written is read
+
+-- a sync item has the cells of a sync byte, whatever bit it follows
+sync-cells : (p : ℕ) → number (tab (itemCell p Sync) 16) 1 0 16 ≡ syncWord
+unfolding number tab itemCell mfmCell before clock bitOf
+sync-cells p = refl
+
+module _ (items : ℕ → Item) (n q : ℕ) (h : q < n) where
+  written-at : (j : ℕ) → j < 16 → getD (written items n) (16 * q + j) 0 ≡ itemCell (bitBefore items q) (items q) j
+  unfolding written
+  written-at j l = tab-in (writtenCell items) (16 * n) (16 * q + j) (omega arith) ∙ cell-at items q j l
+
+  pub byte-at : byteOf (items q) < 256 → dataByte (written items n) (16 * q) ≡ byteOf (items q)
+  unfolding dataByte bitOf written
+  byte-at hx = number-digits (written items n) 2 (16 * q + 1) (byteOf (items q)) 8 hx digit 8 (lit≤ tt) ∙ div-one _
+    where
+      digit : (k : ℕ) → k < 8 → getD (written items n) (16 * q + 1 + 2 * k) 0 ≡ byteOf (items q) / 2 ^ (8 - (k + 1)) % 2
+      digit k l =
+          let a : 16 * q + 1 + 2 * k ≡ 16 * q + (2 * k + 1) = omega arith in
+          let b : 8 - (k + 1) ≡ 7 - k = omega arith in
+          rw (a, b) (tab-in (writtenCell items) (16 * n) (16 * q + (2 * k + 1)) (omega arith) ∙ data-cell items q k l)
+
+  pub sync-here : items q ≡ Sync → syncAt (written items n) (16 * q) ≡ true
+  sync-here e =
+      sync-all (written items n) (16 * q) (rw (written-length items n) (omega arith))
+      (number-same (written items n) (tab (itemCell (bitBefore items q) Sync) 16) 1 (16 * q) 0 16 each ∙ sync-cells (bitBefore items q))
+    where
+      each : (k : ℕ) → k < 16 → getD (written items n) (16 * q + 1 * k) 0 ≡ getD (tab (itemCell (bitBefore items q) Sync) 16) (0 + 1 * k) 0
+      each k l = rw (one-mul, zero-add, tab-in (itemCell (bitBefore items q) Sync) 16 k l, ← e) (written-at k l)

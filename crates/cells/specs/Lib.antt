@@ -1,0 +1,8 @@
+-- The definitions, in the order of document 01; then what is promised of them alone; then their laws.
+pub mod Stream
+pub mod Mfm
+pub mod Sync
+pub mod Crc
+pub mod Written
+pub mod Theorems
+pub mod Laws

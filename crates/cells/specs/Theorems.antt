@@ -1,0 +1,71 @@
+-- What is promised of the cell definitions alone: what is written is read, and three sync bytes in a row stand only where they were written.
+-- Assumes nothing.
+use mathlib.Core.List.{[], _∷_}
+use mathlib.Core.Path.{_≡_, refl, sym, ap, _∙_}
+use mathlib.Core.Bool.{true}
+use Prim.Native.Nat.{ℕ, _*_, _/_, _<_}
+use native.Mathlib.Nat.{add-zero}
+use Rattle.laws.specs.Tab.{tab}
+use Rattle.cells.specs.Stream.{bytePlace, cellAt, stream, hfeSide, from, number, word, dataByte, packedBits, packed}
+use Rattle.cells.specs.Mfm.{bitOf, clock, before, mfmCell, encoded}
+use Rattle.cells.specs.Sync.{syncWord, syncAt, threeSync}
+use Rattle.cells.specs.Crc.{crcBit, crcBits, crcFrom, crc}
+use Rattle.cells.specs.Written.{byteOf, itemCell, itemWord, written}
+use Rattle.cells.specs.declared.Item.{Item}
+use Rattle.cells.specs.declared.Item.the-variants.{Sync, Index}
+use Rattle.cells.specs.Laws.Number.{byte-from}
+use Rattle.cells.specs.Laws.Sync.{sync-from, three-first, three-second, three-third}
+use Rattle.cells.specs.Laws.Written.{byte-at, sync-here}
+use Rattle.cells.specs.Laws.Triple.{Triple, triple-at}
+
+-- any row of n items
+module _ (items : ℕ → Item) (n : ℕ) where
+  -- byte-back: the byte that was written at item q is read there
+  pub byte-back : (q : ℕ) → q < n → byteOf (items q) < 256 → dataByte (from (written items n) (16 * q)) 0 ≡ byteOf (items q)
+  byte-back q h hx = byte-from (written items n) (16 * q) 0 ∙ ap (dataByte (written items n)) (add-zero (16 * q)) ∙ byte-at items n q h hx
+
+  -- sync-back: a sync mark that was written is found there
+  pub sync-back : (q : ℕ) → q < n → items q ≡ Sync → syncAt (from (written items n) (16 * q)) 0 ≡ true
+  sync-back q h e = sync-from (written items n) (16 * q) 0 ∙ ap (syncAt (written items n)) (add-zero (16 * q)) ∙ sync-here items n q h e
+
+  -- triple-only: where three sync bytes are found, at any cell place of either parity, three sync marks were written
+  pub triple-only : (i : ℕ) → threeSync (from (written items n) i) ≡ true → (i ≡ 16 * (i / 16)) × Triple items (i / 16)
+  triple-only i t =
+      triple-at items n i
+      (ap (syncAt (written items n)) (sym (add-zero i)) ∙ sym (sync-from (written items n) i 0) ∙ three-first (from (written items n) i) t)
+      (sym (sync-from (written items n) i 16) ∙ three-second (from (written items n) i) t)
+      (sym (sync-from (written items n) i 32) ∙ three-third (from (written items n) i) t)
+
+-- ---- values to check, by computation
+
+-- the CRC of a header
+pub header-crc : crc (0xA1 ∷ 0xA1 ∷ 0xA1 ∷ 0xFE ∷ 0 ∷ 0 ∷ 1 ∷ 2 ∷ []) ≡ 0xCA6F
+unfolding crc crcFrom crcBits crcBit
+header-crc = refl
+
+-- 4E after a 0, and as it is stored
+pub gap-cells : encoded 0 0x4E ≡ 0x9254
+unfolding encoded word number tab mfmCell before clock bitOf
+gap-cells = refl
+
+pub gap-stored : tab (packed (mfmCell 0 0x4E)) 2 ≡ 0x49 ∷ 0x2A ∷ []
+unfolding tab packed packedBits mfmCell before clock bitOf
+gap-stored = refl
+
+-- the marks, whatever bit they follow, and the sync mark as it is stored
+pub sync-cells : (p : ℕ) → itemWord p Sync ≡ syncWord
+unfolding itemWord word number tab itemCell mfmCell before clock bitOf
+sync-cells p = refl
+
+pub sync-stored : (p : ℕ) → tab (packed (itemCell p Sync)) 2 ≡ 0x22 ∷ 0x91 ∷ []
+unfolding tab packed packedBits itemCell mfmCell before clock bitOf
+sync-stored p = refl
+
+pub index-cells : (p : ℕ) → itemWord p Index ≡ 0x5224
+unfolding itemWord word number tab itemCell mfmCell before clock bitOf
+index-cells p = refl
+
+-- a stored sync mark is read as one
+pub sync-read : word (stream (0x22 ∷ 0x91 ∷ []) (hfeSide 0 4)) 0 ≡ syncWord
+unfolding word number stream tab cellAt bytePlace
+sync-read = refl

@@ -1,0 +1,44 @@
+-- A written row of bytes and marks, and its cells. Document 01, "Cells and sectors", first paragraph and the written side.
+-- Assumes nothing: these are definitions.
+use mathlib.Core.List.{List}
+use mathlib.Core.Bool.{cond}
+use Prim.Native.Nat.{ℕ, zero, suc, _*_, _/_, _%_}
+use lib.Dec.{eqb}
+use Rattle.laws.specs.Tab.{tab}
+use Rattle.cells.specs.Stream.{word}
+use Rattle.cells.specs.Mfm.{bitOf, mfmCell}
+use Rattle.cells.specs.declared.Item.{Item}
+use Rattle.cells.specs.declared.Item.the-variants.{Plain, Sync, Index}
+
+-- the byte that an item spells: the marks are A1 and C2
+abbrev pub byteOf : Item → ℕ
+byteOf (Plain x) = x
+byteOf Sync = 0xA1
+byteOf Index = 0xC2
+
+-- which of an item's 16 cells is a clock that is left out; 16, so none, for a plain byte
+abbrev pub leftOut : Item → ℕ
+leftOut (Plain x) = 16
+leftOut Sync = 10
+leftOut Index = 8
+
+-- cell j of an item that follows the bit p
+unfoldable pub itemCell : ℕ → Item → ℕ → ℕ
+itemCell p a j = cond (eqb j (leftOut a)) 0 (mfmCell p (byteOf a) j)
+
+-- an item's 16 cells as a number, first cell highest
+unfoldable pub itemWord : ℕ → Item → ℕ
+itemWord p a = word (tab (itemCell p a) 16) 0
+
+-- the bit before item q of a row; before the first it counts as 0
+unfoldable pub bitBefore : (ℕ → Item) → ℕ → ℕ
+bitBefore items zero = 0
+bitBefore items (suc q) = bitOf (byteOf (items q)) 7
+
+-- cell m of a row of items
+unfoldable pub writtenCell : (ℕ → Item) → ℕ → ℕ
+writtenCell items m = itemCell (bitBefore items (m / 16)) (items (m / 16)) (m % 16)
+
+-- the cells of a row of n items
+unfoldable pub written : (ℕ → Item) → ℕ → List ℕ
+written items n = tab (writtenCell items) (16 * n)

@@ -1,0 +1,96 @@
+// The cells of a byte or a mark as it is written.
+ghost use mathlib.Core.Path.{_≡_};
+ghost use Prim.Native.Nat.{_<_};
+ghost use Rattle.cells.specs.Mfm.{bitOf, before, mfmCell, encoded};
+ghost use Rattle.cells.specs.Mfm as Mfm;
+ghost use Rattle.cells.specs.Written.{byteOf, leftOut, itemCell, itemWord};
+use crate::Item;
+
+// Bit k of a byte, highest first.
+fn bit_of(x: u8, k: usize) -> u8
+    requires { ⌜ k < 8 ⌝ }
+    ensures { λ r. ⌜ r ≡ bitOf x k ⌝ }
+{
+    (x >> (7 - k)) % 2
+}
+
+// The clock before the bit b that follows the bit a.
+fn clock(a: u8, b: u8) -> u8
+    ensures { λ r. ⌜ r ≡ Mfm.clock a b ⌝ }
+{
+    if (b == 0) & (a == 0) { 1 } else { 0 }
+}
+
+// The bit before bit k of the byte x that follows the bit p.
+fn bit_before(p: u8, x: u8, k: usize) -> u8
+    requires { ⌜ k < 8 ⌝ }
+    ensures { λ r. ⌜ r ≡ before p x k ⌝ }
+{
+    if k == 0 { p } else { bit_of(x, k - 1) }
+}
+
+// Cell j of the byte x that follows the bit p.
+fn mfm_cell(p: u8, x: u8, j: usize) -> u8
+    requires { ⌜ j < 16 ⌝ }
+    ensures { λ r. ⌜ r ≡ mfmCell p x j ⌝ }
+{
+    let k = j / 2;
+    let b = bit_of(x, k);
+    if j % 2 == 0 {
+        clock(bit_before(p, x, k), b)
+    } else {
+        b
+    }
+}
+
+// The byte that an item spells.
+fn byte_of(item: Item) -> u8
+    ensures { λ r. ⌜ r ≡ byteOf item ⌝ }
+{
+    match item {
+        Item::Plain(x) => x,
+        Item::Sync => 0xA1,
+        Item::Index => 0xC2,
+    }
+}
+
+// The clock cell that an item leaves out, 16 where there is none.
+fn left_out(item: Item) -> usize
+    ensures { λ r. ⌜ r ≡ leftOut item ⌝ }
+{
+    match item {
+        Item::Plain(_) => 16,
+        Item::Sync => 10,
+        Item::Index => 8,
+    }
+}
+
+// Cell j of an item that follows the bit p.
+fn item_cell(p: u8, item: Item, j: usize) -> u8
+    requires { ⌜ j < 16 ⌝ }
+    ensures { λ r. ⌜ r ≡ itemCell p item j ⌝ }
+{
+    if j == left_out(item) {
+        0
+    } else {
+        mfm_cell(p, byte_of(item), j)
+    }
+}
+
+// The 16 cells of an item that follows the bit p, first cell highest.
+pub fn encode_item(p: u8, item: Item) -> u16
+    ensures { λ r. ⌜ r ≡ itemWord p item ⌝ }
+{
+    let mut v: u16 = 0;
+    for j in 0..16usize {
+        v = v * 2 + item_cell(p, item, j) as u16;
+    }
+    v
+}
+
+// The 16 cells of the byte x that follows the bit p, first cell highest.
+pub fn encode_byte(p: u8, x: u8) -> u16
+    ensures { λ r. ⌜ r ≡ encoded p x ⌝ }
+{
+    encode_item(p, Item::Plain(x))
+}

@@ -1,0 +1,64 @@
+-- `fields::fill` meets its contract: the first i bytes are written.
+-- Assumes nothing.
+use mathlib.Core.Path.{_≡_, refl}
+use Prim.Native.Nat.{ℕ, _-_, _≤_, min}
+use native.Mathlib.Omega.{arith}
+use lib.ListN.{length, length-set}
+use borrow.Author.Needs.{needs}
+use Rattle.laws.specs.Overlay.{overlay-done, overlay, overlay-none, overlay-more}
+use Rattle.fields.proofs.bytes.fill.Statement.{statement}
+use Rattle.fields.proofs.bytes.fill.Tie as tie
+
+abbrev Inv-loop : tie.InvT-loop
+Inv-loop dst₀ at n v m i₀ dst i = (i ≤ m) × (m ≡ min (length dst₀ - at) n) × (length dst ≡ length dst₀) × (dst ≡ overlay dst₀ at i (λ (k : ℕ). v))
+
+abbrev μ-loop : tie.MeasureT-loop
+μ-loop dst₀ at n v m i₀ dst i = m - i
+
+room-requires : tie.Need-room-requires Inv-loop μ-loop
+room-requires c κs = search needs
+
+loop-holds : tie.Need-loop-holds Inv-loop μ-loop
+loop-holds c = (omega arith, c .room .ensures, refl, overlay-none _ _ _)
+
+add-dst : tie.Need-add-dst Inv-loop μ-loop
+add-dst c = omega arith
+
+slice-write-dst : tie.Need-slice-write-dst Inv-loop μ-loop
+slice-write-dst c = omega arith
+
+add-i : tie.Need-add-i Inv-loop μ-loop
+add-i c = search needs
+
+loop-less : tie.Need-loop-less Inv-loop μ-loop
+loop-less c = search needs
+
+loop-again : tie.Need-loop-again Inv-loop μ-loop
+loop-again c = (
+  omega arith,
+  c .before .loop .inv .1,
+  simp length-set (c .before .loop .inv .2),
+  overlay-more _ _ _ _ _ _ (omega arith) (c .before .loop .inv .3) refl,
+)
+
+same-length : tie.Need-same-length Inv-loop μ-loop
+same-length c = search needs
+
+returns : tie.Need-returns Inv-loop μ-loop
+returns c = overlay-done _ _ _ _ _ _ _ (omega arith) (c .before .loop .inv .1) (c .before .loop .inv .3)
+
+pub fill-spec : {M : Type 1} → statement M
+fill-spec =
+    tie.close
+    (tie.spec
+    Inv-loop
+    μ-loop
+    room-requires
+    loop-holds
+    add-dst
+    slice-write-dst
+    add-i
+    loop-less
+    loop-again
+    same-length
+    returns)

@@ -1,0 +1,45 @@
+-- `fields::high2` meets its contract.
+-- Assumes nothing.
+use native.Mathlib.Omega.{arith}
+use borrow.Author.Needs.{needs}
+use Rattle.laws.specs.Words.{highFirst}
+use Rattle.fields.proofs.words.high2.Statement.{statement}
+use Rattle.fields.proofs.words.high2.Tie as tie
+
+byte-requires : tie.Need-byte-requires
+byte-requires c κs = search needs
+
+wide-requires : tie.Need-wide-requires
+wide-requires c κs = search needs
+
+mul-result : tie.Need-mul-result
+mul-result c = search needs
+
+byte-requires-2 : tie.Need-byte-requires-2
+byte-requires-2 c κs = search needs
+
+wide-requires-2 : tie.Need-wide-requires-2
+wide-requires-2 c κs = search needs
+
+add-result : tie.Need-add-result
+add-result c = search needs
+
+cast-result : tie.Need-cast-result
+cast-result c = search needs
+
+returns : tie.Need-returns
+unfolding highFirst
+returns c = omega arith
+
+pub high2-spec : {M : Type 1} → statement M
+high2-spec =
+    tie.close
+    (tie.spec
+    byte-requires
+    wide-requires
+    mul-result
+    byte-requires-2
+    wide-requires-2
+    add-result
+    cast-result
+    returns)

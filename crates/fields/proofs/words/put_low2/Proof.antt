@@ -1,0 +1,31 @@
+-- `fields::put_low2` meets its contract.
+-- Assumes nothing.
+use mathlib.Core.Path.{ap, _∙_}
+use borrow.Author.Needs.{needs}
+use Rattle.laws.specs.Overlay.{put, put-tab}
+use Rattle.laws.specs.Words.{lowByte, low-row2}
+use Rattle.fields.proofs.words.put_low2.Statement.{statement}
+use Rattle.fields.proofs.words.put_low2.Tie as tie
+
+cast-t6 : tie.Need-cast-t6
+cast-t6 c = search needs
+
+cast-t9 : tie.Need-cast-t9
+cast-t9 c = search needs
+
+slice-aggregate-copy-into : tie.Need-slice-aggregate-copy-into
+slice-aggregate-copy-into c = search needs
+
+copy-into-requires : tie.Need-copy-into-requires
+copy-into-requires c κs = search needs
+
+same-length : tie.Need-same-length
+same-length c = search needs
+
+returns : tie.Need-returns
+returns c = let a = c .before .before .before .before .before .before .args in c .before .before .copy-into .ensures ∙ ap (put (a .s .now) (a .at)) (low-row2 (a .v)) ∙ put-tab (a .s .now) (a .at) (lowByte (a .v)) 2
+
+pub put-low2-spec : {M : Type 1} → statement M
+put-low2-spec =
+    tie.close
+    (tie.spec cast-t6 cast-t9 slice-aggregate-copy-into copy-into-requires same-length returns)

@@ -1,0 +1,6 @@
+pub mod Order
+pub mod Truth
+pub mod Tab
+pub mod Overlay
+pub mod Words
+pub mod Same

@@ -1,0 +1,76 @@
+//! The header of an HFE image.
+//!
+//! Rules: document 01, "The HFE image", first paragraph.
+
+use crate::cells::UNIT_LEN;
+use crate::geometry::{SIDES, TRACKS};
+use crate::reply::Refusal;
+
+/// Fewest bytes of an HFE image that is read.
+pub const SHORTEST: usize = 1024;
+
+/// The signature of versions 1 and 2.
+pub const SIGNATURE: [u8; 8] = *b"HXCPICFE";
+
+/// Thousands of bits a second.
+pub const BIT_RATE: u16 = 250;
+
+/// What unused bytes hold, and switches that are off.
+pub const UNUSED: u8 = 0xFF;
+
+/// Offset of the track table's place in the header.
+const TABLE_FIELD: usize = 18;
+
+/// The two little-endian bytes at `offset`.
+pub fn word_at(hfe: &[u8], offset: usize) -> usize {
+    usize::from(u16::from_le_bytes([hfe[offset], hfe[offset + 1]]))
+}
+
+/// Where the track table begins.
+pub fn table_start(hfe: &[u8]) -> usize {
+    UNIT_LEN * word_at(hfe, TABLE_FIELD)
+}
+
+/// Judges the header fields in order; refusal 2 at the first wrong one.
+///
+/// The byte after a switch (23 after 22, 25 after 24) is judged only where
+/// the switch is 00, which asks for another encoding.
+pub fn judge_header(hfe: &[u8]) -> Result<(), Refusal> {
+    let is_switch = |byte: u8| byte == 0x00 || byte == 0xFF;
+    let fields = [
+        (0, hfe[0..8] == SIGNATURE),
+        (8, hfe[8] == 0),
+        (9, usize::from(hfe[9]) >= TRACKS),
+        (10, usize::from(hfe[10]) == SIDES),
+        (11, hfe[11] == 0),
+        (12, word_at(hfe, 12) == usize::from(BIT_RATE)),
+        (TABLE_FIELD, word_at(hfe, TABLE_FIELD) >= 1),
+        (22, is_switch(hfe[22])),
+        (23, hfe[22] != 0x00 || hfe[23] == 0),
+        (24, is_switch(hfe[24])),
+        (25, hfe[24] != 0x00 || hfe[25] == 0),
+    ];
+    for (offset, good) in fields {
+        if !good {
+            return Err(Refusal::HfeHeader(offset));
+        }
+    }
+    Ok(())
+}
+
+/// The header of a written image, one unit.
+pub fn written_header() -> [u8; UNIT_LEN] {
+    let mut header = [UNUSED; UNIT_LEN];
+    header[0..8].copy_from_slice(&SIGNATURE);
+    header[8] = 0; // revision
+    header[9] = TRACKS as u8;
+    header[10] = SIDES as u8;
+    header[11] = 0; // encoding
+    header[12..14].copy_from_slice(&BIT_RATE.to_le_bytes());
+    header[14..16].copy_from_slice(&300u16.to_le_bytes()); // turns a minute
+    header[16] = 0x07; // interface mode
+    header[TABLE_FIELD..TABLE_FIELD + 2].copy_from_slice(&1u16.to_le_bytes());
+    header[20] = 0xFF; // write allowed
+    header[21] = 0xFF; // single step
+    header
+}

@@ -1,0 +1,84 @@
+//! What calls answer: a number and three places.
+//!
+//! Rules: document 01, "Numbered replies".
+
+use crate::header::SectorId;
+
+/// Number and places of an answer; the number 0 means done.
+#[derive(Clone, Copy, Debug, PartialEq, Eq)]
+pub struct Reply {
+    /// 0, or the refusal's number.
+    pub number: usize,
+    /// First place.
+    pub first: usize,
+    /// Second place.
+    pub second: usize,
+    /// Third place.
+    pub third: usize,
+}
+
+impl Reply {
+    /// Done, with nothing to tell.
+    pub const DONE: Reply = Reply::new(0, [0; 3]);
+
+    /// An answer from its parts.
+    pub const fn new(number: usize, places: [usize; 3]) -> Reply {
+        Reply {
+            number,
+            first: places[0],
+            second: places[1],
+            third: places[2],
+        }
+    }
+
+    /// Done, with a count or a place to tell.
+    pub const fn done_with(first: usize) -> Reply {
+        Reply::new(0, [first, 0, 0])
+    }
+
+    /// Number and places in order.
+    pub fn parts(&self) -> [usize; 4] {
+        [self.number, self.first, self.second, self.third]
+    }
+}
+
+/// Which lent slice has a wrong length.
+#[derive(Clone, Copy, Debug, PartialEq, Eq)]
+pub enum Lent {
+    /// The HFE image.
+    Hfe,
+    /// The block image or the first track.
+    Blocks,
+}
+
+/// Why a call is refused.
+#[derive(Clone, Copy, Debug, PartialEq, Eq)]
+pub enum Refusal {
+    /// A lent slice has a wrong length.
+    Size(Lent),
+    /// The field at this offset of the HFE header is wrong.
+    HfeHeader(usize),
+    /// The table entry of this track is not good.
+    TableEntry(usize),
+    /// The sector cannot be read; the number is 4 to 7.
+    Sector(u8, SectorId),
+    /// Block, sector or name out of range.
+    Argument,
+}
+
+impl Refusal {
+    /// The number and the places that the refusal names.
+    pub fn reply(self) -> Reply {
+        match self {
+            Refusal::Size(Lent::Hfe) => Reply::new(1, [1, 0, 0]),
+            Refusal::Size(Lent::Blocks) => Reply::new(1, [2, 0, 0]),
+            Refusal::HfeHeader(offset) => Reply::new(2, [offset, 0, 0]),
+            Refusal::TableEntry(track) => Reply::new(3, [track, 0, 0]),
+            Refusal::Sector(number, id) => {
+                let places = [id.track, id.side, id.r].map(usize::from);
+                Reply::new(number.into(), places)
+            }
+            Refusal::Argument => Reply::new(12, [0; 3]),
+        }
+    }
+}

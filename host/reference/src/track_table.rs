@@ -1,0 +1,52 @@
+//! The track table of an HFE image.
+//!
+//! Rules: document 01, "The HFE image", first paragraph. Tracks may overlap
+//! one another, the header and the table.
+
+use crate::cells::UNIT_LEN;
+use crate::geometry::TRACKS;
+use crate::hfe::{table_start, word_at};
+use crate::reply::Refusal;
+
+/// Bytes of a table entry.
+pub const ENTRY_LEN: usize = 4;
+
+/// A good table entry.
+#[derive(Clone, Copy, Debug, PartialEq, Eq)]
+pub struct Track {
+    /// Where the track's units begin in the HFE image.
+    pub start: usize,
+    /// Bytes of both sides together.
+    pub len: usize,
+}
+
+impl Track {
+    /// Where the last unit of the track ends.
+    pub fn end(&self) -> usize {
+        self.start + UNIT_LEN * self.len.div_ceil(UNIT_LEN)
+    }
+}
+
+/// The table entry of a track, if it is good.
+pub fn good_entry(hfe: &[u8], track: usize) -> Option<Track> {
+    let entry = table_start(hfe) + ENTRY_LEN * track;
+    if entry + ENTRY_LEN > hfe.len() {
+        return None;
+    }
+    let found = Track {
+        start: UNIT_LEN * word_at(hfe, entry),
+        len: word_at(hfe, entry + 2),
+    };
+    let good = found.len != 0 && found.len % 2 == 0 && found.end() <= hfe.len();
+    good.then_some(found)
+}
+
+/// The entries of tracks 0 to 79; refusal 3 at the first that is not good.
+pub fn judge_table(hfe: &[u8]) -> Result<Vec<Track>, Refusal> {
+    let mut tracks = Vec::new();
+    for track in 0..TRACKS {
+        let entry = good_entry(hfe, track);
+        tracks.push(entry.ok_or(Refusal::TableEntry(track))?);
+    }
+    Ok(tracks)
+}

@@ -1,0 +1,56 @@
+//! From an HFE image to the block image.
+//!
+//! Rules: document 01, "Numbered replies", 1 to 7.
+
+use crate::cells::side_cells;
+use crate::geometry::{IMAGE_LEN, SIDES};
+use crate::header::{all_headers, search, SectorId, SECTORS_PER_SIDE};
+use crate::hfe::{judge_header, SHORTEST};
+use crate::reply::{Lent, Refusal, Reply};
+use crate::sector::sector_after;
+use crate::track_table::judge_table;
+
+/// Writes the sectors of the HFE image into the block image, by track, side
+/// and R. All are judged before the first byte is written.
+pub fn unpack(hfe: &[u8], image: &mut [u8]) -> Reply {
+    match read_disk(hfe, image.len()) {
+        Ok(sectors) => {
+            image.copy_from_slice(&sectors);
+            Reply::DONE
+        }
+        Err(refusal) => refusal.reply(),
+    }
+}
+
+/// All sectors of the disk in image order, or the refusal.
+fn read_disk(hfe: &[u8], image_len: usize) -> Result<Vec<u8>, Refusal> {
+    if hfe.len() < SHORTEST {
+        return Err(Refusal::Size(Lent::Hfe));
+    }
+    if image_len != IMAGE_LEN {
+        return Err(Refusal::Size(Lent::Blocks));
+    }
+    judge_header(hfe)?;
+    let tracks = judge_table(hfe)?;
+    let mut sectors = Vec::new();
+    for (number, track) in tracks.iter().enumerate() {
+        let part = &hfe[track.start..track.end()];
+        for side in 0..SIDES {
+            let cells = side_cells(part, track.len, side);
+            sectors.extend(read_side(&cells, number as u8, side as u8)?);
+        }
+    }
+    Ok(sectors)
+}
+
+/// The nine sectors of a side in order of R, or the first one's refusal.
+fn read_side(cells: &[u8], track: u8, side: u8) -> Result<Vec<u8>, Refusal> {
+    let headers = all_headers(cells);
+    let mut sectors = Vec::new();
+    for r in 1..=SECTORS_PER_SIDE {
+        let id = SectorId { track, side, r };
+        let data = sector_after(cells, search(&headers, id));
+        sectors.extend(data.map_err(|number| Refusal::Sector(number, id))?);
+    }
+    Ok(sectors)
+}

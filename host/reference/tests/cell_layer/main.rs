@@ -1,0 +1,9 @@
+//! Tests of the cell layer, by hand-made values and streams.
+
+mod build;
+mod cells;
+mod crc;
+mod fields;
+mod headers;
+mod mfm;
+mod written;

@@ -1,0 +1,14 @@
+//! What the tests need beside the disk rules, with the standard library
+//! only: JSON, SHA-256, gzip, and bytes made from a seed.
+
+#![forbid(unsafe_code)]
+#![warn(missing_docs)]
+
+mod bits;
+pub mod gzip;
+pub mod hex;
+mod huffman;
+pub mod inflate;
+pub mod json;
+pub mod noise;
+pub mod sha256;
