@@ -4,3 +4,5 @@ pub mod Tab
 pub mod Overlay
 pub mod Words
 pub mod Same
+pub mod Below
+pub mod Lowest

@@ -1,0 +1,57 @@
+-- `Geometry::place` meets its contract: the table is the definition's, and its entries are small.
+-- Assumes nothing.
+use Prim.Native.Nat.{_%_}
+use native.Mathlib.Omega.{arith}
+use native.Mathlib.Nat.{mod-lt}
+use lib.Dec.{lit<}
+use borrow.Author.Needs.{needs}
+use Rattle.sectors.specs.Geometry.{imageSector, sidePlace}
+use Rattle.sectors.specs.Laws.Geometry.{mark-bound}
+use Rattle.sectors.proofs.Geometry.place.Statement.{statement}
+use Rattle.sectors.proofs.Geometry.place.Tie as tie
+
+array-read-mark : tie.Need-array-read-mark
+array-read-mark c = search needs
+
+cast-mark : tie.Need-cast-mark
+unfolding sidePlace
+cast-mark c = omega (arith, mark-bound (c .before .before .args .n .0 % 18) (mod-lt _ (lit< tt)))
+
+mul-place : tie.Need-mul-place
+mul-place c = search needs
+
+add-place : tie.Need-add-place
+add-place c = search needs
+
+mul-t11 : tie.Need-mul-t11
+mul-t11 c = search needs
+
+mul-t13 : tie.Need-mul-t13
+unfolding sidePlace
+mul-t13 c = omega (arith, mark-bound (c .before .before .args .n .0 % 18) (mod-lt _ (lit< tt)))
+
+add-t12 : tie.Need-add-t12
+unfolding sidePlace
+add-t12 c = omega (arith, mark-bound (c .before .before .args .n .0 % 18) (mod-lt _ (lit< tt)))
+
+add-t14 : tie.Need-add-t14
+unfolding sidePlace
+add-t14 c = omega (arith, mark-bound (c .before .before .args .n .0 % 18) (mod-lt _ (lit< tt)))
+
+returns : tie.Need-returns
+unfolding imageSector sidePlace
+returns c = search needs
+
+pub place-spec : {M : Type 1} → statement M
+place-spec =
+    tie.close
+    (tie.spec
+    array-read-mark
+    cast-mark
+    mul-place
+    add-place
+    mul-t11
+    mul-t13
+    add-t12
+    add-t14
+    returns)

@@ -1,0 +1,2 @@
+-- Laws of the definitions: what proofs cite. A reader need not read them.
+pub mod Geometry

@@ -1,0 +1,131 @@
+// The numbers of the disk kind, each once, and the place of a block's sector in the block image.
+ghost use mathlib.Core.Path.{_≡_};
+ghost use Prim.Native.Nat.{_<_};
+ghost use Rattle.sectors.specs.Geometry.{running, imageSector, runningSector, placed};
+use crate::BlockNumber;
+use crate::Geometry;
+use crate::ImageSector;
+use crate::Reply;
+use crate::RunningSector;
+
+// The side (0x80 marks side 1) and the place of each running sector of a track.
+const SIDE_PLACE: [u8; 18] = [
+    0x00,
+    0x03,
+    0x06,
+    0x80,
+    0x83,
+    0x86,
+    0x01,
+    0x04,
+    0x07,
+    0x81,
+    0x84,
+    0x87,
+    0x02,
+    0x05,
+    0x08,
+    0x82,
+    0x85,
+    0x88,
+];
+
+// The same table backward, on track 0.
+const BACKWARD: [u8; 18] = [
+    0x00,
+    0x06,
+    0x0C,
+    0x01,
+    0x07,
+    0x0D,
+    0x02,
+    0x08,
+    0x0E,
+    0x03,
+    0x09,
+    0x0F,
+    0x04,
+    0x0A,
+    0x10,
+    0x05,
+    0x0B,
+    0x11,
+];
+
+impl Geometry {
+    pub const TRACKS: usize = 80;
+
+    pub const SIDES: usize = 2;
+
+    pub const SECTORS: usize = 9;
+
+    pub const SECTOR_BYTES: usize = 512;
+
+    pub const BLOCK_SECTORS: usize = 3;
+
+    // How far a track is turned against the one before it.
+    pub const TURN: usize = 5;
+
+    pub const TRACK_SECTORS: usize = Geometry::SIDES * Geometry::SECTORS;
+
+    pub const ALL_SECTORS: usize = Geometry::TRACKS * Geometry::TRACK_SECTORS;
+
+    pub const BLOCKS: usize = Geometry::ALL_SECTORS / Geometry::BLOCK_SECTORS;
+
+    pub const IMAGE_BYTES: usize = Geometry::ALL_SECTORS * Geometry::SECTOR_BYTES;
+
+    // The running number of sector s of a block.
+    pub fn running(b: BlockNumber, s: usize) -> RunningSector
+        requires { do ⌜ (b .0 < (← ⟦Geometry::BLOCKS⟧)) × (s < (← ⟦Geometry::BLOCK_SECTORS⟧)) ⌝ }
+        ensures { λ r. ⌜ r .0 ≡ running (b .0) s ⌝ }
+    {
+        RunningSector(Geometry::BLOCK_SECTORS * b.0 + s)
+    }
+
+    // The image sector of a running sector number.
+    pub fn place(n: RunningSector) -> ImageSector
+        requires { do ⌜ n .0 < (← ⟦Geometry::ALL_SECTORS⟧) ⌝ }
+        ensures { λ r. ⌜ r .0 ≡ imageSector (n .0) ⌝ }
+    {
+        let track = n.0 / Geometry::TRACK_SECTORS;
+        let left = n.0 % Geometry::TRACK_SECTORS;
+        let mark = SIDE_PLACE[left] as usize;
+        let side = mark / 128;
+        let place = (mark % 128 + Geometry::TURN * track) % Geometry::SECTORS;
+        ImageSector(Geometry::TRACK_SECTORS * track + Geometry::SECTORS * side + place)
+    }
+
+    // The running sector number of an image sector.
+    pub fn running_of(m: ImageSector) -> RunningSector
+        requires { do ⌜ m .0 < (← ⟦Geometry::ALL_SECTORS⟧) ⌝ }
+        ensures { λ r. ⌜ r .0 ≡ runningSector (m .0) ⌝ }
+    {
+        let track = m.0 / Geometry::TRACK_SECTORS;
+        let side = m.0 % Geometry::TRACK_SECTORS / Geometry::SECTORS;
+        let place = (m.0 % Geometry::SECTORS + (Geometry::SECTORS - Geometry::TURN) * track)
+            % Geometry::SECTORS;
+        let left = BACKWARD[Geometry::SECTORS * side + place] as usize;
+        RunningSector(Geometry::TRACK_SECTORS * track + left)
+    }
+}
+
+// The image sector of a block's sector, or 12 where the block or the sector is out of range.
+pub fn place(block: usize, sector: usize) -> Reply
+    ensures { λ r. ⌜ r ≡ placed block sector ⌝ }
+{
+    if (block < Geometry::BLOCKS) & (sector < Geometry::BLOCK_SECTORS) {
+        let at = Geometry::place(Geometry::running(BlockNumber(block), sector));
+        return Reply {
+            number: 0,
+            first: at.0,
+            second: 0,
+            third: 0,
+        };
+    }
+    Reply {
+        number: 12,
+        first: 0,
+        second: 0,
+        third: 0,
+    }
+}
