@@ -2,3 +2,4 @@
 pub mod Geometry
 pub mod Search
 pub mod Hfe
+pub mod Unpacked

@@ -3,11 +3,13 @@ ghost use mathlib.Core.Path.{_≡_};
 ghost use mathlib.Core.Bool.{true};
 ghost use Prim.Native.Nat.{_+_, _<_, _≤_, _^_};
 ghost use lib.ListN.{length};
-ghost use Rattle.sectors.specs.Hfe.{flagFault, formatFault, headerFault, entryPlace, trackStart, trackLength, trackBytes, trackGood, tableFault};
+ghost use Rattle.cells.specs.Stream.{hfeSide};
+ghost use Rattle.sectors.specs.Hfe.{trackPart, flagFault, formatFault, headerFault, entryPlace, trackStart, trackLength, trackBytes, trackGood, tableFault};
 use crate::Fault;
 use crate::Geometry;
 use crate::faults::or_fault;
 use crate::faults::wrong_at;
+use cells::Side;
 
 // The unit in which table and tracks are placed.
 const UNIT: usize = 512;
@@ -104,4 +106,22 @@ pub fn table_fault(hfe: &[u8]) -> Fault
         }
     }
     Fault::Sound
+}
+
+// The part of the image that begins at the track's offset.
+pub fn track_part(hfe: &[u8], t: usize) -> &[u8]
+    requires { ⌜ (t < 80) × (tableFault (now hfe) ≡ Fault.Sound) ⌝ }
+    ensures { λ r. ⌜ now r ≡ trackPart (now (hfe .entry)) t ⌝ }
+{
+    let start = track_start(hfe, t);
+    let end = start + track_bytes(hfe, t);
+    &hfe[start..end]
+}
+
+// Where a side lies in the track's part.
+pub fn track_side(hfe: &[u8], t: usize, head: usize) -> Side
+    requires { ⌜ (t < 80) × (head < 2) ⌝ }
+    ensures { λ r. ⌜ r ≡ hfeSide head (trackLength (now (hfe .entry)) t) ⌝ }
+{
+    cells::hfe_side(head as u8, track_length(hfe, t))
 }

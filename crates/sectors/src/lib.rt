@@ -3,11 +3,15 @@ mod faults;
 mod hfe;
 mod packing;
 mod placement;
+mod replies;
 mod search;
 mod unpacking;
 mod written;
 
 pub use placement::place;
+pub use replies::done;
+pub use replies::refused;
+pub use unpacking::unpack;
 
 // A numbered reply: 0 is done, and each place that is not named is 0.
 #[repr(C)]
