@@ -6,8 +6,8 @@ use Prim.Native.Nat.{ℕ, zero, suc, _+_, _<_, _≤_}
 use native.Mathlib.Nat.{add-zero, zero-add, add-suc, suc-add, le-of-suc-le-suc, not-suc-le-zero, zero-lt-suc}
 use native.Mathlib.Numerals.{add-one}
 use native.Mathlib.Omega.{arith}
-use lib.ListN.{length, getD, List·getD-eq-default}
-use lib.Seq.{ext-getD}
+use lib.ListN.{length, getD, take, drop, length-take, length-drop, List·getD-eq-default}
+use lib.Seq.{ext-getD, getD-take, getD-drop}
 use Rattle.laws.specs.Order.{by-order}
 
 -- f i, f (i + 1), .., n of them; head and tail are bound, so that to read one place costs by the place and not by n
@@ -92,3 +92,9 @@ module _ (s : List ℕ) (i n : ℕ) where
 pub eq-window : (l s : List ℕ) (i n : ℕ) → length l ≡ n → ((k : ℕ) → k < n → getD l k 0 ≡ getD s (i + k) 0) → l ≡ window s i n
 unfolding window elementAt
 eq-window l s i n e h = eq-tab l (elementAt s i) n e h
+
+-- a part of a list that is wholly inside
+pub window-part : (s : List ℕ) (i n : ℕ) → i + n ≤ length s → take n (drop i s) ≡ window s i n
+window-part s i n h =
+    eq-window (take n (drop i s)) s i n (simp (length-take, length-drop) (omega arith))
+    (λ k l. getD-take n (drop i s) k 0 l ∙ getD-drop i s k 0)

@@ -3,3 +3,4 @@ pub mod Geometry
 pub mod Search
 pub mod Hfe
 pub mod Unpacked
+pub mod Packed

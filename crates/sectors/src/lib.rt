@@ -8,6 +8,7 @@ mod search;
 mod unpacking;
 mod written;
 
+pub use packing::pack;
 pub use placement::place;
 pub use replies::done;
 pub use replies::refused;

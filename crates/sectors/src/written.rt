@@ -1,0 +1,159 @@
+// The items of a written side.
+ghost use mathlib.Core.Path.{_≡_};
+ghost use mathlib.Core.List.{List, [], _∷_};
+ghost use Prim.Native.Nat.{ℕ, _+_, _-_, _*_, _<_, _≤_};
+ghost use lib.ListN.{length, getD};
+ghost use Rattle.cells.specs.Stream.{packed};
+ghost use Rattle.cells.specs.Written.{writtenCell, bitBefore};
+ghost use Rattle.laws.specs.Tab.{window};
+ghost use Rattle.sectors.specs.Geometry.{imageBytes};
+ghost use Rattle.sectors.specs.Packed.{fieldCrc, withCrc, headerRow, sectorItem, sectorData, imageSide};
+use crate::Geometry;
+use cells::Item;
+
+const GAP: u8 = 0x4E;
+
+// The items of one sector: sync runs, header, gap and data field.
+const SECTOR_ITEMS: usize = 658;
+
+// The running number of the first byte of sector R of a side in the block image.
+fn sector_start(t: usize, s: usize, r: usize) -> usize
+    requires { ⌜ (t < 80) × (s < 2) × (1 ≤ r) × (r ≤ 9) ⌝ }
+    ensures { λ k. ⌜ k ≡ 512 * (18 * t + 9 * s + (r - 1)) ⌝ }
+{
+    Geometry::SECTOR_BYTES * (Geometry::TRACK_SECTORS * t + Geometry::SECTORS * s + (r - 1))
+}
+
+// Byte k of a header from its mark on, with its CRC.
+fn header_byte(t: usize, s: usize, r: usize, k: usize) -> u8
+    requires { ⌜ (t < 80) × (s < 2) × (r ≤ 9) × (k < 7) ⌝ }
+    ensures { λ x. ⌜ x ≡ getD (withCrc (headerRow t s r)) k 0 ⌝ }
+{
+    let row = [0xA1, 0xA1, 0xA1, 0xFE, t as u8, s as u8, r as u8, 2];
+    if k < 5 {
+        return row[3 + k];
+    }
+    let crc = cells::crc_row(cells::START, &row);
+    if k == 5 {
+        (crc / 256) as u8
+    } else {
+        (crc % 256) as u8
+    }
+}
+
+// Byte k of a data field from its mark on, with its CRC; its 512 bytes stand in the image from `at` on.
+fn field_byte(image: &[u8], at: usize, k: usize) -> u8
+    requires { ⌜ (at + 512 ≤ length (now image)) × (k < 515) ⌝ }
+    ensures { λ x. ⌜ x ≡ getD (withCrc (0xFB ∷ window (now (image .entry)) at 512)) k 0 ⌝ }
+{
+    if k == 0 {
+        return 0xFB;
+    }
+    if k <= Geometry::SECTOR_BYTES {
+        return image[at + (k - 1)];
+    }
+    let end = at + Geometry::SECTOR_BYTES;
+    let crc = cells::crc_row(
+        cells::crc_row(cells::START, b"\xA1\xA1\xA1\xFB"),
+        &image[at..end],
+    );
+    if k == 513 {
+        (crc / 256) as u8
+    } else {
+        (crc % 256) as u8
+    }
+}
+
+// Item o of sector R, before its data field.
+fn header_item(t: usize, s: usize, r: usize, o: usize) -> Item
+    requires { ⌜ (t < 80) × (s < 2) × (r ≤ 9) × (o < 59) ⌝ }
+    ensures { λ x. ⌜ ((d : List ℕ) → x ≡ sectorItem t s r d o) ⌝ }
+{
+    if o < 12 {
+        return Item::Plain(0);
+    }
+    if o < 15 {
+        return Item::Sync;
+    }
+    if o < 22 {
+        return Item::Plain(header_byte(t, s, r, o - 15));
+    }
+    if o < 44 {
+        return Item::Plain(GAP);
+    }
+    if o < 56 {
+        return Item::Plain(0);
+    }
+    Item::Sync
+}
+
+// Item o of sector R of a side.
+fn sector_item(image: &[u8], t: usize, s: usize, r: usize, o: usize) -> Item
+    requires { ⌜ (length (now image) ≡ imageBytes) × (t < 80) × (s < 2) × (1 ≤ r) × (r ≤ 9) ⌝ }
+    ensures { λ x. ⌜ x ≡ sectorItem t s r (sectorData (now (image .entry)) t s r) o ⌝ }
+{
+    if o < 59 {
+        return header_item(t, s, r, o);
+    }
+    if o < 574 {
+        return Item::Plain(field_byte(image, sector_start(t, s, r), o - 59));
+    }
+    Item::Plain(GAP)
+}
+
+// Item q of a side, before its first sector.
+fn lead_item(q: usize) -> Item
+    requires { ⌜ q < 146 ⌝ }
+    ensures { λ x. ⌜ ((image : List ℕ) (t s : ℕ) → x ≡ imageSide image t s q) ⌝ }
+{
+    if q < 80 {
+        return Item::Plain(GAP);
+    }
+    if q < 92 {
+        return Item::Plain(0);
+    }
+    if q < 95 {
+        return Item::Index;
+    }
+    if q < 96 {
+        return Item::Plain(0xFC);
+    }
+    Item::Plain(GAP)
+}
+
+// Item q of a side.
+fn side_item(image: &[u8], t: usize, s: usize, q: usize) -> Item
+    requires { ⌜ (length (now image) ≡ imageBytes) × (t < 80) × (s < 2) ⌝ }
+    ensures { λ x. ⌜ x ≡ imageSide (now (image .entry)) t s q ⌝ }
+{
+    if q < 146 {
+        return lead_item(q);
+    }
+    let o = q - 146;
+    if o < Geometry::SECTORS * SECTOR_ITEMS {
+        return sector_item(image, t, s, o / SECTOR_ITEMS + 1, o % SECTOR_ITEMS);
+    }
+    Item::Plain(GAP)
+}
+
+// The bit before item q of a side; before the first it counts as 0.
+fn bit_before(image: &[u8], t: usize, s: usize, q: usize) -> u8
+    requires { ⌜ (length (now image) ≡ imageBytes) × (t < 80) × (s < 2) ⌝ }
+    ensures { λ x. ⌜ x ≡ bitBefore (imageSide (now (image .entry)) t s) q ⌝ }
+{
+    if q == 0 {
+        return 0;
+    }
+    cells::last_bit(side_item(image, t, s, q - 1))
+}
+
+// Byte b of a written side, as it is stored.
+pub fn side_byte(image: &[u8], t: usize, s: usize, b: usize) -> u8
+    requires { ⌜ (length (now image) ≡ imageBytes) × (t < 80) × (s < 2) ⌝ }
+    ensures { λ x. ⌜ x ≡ packed (writtenCell (imageSide (now (image .entry)) t s)) b ⌝ }
+{
+    let q = b / 2;
+    let item = side_item(image, t, s, q);
+    let before = bit_before(image, t, s, q);
+    cells::item_byte(before, item, b % 2 == 1)
+}
