@@ -4,3 +4,6 @@ pub mod Search
 pub mod Hfe
 pub mod Unpacked
 pub mod Packed
+pub mod SideTrip
+pub mod FieldTrip
+pub mod RoundTrip

@@ -5,4 +5,5 @@ pub mod Search
 pub mod Hfe
 pub mod Unpacked
 pub mod Packed
+pub mod RoundTrip
 pub mod Laws

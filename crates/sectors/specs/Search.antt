@@ -1,9 +1,9 @@
 -- Headers, the search for a sector, its data field, and what a single sector gives. Document 01, "Cells and sectors", second paragraph.
 -- Every rule is stated over the cells from a place on.
 -- Assumes nothing: these are definitions.
-use mathlib.Core.Bool.{Bool, true, false, cond, _&&_}
+use mathlib.Core.Bool.{Bool, false, cond, _&&_}
 use mathlib.Core.List.{List, [], _∷_, _++_}
-use Prim.Native.Nat.{ℕ, zero, suc, _+_, _*_, _/_, _%_}
+use Prim.Native.Nat.{ℕ, zero, suc, _+_, _*_}
 use lib.Dec.{leb, eqb}
 use lib.ListN.{length}
 use Rattle.cells.specs.Stream.{from, dataByte, dataBytes}

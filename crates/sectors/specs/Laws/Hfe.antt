@@ -1,8 +1,8 @@
 -- Laws of the faults, and of the header and the track table.
 -- Assumes nothing.
-use mathlib.Core.Bool.{Bool, true, false, cond, _&&_, not}
+use mathlib.Core.Bool.{Bool, true, false, _&&_, not}
 use mathlib.Core.List.{List}
-use mathlib.Core.Path.{_≡_, refl, sym, ap, _∙_}
+use mathlib.Core.Path.{_≡_}
 use Prim.Native.Nat.{ℕ, _+_, _%_, _≤_, _<_}
 use native.Mathlib.Nat.{le-refl}
 use native.Mathlib.Omega.{arith}
@@ -12,7 +12,6 @@ use borrow.Author.Tests.{lt-ltb, le-ltb, leb-true, not-false}
 use Rattle.laws.specs.Order.{by-order}
 use Rattle.laws.specs.Truth.{and-right}
 use Rattle.laws.specs.Lowest.{lowest, lowest-none, lowest-some, lowest-all}
-use Rattle.sectors.specs.declared.Fault.{Fault}
 use Rattle.sectors.specs.declared.Fault.the-variants.{At, Sound}
 use Rattle.sectors.specs.Hfe.{lowestFault, entryPlace, trackLength, trackStart, trackBytes, trackGood, tableFault}
 

@@ -1,13 +1,13 @@
 -- Laws of the written side and of the written image, place by place.
 -- Assumes nothing.
-use mathlib.Core.Bool.{Bool, true, false, cond}
+use mathlib.Core.Bool.{true, cond}
 use mathlib.Core.List.{List, [], _∷_, _++_}
-use mathlib.Core.Path.{_≡_, refl, sym, ap, _∙_}
+use mathlib.Core.Path.{_≡_, refl, sym, _∙_}
 use Prim.Native.Nat.{ℕ, zero, suc, _+_, _-_, _*_, _/_, _%_, _≤_, _<_}
-use native.Mathlib.Nat.{add-zero, div-one}
+use native.Mathlib.Nat.{div-one}
 use native.Mathlib.Omega.{arith}
-use lib.Dec.{ltb, eqb, lit<}
-use lib.ListN.{length, getD, take, drop, length-append, List·getD-append, List·getD-eq-default}
+use lib.Dec.{ltb, eqb}
+use lib.ListN.{length, getD, take, drop, List·getD-append, List·getD-eq-default}
 use lib.Seq.{getD-append-add}
 use borrow.Author.Tests.{lt-ltb, le-ltb, eq-eqb, ne-eqb}
 use Rattle.laws.specs.Below.{all, all-eq}
@@ -23,7 +23,7 @@ use Rattle.sectors.specs.declared.Reply.{Reply}
 use Rattle.sectors.specs.Replies.{reply, done}
 use Rattle.sectors.specs.Geometry.{imageBytes}
 use Rattle.sectors.specs.Hfe.{signature}
-use Rattle.sectors.specs.Search.{headerMark, dataMark}
+use Rattle.sectors.specs.Search.{dataMark}
 use Rattle.sectors.specs.Packed.{imageSide, firstUnit, trackUnits, writtenLength, hfeBytes, fillByte, headerRest, headerByte, tableByte, trackByte, hfeByte, packReply, packHfe, span, fieldCrc, withCrc, headerRow, gapByte, sectorItem, sectorItems, sideItem}
 
 -- ---- spans

@@ -4,10 +4,9 @@ use mathlib.Core.Bool.{Bool, true, false, cond, _&&_}
 use mathlib.Core.List.{List, [], _∷_, _++_}
 use mathlib.Core.Path.{_≡_, refl, sym, ap, _∙_}
 use Prim.Native.Nat.{ℕ, zero, suc, _+_, _-_, _≤_, _<_}
-use native.Mathlib.Nat.{add-zero}
 use native.Mathlib.Numerals.{add-one}
 use native.Mathlib.Omega.{arith}
-use lib.Dec.{leb, eqb}
+use lib.Dec.{eqb}
 use lib.ListN.{length, getD, set, replicate, getD-replicate}
 use lib.Seq.{getD-set-same, getD-set-other}
 use borrow.Author.Tests.{le-leb, lt-leb, eq-eqb, ne-eqb}
@@ -19,7 +18,6 @@ use Rattle.sectors.specs.declared.Header.{Header}
 use Rattle.sectors.specs.declared.Header.the-variants.{Is, Absent}
 use Rattle.sectors.specs.declared.Found.{Found}
 use Rattle.sectors.specs.declared.Found.the-variants.{One, Nothing, Several}
-use Rattle.sectors.specs.declared.Sector.{Sector}
 use Rattle.sectors.specs.declared.Sector.the-variants.{Delivered, Fieldless, Damaged}
 use Rattle.sectors.specs.Search.{crcHolds, headerMark, dataMark, headerCells, fieldCells, isHeader, idOf, headerOf, belongs, headerAt, placesBelow, foundOf, findSector, first, fieldAt}
 

@@ -1,35 +1,35 @@
 -- What the parts of unpacking hand on, and laws of unpacking.
 -- Assumes nothing.
-use mathlib.Core.Bool.{Bool, true, false, cond, false≢true}
+use mathlib.Core.Bool.{true, false, cond, false≢true}
 use mathlib.Core.List.{List}
 use mathlib.Core.Path.{_≡_, refl, sym, ap, _∙_}
-use Prim.Native.Nat.{ℕ, zero, suc, _+_, _-_, _*_, _/_, _%_, _≤_, _<_}
+use Prim.Native.Nat.{ℕ, _+_, _-_, _*_, _/_, _%_, _≤_, _<_}
 use native.Mathlib.Nat.{zero-add, lt-trans}
 use native.Mathlib.Omega.{arith}
-use lib.Dec.{ltb, leb, eqb}
+use lib.Dec.{eqb}
 use lib.ListN.{length, getD, set, length-set}
 use lib.Seq.{getD-set-same, getD-set-other}
 use borrow.Author.Tests.{lt-ltb, le-ltb, eq-eqb, ne-eqb}
 use Rattle.laws.specs.Order.{by-order, by-equal}
-use Rattle.laws.specs.Lowest.{lowest, lowest-none, lowest-some}
+use Rattle.laws.specs.Lowest.{lowest-none, lowest-some}
 use Rattle.laws.specs.Tab.{tab}
-use Rattle.cells.specs.Stream.{stream, hfeSide, from, dataByte, dataBytes}
+use Rattle.cells.specs.Stream.{stream, hfeSide, from, dataByte}
 use Rattle.cells.specs.Laws.Number.{bytes-in}
 use Rattle.cells.specs.declared.Side.{Side}
 use Rattle.sectors.specs.declared.Reply.{Reply}
 use Rattle.sectors.specs.declared.Found.{Found}
-use Rattle.sectors.specs.declared.Found.the-variants.{One, Nothing, Several}
+use Rattle.sectors.specs.declared.Found.the-variants.{Nothing}
 use Rattle.sectors.specs.declared.Fault.{Fault}
 use Rattle.sectors.specs.declared.Fault.the-variants.{At, Sound}
 use Rattle.sectors.specs.declared.Sector.{Sector}
 use Rattle.sectors.specs.declared.Sector.the-variants.{Delivered, Missing, Repeated, Fieldless, Damaged}
 use Rattle.sectors.specs.Replies.{reply, done}
 use Rattle.sectors.specs.Geometry.{imageBytes}
-use Rattle.sectors.specs.Search.{findSector, sectorFound, sectorOf, bytesOf}
+use Rattle.sectors.specs.Search.{sectorFound, sectorOf, bytesOf}
 use Rattle.sectors.specs.Hfe.{headerFault, tableFault, trackLength, trackPart, sideStream}
 use Rattle.sectors.specs.Laws.Hfe.{at-not-sound}
 use Rattle.sectors.specs.Laws.Search.{Scanned}
-use Rattle.sectors.specs.Unpacked.{orReply, unpackReply, unpackImage, trackOf, sideOf, rOf, sectorBytesAt, sectorAt, isBad, sectorReply, firstBad, sectorsReply, unpackedByte}
+use Rattle.sectors.specs.Unpacked.{orReply, unpackReply, unpackImage, trackOf, sideOf, sectorBytesAt, sectorAt, isBad, sectorReply, firstBad, sectorsReply, unpackedByte}
 
 -- a row of sectors from `at` on, judged to the end of n, or to the first bad one: their places are in q, and what stood before them in p is kept
 pub record Judged (sector : ℕ → Sector) (p q : List ℕ) (at n : ℕ) (r : Fault) : Type 0 where

@@ -1,26 +1,21 @@
 -- `header_byte` meets its contract: the table is the definition's.
 -- Assumes nothing.
-use borrow.Author.Needs.{needs}
-use mathlib.Core.Path.{_≡_, refl, sym, ap, _∙_}
+use mathlib.Core.Path.{sym}
 use native.Mathlib.Omega.{arith}
+use borrow.Author.Needs.{needs}
 use Rattle.sectors.specs.Hfe.{signature}
 use Rattle.sectors.specs.Packed.{headerRest}
 use Rattle.sectors.specs.Laws.Packed.{header-in, header-out}
 use Rattle.sectors.proofs.packing.header_byte.Statement.{statement}
 use Rattle.sectors.proofs.packing.header_byte.Tie as tie
-use Rattle.sectors.proofs.packing.header_byte.Reads as reads
-use Rattle.sectors.proofs.packing.header_byte.Lts as lts
 
--- src/packing.rt:36:17
 array-read-result : tie.Need-array-read-result
 array-read-result c = search needs
 
--- src/packing.rt:33:1
 returns : tie.Need-returns
 unfolding signature headerRest
 returns c = header-in _ (omega arith)
 
--- src/packing.rt:33:1
 returns-2 : tie.Need-returns-2
 returns-2 c = sym (header-out _ (omega arith))
 

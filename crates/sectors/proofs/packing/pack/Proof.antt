@@ -1,45 +1,32 @@
 -- `pack` meets its contract.
 -- Assumes nothing.
+use mathlib.Core.Path.{sym, _∙_}
 use borrow.Author.Needs.{needs}
-use mathlib.Core.Path.{_≡_, refl, sym, ap, _∙_}
 use Rattle.sectors.specs.Laws.Packed.{pack-hfe, pack-image, pack-done, hfe-after}
 use Rattle.sectors.proofs.packing.pack.Statement.{statement}
 use Rattle.sectors.proofs.packing.pack.Tie as tie
-use Rattle.sectors.proofs.packing.pack.Reads as reads
-use Rattle.sectors.proofs.packing.pack.Lts as lts
-use Rattle.sectors.proofs.packing.write_hfe.Reads as write-hfe-reads
-use Rattle.sectors.proofs.replies.done.Reads as done-reads
-use Rattle.sectors.proofs.replies.refused.Reads as refused-reads
 
--- src/packing.rt:99:9
 refused-requires : tie.Need-refused-requires
 refused-requires c κs = search needs
 
--- src/packing.rt:99:9
 returns : tie.Need-returns
 returns c = let e = pack-hfe _ _ (c .before .if1 .taken) in (c .refused .ensures ∙ sym e, sym (hfe-after _ _ _ e))
 
--- src/packing.rt:102:9
 refused-requires-2 : tie.Need-refused-requires-2
 refused-requires-2 c κs = search needs
 
--- src/packing.rt:102:9
 returns-2 : tie.Need-returns-2
 returns-2 c = let e = pack-image _ _ (c .before .before .if1 .left) (c .before .if2 .taken) in (c .refused2 .ensures ∙ sym e, sym (hfe-after _ _ _ e))
 
--- src/packing.rt:104:5
 write-hfe-requires : tie.Need-write-hfe-requires
 write-hfe-requires c κs = (c .before .if2 .left, c .before .before .if1 .left)
 
--- src/packing.rt:105:5
 done-requires : tie.Need-done-requires
 done-requires c κs = search needs
 
--- src/packing.rt:95:1
 same-length : tie.Need-same-length
 same-length c = search needs
 
--- src/packing.rt:95:1
 returns-3 : tie.Need-returns-3
 returns-3 c = let e = pack-done _ _ (c .before .before .before .before .before .before .if1 .left) (c .before .before .before .before .before .if2 .left) in (c .done .ensures ∙ sym e, c .before .before .before .write-hfe .ensures ∙ sym (hfe-after _ _ _ e))
 

@@ -1,65 +1,50 @@
 -- `table_byte` meets its contract.
 -- Assumes nothing.
-use borrow.Author.Needs.{needs}
-use mathlib.Core.Path.{_≡_, refl, sym, ap, _∙_}
+use mathlib.Core.Path.{_≡_, sym}
+use Prim.Native.Nat.{_-_, _%_}
 use native.Mathlib.Omega.{arith}
-use Prim.Native.Nat.{ℕ, _+_, _-_, _*_, _/_, _%_, _≤_, _<_}
+use borrow.Author.Needs.{needs}
 use Rattle.sectors.specs.Laws.Packed.{table-past, table-0, table-1, table-2, table-3}
 use Rattle.sectors.proofs.packing.table_byte.Statement.{statement}
 use Rattle.sectors.proofs.packing.table_byte.Tie as tie
-use Rattle.sectors.proofs.packing.table_byte.Reads as reads
-use Rattle.sectors.proofs.packing.table_byte.Lts as lts
 
--- src/packing.rt:44:12
 mul-if1 : tie.Need-mul-if1
 mul-if1 c = search needs
 
--- src/packing.rt:45:34
 mul-start : tie.Need-mul-start
 mul-start c = search needs
 
--- src/packing.rt:45:21
 add-start : tie.Need-add-start
 add-start c = search needs
 
--- src/packing.rt:46:22
 mul-length : tie.Need-mul-length
 mul-length c = search needs
 
--- src/packing.rt:48:18
 cast-result : tie.Need-cast-result
 cast-result c = search needs
 
--- src/packing.rt:49:18
 cast-result-2 : tie.Need-cast-result-2
 cast-result-2 c = search needs
 
--- src/packing.rt:50:18
 cast-result-3 : tie.Need-cast-result-3
 cast-result-3 c = search needs
 
--- src/packing.rt:51:18
 cast-result-4 : tie.Need-cast-result-4
 cast-result-4 c = search needs
 
--- src/packing.rt:47:9
 returns : tie.Need-returns
 returns c = sym (table-0 _ (c .before .if1 .taken) (c .match .keys1))
 
--- src/packing.rt:47:9
 returns-2 : tie.Need-returns-2
 returns-2 c = sym (table-1 _ (c .before .if1 .taken) (c .match .keys2))
 
--- src/packing.rt:47:9
 returns-3 : tie.Need-returns-3
 returns-3 c = sym (table-2 _ (c .before .if1 .taken) (c .match .keys3))
 
--- src/packing.rt:47:9
 returns-4 : tie.Need-returns-4
 returns-4 c = let e : c .before .before .args .j % 4 ≡ 3 = omega (arith, c .match .rest .1, c .match .rest .0 .1, c .match .rest .0 .0 .1) in
     sym (table-3 _ (c .before .if1 .taken) e)
 
--- src/packing.rt:40:1
 returns-5 : tie.Need-returns-5
 returns-5 c = sym (table-past _ (c .if1 .left))
 

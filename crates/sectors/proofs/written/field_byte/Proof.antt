@@ -1,80 +1,61 @@
 -- `field_byte` meets its contract.
 -- Assumes nothing.
-use borrow.Author.Needs.{needs}
-use mathlib.Core.Path.{_≡_, refl, sym, ap, _∙_}
+use mathlib.Core.Path.{_≡_, sym}
+use Prim.Native.Nat.{_+_, _-_}
 use native.Mathlib.Omega.{arith}
-use Prim.Native.Nat.{ℕ, _+_, _-_, _*_, _/_, _%_, _≤_, _<_}
+use borrow.Author.Needs.{needs}
 use Rattle.sectors.specs.Laws.Packed.{row-mark, row-data, row-high, row-low, field-crc}
 use Rattle.sectors.proofs.written.field_byte.Statement.{statement}
 use Rattle.sectors.proofs.written.field_byte.Tie as tie
-use Rattle.sectors.proofs.written.field_byte.Reads as reads
-use Rattle.sectors.proofs.written.field_byte.Lts as lts
-use Rattle.cells.proofs.crc_row.Reads as crc-row-reads
 
--- src/written.rt:50:9
 returns : tie.Need-returns
 returns c = rw (c .if1 .taken) (sym (row-mark _ _))
 
--- src/written.rt:53:28
 sub-result : tie.Need-sub-result
 sub-result c = search needs
 
--- src/written.rt:53:22
 add-result : tie.Need-add-result
 add-result c = search needs
 
--- src/written.rt:53:16
 shared-slice-read-result : tie.Need-shared-slice-read-result
 shared-slice-read-result c = search needs
 
--- src/written.rt:53:9
 returns-2 : tie.Need-returns-2
 returns-2 c = sym (row-data _ _ _ (omega arith) (omega arith) (omega arith))
 
--- src/written.rt:55:15
 add-end : tie.Need-add-end
 add-end c = search needs
 
--- src/written.rt:57:38
 slice-aggregate-crc-row : tie.Need-slice-aggregate-crc-row
 slice-aggregate-crc-row c = search needs
 
--- src/written.rt:57:9
 crc-row-requires : tie.Need-crc-row-requires
 crc-row-requires c κs = search needs
 
--- src/written.rt:58:9
 sub-crc-row : tie.Need-sub-crc-row
 sub-crc-row c = search needs
 
--- src/written.rt:58:9
 part-crc-row-start : tie.Need-part-crc-row-start
 part-crc-row-start c = search needs
 
--- src/written.rt:58:9
 part-crc-row-end : tie.Need-part-crc-row-end
 part-crc-row-end c = search needs
 
--- src/written.rt:56:9
 crc-row-requires-2 : tie.Need-crc-row-requires-2
 crc-row-requires-2 c κs = search needs
 
--- src/written.rt:61:9
 cast-result : tie.Need-cast-result
 cast-result c = search needs
 
--- src/written.rt:63:9
 cast-result-2 : tie.Need-cast-result-2
 cast-result-2 c = search needs
 
--- src/written.rt:45:1
 returns-3 : tie.Need-returns-3
 returns-3 c = let image = c .before .before .before .before .before .before .before .before .args .image .now in
     let at = c .before .before .before .before .before .before .before .before .args .at in
     let e : at + 512 - at ≡ 512 = omega arith in
     rw (c .before .crc-row2 .ensures, c .before .before .before .crc-row .ensures, e, field-crc image at (omega arith)) (sym (row-high image at _ (omega arith)))
 
--- src/written.rt:45:1
 returns-4 : tie.Need-returns-4
 returns-4 c = let image = c .before .before .before .before .before .before .before .before .args .image .now in
     let at = c .before .before .before .before .before .before .before .before .args .at in

@@ -1,41 +1,31 @@
 -- `header_item` meets its contract.
 -- Assumes nothing.
-use borrow.Author.Needs.{needs}
-use mathlib.Core.Path.{_≡_, refl, sym, ap, _∙_}
+use mathlib.Core.Path.{sym, ap, _∙_}
 use native.Mathlib.Omega.{arith}
-use Rattle.sectors.specs.Laws.Packed.{sector-lead, sector-sync, sector-header, sector-gap, sector-zeros, sector-mark}
+use borrow.Author.Needs.{needs}
 use Rattle.cells.specs.declared.Item.the-variants.{Plain}
+use Rattle.sectors.specs.Laws.Packed.{sector-lead, sector-sync, sector-header, sector-gap, sector-zeros, sector-mark}
 use Rattle.sectors.proofs.written.header_item.Statement.{statement}
 use Rattle.sectors.proofs.written.header_item.Tie as tie
-use Rattle.sectors.proofs.written.header_item.Reads as reads
-use Rattle.sectors.proofs.written.header_item.Lts as lts
-use Rattle.sectors.proofs.written.header_byte.Reads as header-byte-reads
 
--- src/written.rt:73:9
 returns : tie.Need-returns
 returns c = λ d. sym (sector-lead _ _ _ d _ (omega arith))
 
--- src/written.rt:76:9
 returns-2 : tie.Need-returns-2
 returns-2 c = λ d. sym (sector-sync _ _ _ d _ (omega arith) (omega arith))
 
--- src/written.rt:79:28
 header-byte-requires : tie.Need-header-byte-requires
 header-byte-requires c κs = search needs
 
--- src/written.rt:79:9
 returns-3 : tie.Need-returns-3
 returns-3 c = λ d. ap Plain (c .header-byte .ensures) ∙ sym (sector-header _ _ _ d _ (omega arith) (omega arith))
 
--- src/written.rt:82:9
 returns-4 : tie.Need-returns-4
 returns-4 c = λ d. sym (sector-gap _ _ _ d _ (omega arith) (omega arith))
 
--- src/written.rt:85:9
 returns-5 : tie.Need-returns-5
 returns-5 c = λ d. sym (sector-zeros _ _ _ d _ (omega arith) (omega arith))
 
--- src/written.rt:68:1
 returns-6 : tie.Need-returns-6
 returns-6 c = λ d. sym (sector-mark _ _ _ d _ (omega arith) (omega arith))
 

@@ -1,35 +1,28 @@
 -- `lead_item` meets its contract.
 -- Assumes nothing.
-use mathlib.Core.Path.{_≡_, refl, sym, ap, _∙_}
+use mathlib.Core.Path.{sym}
 use native.Mathlib.Omega.{arith}
 use Rattle.sectors.specs.Packed.{imageSide}
 use Rattle.sectors.specs.Laws.Packed.{side-gap, side-zeros, side-index, side-mark, side-gap2}
 use Rattle.sectors.proofs.written.lead_item.Statement.{statement}
 use Rattle.sectors.proofs.written.lead_item.Tie as tie
-use Rattle.sectors.proofs.written.lead_item.Reads as reads
-use Rattle.sectors.proofs.written.lead_item.Lts as lts
 
--- src/written.rt:110:9
 returns : tie.Need-returns
 unfolding imageSide
 returns c = λ image t s. sym (side-gap _ _ _ _ (omega arith))
 
--- src/written.rt:113:9
 returns-2 : tie.Need-returns-2
 unfolding imageSide
 returns-2 c = λ image t s. sym (side-zeros _ _ _ _ (omega arith) (omega arith))
 
--- src/written.rt:116:9
 returns-3 : tie.Need-returns-3
 unfolding imageSide
 returns-3 c = λ image t s. sym (side-index _ _ _ _ (omega arith) (omega arith))
 
--- src/written.rt:119:9
 returns-4 : tie.Need-returns-4
 unfolding imageSide
 returns-4 c = λ image t s. sym (side-mark _ _ _ _ (omega arith) (omega arith))
 
--- src/written.rt:105:1
 returns-5 : tie.Need-returns-5
 unfolding imageSide
 returns-5 c = λ image t s. sym (side-gap2 _ _ _ _ (omega arith) (omega arith))

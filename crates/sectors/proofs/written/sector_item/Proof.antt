@@ -1,41 +1,30 @@
 -- `sector_item` meets its contract.
 -- Assumes nothing.
-use borrow.Author.Needs.{needs}
-use mathlib.Core.Path.{_≡_, refl, sym, ap, _∙_}
+use mathlib.Core.Path.{sym, ap, _∙_}
 use native.Mathlib.Omega.{arith}
+use borrow.Author.Needs.{needs}
+use Rattle.cells.specs.declared.Item.the-variants.{Plain}
 use Rattle.sectors.specs.Packed.{sectorData}
 use Rattle.sectors.specs.Laws.Packed.{sector-field, sector-tail}
-use Rattle.cells.specs.declared.Item.the-variants.{Plain}
 use Rattle.sectors.proofs.written.sector_item.Statement.{statement}
 use Rattle.sectors.proofs.written.sector_item.Tie as tie
-use Rattle.sectors.proofs.written.sector_item.Reads as reads
-use Rattle.sectors.proofs.written.sector_item.Lts as lts
-use Rattle.sectors.proofs.written.field_byte.Reads as field-byte-reads
-use Rattle.sectors.proofs.written.header_item.Reads as header-item-reads
-use Rattle.sectors.proofs.written.sector_start.Reads as sector-start-reads
 
--- src/written.rt:96:9
 header-item-requires : tie.Need-header-item-requires
 header-item-requires c κs = search needs
 
--- src/written.rt:96:9
 returns : tie.Need-returns
 returns c = c .header-item .ensures _
 
--- src/written.rt:99:46
 sector-start-requires : tie.Need-sector-start-requires
 sector-start-requires c κs = search needs
 
--- src/written.rt:99:28
 field-byte-requires : tie.Need-field-byte-requires
 field-byte-requires c κs = search needs
 
--- src/written.rt:99:9
 returns-2 : tie.Need-returns-2
 unfolding sectorData
 returns-2 c = ap Plain (c .field-byte .ensures ∙ rw (c .before .sector-start .ensures)) ∙ sym (sector-field _ _ _ _ _ (omega arith) (omega arith))
 
--- src/written.rt:91:1
 returns-3 : tie.Need-returns-3
 returns-3 c = sym (sector-tail _ _ _ _ _ (omega arith))
 
