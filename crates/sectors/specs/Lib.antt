@@ -6,4 +6,5 @@ pub mod Hfe
 pub mod Unpacked
 pub mod Packed
 pub mod RoundTrip
+pub mod Values
 pub mod Laws

@@ -24,7 +24,7 @@ use Rattle.cells.specs.Laws.Written.{written-length, writtenCell-bit}
 use Rattle.sectors.specs.declared.Fault.the-variants.{Sound}
 use Rattle.sectors.specs.Replies.{done}
 use Rattle.sectors.specs.Hfe.{signature, formatFault, flagFault, headerFault, entryPlace, trackStart, trackLength, trackBytes, trackGood, tableFault, trackPart, sideStream}
-use Rattle.sectors.specs.Unpacked.{isBad, sectorAt, sectorBytesAt, firstBad, sectorsReply, unpackReply, unpackedByte}
+use Rattle.sectors.specs.Unpacked.{leastHfe, isBad, sectorAt, sectorBytesAt, firstBad, sectorsReply, unpackReply, unpackedByte}
 use Rattle.sectors.specs.Packed.{hfeBytes, headerRest, headerByte, tableByte, trackByte, hfeByte, packHfe, sectorData, imageSide, sideItem}
 use Rattle.sectors.specs.RoundTrip.{RoundTrip}
 use Rattle.sectors.specs.Laws.Hfe.{fault-none}
@@ -224,7 +224,7 @@ unfolding packedImage
 round-trip image hfe old li small lh lo =
     let p = pack-done (length image) (length hfe) lh li in
     let x : packHfe image hfe ≡ packedImage image = hfe-after image hfe done p in
-    let l : 1024 ≤ length (packedImage image) = rw (size image) (omega arith) in
+    let l : leastHfe ≤ length (packedImage image) = rw (size image) (omega arith) in
     let r : unpackReply (packedImage image) (length old) ≡ done =
     sound-reply (packedImage image) (length old) l lo (header-sound image) (table-sound image) ∙ sectors-done image small in (
       p,

@@ -29,7 +29,7 @@ use Rattle.sectors.specs.Search.{sectorFound, sectorOf, bytesOf}
 use Rattle.sectors.specs.Hfe.{headerFault, tableFault, trackLength, trackPart, sideStream}
 use Rattle.sectors.specs.Laws.Hfe.{at-not-sound}
 use Rattle.sectors.specs.Laws.Search.{Scanned}
-use Rattle.sectors.specs.Unpacked.{orReply, unpackReply, unpackImage, trackOf, sideOf, sectorBytesAt, sectorAt, isBad, sectorReply, firstBad, sectorsReply, unpackedByte}
+use Rattle.sectors.specs.Unpacked.{leastHfe, orReply, unpackReply, unpackImage, trackOf, sideOf, sectorBytesAt, sectorAt, isBad, sectorReply, firstBad, sectorsReply, unpackedByte}
 
 -- a row of sectors from `at` on, judged to the end of n, or to the first bad one: their places are in q, and what stood before them in p is kept
 pub record Judged (sector : ℕ → Sector) (p q : List ℕ) (at n : ℕ) (r : Fault) : Type 0 where
@@ -233,19 +233,19 @@ bad-number m Damaged e = refl
 -- ---- the replies of unpacking, in order
 
 module _ (h : List ℕ) (n : ℕ) where
-  pub short-reply : length h < 1024 → unpackReply h n ≡ reply 1 1 0 0
+  pub short-reply : length h < leastHfe → unpackReply h n ≡ reply 1 1 0 0
   unfolding unpackReply
-  short-reply l = rw (lt-ltb (length h) 1024 l)
+  short-reply l = rw (lt-ltb (length h) leastHfe l)
 
-  module _ (l : 1024 ≤ length h) where
+  module _ (l : leastHfe ≤ length h) where
     pub length-reply : (n ≡ imageBytes → ⊥) → unpackReply h n ≡ reply 1 2 0 0
     unfolding unpackReply
-    length-reply e = rw (le-ltb (length h) 1024 l, ne-eqb n imageBytes e)
+    length-reply e = rw (le-ltb (length h) leastHfe l, ne-eqb n imageBytes e)
 
     module _ (e : n ≡ imageBytes) where
       later-reply : unpackReply h n ≡ orReply 2 (headerFault h) (orReply 3 (tableFault h) (sectorsReply h))
       unfolding unpackReply
-      later-reply = rw (le-ltb (length h) 1024 l, eq-eqb n imageBytes e)
+      later-reply = rw (le-ltb (length h) leastHfe l, eq-eqb n imageBytes e)
 
       pub header-reply : (o : ℕ) → headerFault h ≡ At o → unpackReply h n ≡ reply 2 o 0 0
       header-reply o f = later-reply ∙ rw f
