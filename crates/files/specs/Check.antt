@@ -2,7 +2,7 @@
 -- Assumes nothing: these are definitions.
 use mathlib.Core.Bool.{Bool, true, false, not, cond, _&&_, _||_}
 use mathlib.Core.List.{List, [], _∷_}
-use mathlib.Core.Option.{Option, none, some}
+use mathlib.Core.Option.{Option, none, some, Option·map}
 use Prim.Native.Nat.{ℕ, _+_, _*_, _%_}
 use lib.Dec.{leb, ltb, eqb}
 use lib.ListN.{length}
@@ -108,7 +108,7 @@ freeRight d = eqb (at16 (d 0) 20) (blockSectors * freeCount d)
 -- ---- the refusals, in order
 
 unfoldable pub refusal8 : Disk → Option Reply
-refusal8 d = elim (headerFault d) as (λ (o : Option ℕ). Option Reply) [ none ↦ none | some o ↦ some (reply 8 o 0 0) ]
+refusal8 d = Option·map (λ (o : ℕ). reply 8 o 0 0) (headerFault d)
 
 unfoldable pub refusal9 : Disk → Option Reply
 refusal9 d = cond (ltb (mapFault d) blocks) (some (reply 9 (mapFault d) 0 0)) none

@@ -7,4 +7,7 @@ pub mod Check
 pub mod Written
 pub mod Calls
 pub mod FirstTrack
+pub mod Model
+pub mod Histories
 pub mod Values
+pub mod Laws
