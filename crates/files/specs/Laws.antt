@@ -5,3 +5,10 @@ pub mod Paint
 pub mod Inner
 pub mod Invariant
 pub mod Facts
+pub mod Owners
+pub mod Last
+pub mod Remove
+pub mod Add
+pub mod Run
+pub mod Listed
+pub mod Agree

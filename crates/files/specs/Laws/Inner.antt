@@ -19,6 +19,7 @@ use Rattle.files.specs.declared.Record.the-variants.{File}
 use Rattle.files.specs.Calls.{Outcome, kept, freshOwner, deliver}
 use Rattle.files.specs.Directory.{nameRight}
 use Rattle.files.specs.Disk.{Disk}
+use Rattle.files.specs.Histories.{Call, toAdd, toRemove, toList, toRead}
 use Rattle.files.specs.Laws.Paint.{unowned}
 use Rattle.files.specs.Map.{isFree}
 use Rattle.files.specs.Model.{NamedFile, Line, lineBlocks, dirBlocks, usable, freeWord, content, named, lineEntries, lineData, wrap}
@@ -143,3 +144,25 @@ addM m x =
     (cond (ltb (findM m (x .name)) (suc (m .peak))) (refusedM m (reply 13 (findM m (x .name)) 0 0))
     (cond (roomFor m x) (record { answer = done; model = addAtM m (emptyLine m) x }) (refusedM m (refusal 15))))
     (refusedM m (refusal 12))
+
+-- ---- histories
+
+unfoldable pub stepM : Inner → Call → Inner
+stepM m (toAdd x) = addM m x .model
+stepM m (toRemove name) = removeM m name .model
+stepM m (toList buf) = m
+stepM m (toRead name buf) = m
+
+unfoldable pub outM : Inner → Call → Outcome
+outM m (toAdd x) = kept [] (addM m x .answer)
+outM m (toRemove name) = kept [] (removeM m name .answer)
+outM m (toList buf) = listM m buf
+outM m (toRead name buf) = readM m name buf
+
+unfoldable pub outsM : Inner → List Call → List Outcome
+outsM m [] = []
+outsM m (c ∷ cs) = outM m c ∷ outsM (stepM m c) cs
+
+unfoldable pub endM : Inner → List Call → Inner
+endM m [] = m
+endM m (c ∷ cs) = endM (stepM m c) cs
