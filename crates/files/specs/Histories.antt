@@ -1,6 +1,8 @@
 -- Histories: a list of calls, each on what the last left, on an image and in the model; and what the calls and their replies alone say.
 -- Document 01, "The book of demand 3".
 -- Assumes nothing: these are definitions.
+use mathlib.Core.Path.{_≡_}
+use mathlib.Core.Logic.{_⊎_}
 use mathlib.Core.Bool.{Bool, cond}
 use mathlib.Core.List.{List, [], _∷_}
 use mathlib.Core.Option.{Option, none, some}
@@ -103,3 +105,8 @@ sizeOf (x ∷ xs) = sizeOf xs + blocksFor (length (x .content))
 unfoldable pub fileNamed : List ℕ → List NamedFile → Option NamedFile
 fileNamed name [] = none
 fileNamed name (x ∷ xs) = cond (nameEq (x .name) name) (some x) (fileNamed name xs)
+
+-- whether a file is one of these
+abbrev pub Present : NamedFile → List NamedFile → Type 0
+Present x [] = ⊥
+Present x (y ∷ ys) = (x ≡ y) ⊎ Present x ys

@@ -12,3 +12,4 @@ pub mod Add
 pub mod Run
 pub mod Listed
 pub mod Agree
+pub mod Present

@@ -9,5 +9,6 @@ pub mod Calls
 pub mod FirstTrack
 pub mod Model
 pub mod Histories
+pub mod History
 pub mod Values
 pub mod Laws

@@ -135,3 +135,8 @@ sum-change (suc n) k f g h e =
     (λ r.
     let ih : sum n f + g k ≡ sum n g + f k = sum-change n k f g (omega arith) (λ j l. e j (omega arith)) in
     omega (arith, e n (omega arith) r))
+
+pub sum-none : (n : ℕ) (f : ℕ → ℕ) → ((i : ℕ) → i < n → f i ≡ 0) → sum n f ≡ 0
+unfolding sum
+sum-none zero f e = refl
+sum-none (suc n) f e = omega (arith, sum-none n f (λ i h. e i (omega arith)), e n (omega arith))
