@@ -13,3 +13,6 @@ pub mod Run
 pub mod Listed
 pub mod Agree
 pub mod Present
+pub mod Left
+pub mod Zero
+pub mod History

@@ -16,7 +16,7 @@ use Rattle.laws.specs.Lowest.{lowest}
 use Rattle.laws.specs.Numbers.{up}
 use Rattle.laws.specs.Order.{by-order}
 use Rattle.laws.specs.Search.{lowest-le, lowest-hit, lowest-low}
-use Rattle.laws.specs.Tests.{lt-true, lt-false, eq-true, eq-false, true-lt, true≢false, not-was, by-equal, cond-true, cond-false, and-true, and-false-left, and-false-right, leb-iff, isSome}
+use Rattle.laws.specs.Tests.{lt-true, lt-false, eq-true, eq-false, true-lt, true-le, true≢false, not-was, by-equal, cond-true, cond-false, and-true, and-false-left, and-false-right, leb-iff, isSome}
 use Rattle.laws.specs.Truth.{and-left, and-right, by-test}
 use Rattle.sectors.specs.Geometry.{blocks}
 use Rattle.files.specs.declared.Record.{Record}
@@ -504,3 +504,7 @@ module _ (m : Inner) (v : Inv m) (x : NamedFile) (right : (1 ≤ length (x .name
       ap (λ (p : ℕ). count (suc p) (λ (j : ℕ). isSome (L′ j))) (peak-more m v e)
       ∙ count-yes (suc (m .peak)) (λ (j : ℕ). isSome (L′ j)) (ap (λ (j : ℕ). isSome (L′ j)) (sym e) ∙ at-k)
       ∙ ap suc (count-cong (suc (m .peak)) (λ (j : ℕ). isSome (L′ j)) (λ (j : ℕ). isSome (m .lines j)) (λ j l. off-k j (omega arith))))
+
+pub room-fits : (m : Inner) (x : NamedFile) → roomFor m x ≡ true → dirBlocks (peakAfter m) + (fileBlocks m + blocksFor (length (x .content))) ≤ usable
+unfolding roomFor
+room-fits m x t = true-le t

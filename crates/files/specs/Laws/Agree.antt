@@ -255,10 +255,14 @@ module _ (b : Model) (o : ℕ → Record) (v : Inv (withOwner b o)) (r : Listed 
 
 -- ---- a history
 
+peak-same : (b : Model) (o : ℕ → Record) → withOwner b o .peak ≡ b .peak
+unfolding withOwner
+peak-same b o = refl
+
 pub books : (cs : List Call) (b : Model) (o : ℕ → Record) → Inv (withOwner b o) → Listed (b .lines) (b .dir) o (partsOf (withOwner b o))
-    → (outsM (withOwner b o) cs ≡ modelOuts b cs) × (render (endM (withOwner b o) cs) ≡ modelDisk (modelEnd b cs))
+    → (outsM (withOwner b o) cs ≡ modelOuts b cs) × (render (endM (withOwner b o) cs) ≡ modelDisk (modelEnd b cs)) × (endM (withOwner b o) cs .peak ≡ modelEnd b cs .peak)
 unfolding outsM modelOuts endM modelEnd
-books [] b o v r = (refl, image-same b o v r)
+books [] b o v r = (refl, image-same b o v r, peak-same b o)
 books (c ∷ cs) b o v r =
     let m : Inner = withOwner b o in
     let w : (o′ : ℕ → Record) × (stepM m c ≡ withOwner (modelStep b c) o′) × Listed (modelStep b c .lines) (modelStep b c .dir) o′ (partsOf (stepM m c)) = next b o v r c in
@@ -266,9 +270,11 @@ books (c ∷ cs) b o v r =
     let r′ : Listed (modelStep b c .lines) (modelStep b c .dir) (w .0) (partsOf (withOwner (modelStep b c) (w .0))) =
     subst (λ (z : Inner). Listed (modelStep b c .lines) (modelStep b c .dir) (w .0) (partsOf z)) (w .1) (w .2) in
     let ih : (outsM (withOwner (modelStep b c) (w .0)) cs ≡ modelOuts (modelStep b c) cs)
-    × (render (endM (withOwner (modelStep b c) (w .0)) cs) ≡ modelDisk (modelEnd (modelStep b c) cs)) = books cs (modelStep b c) (w .0) v′ r′ in (
+    × (render (endM (withOwner (modelStep b c) (w .0)) cs) ≡ modelDisk (modelEnd (modelStep b c) cs))
+    × (endM (withOwner (modelStep b c) (w .0)) cs .peak ≡ modelEnd (modelStep b c) cs .peak) = books cs (modelStep b c) (w .0) v′ r′ in (
       ap₂ (λ (x : Outcome) (xs : List Outcome). x ∷ xs) (out-same b o v r c) (ap (λ (z : Inner). outsM z cs) (w .1) ∙ ih .0),
       ap (λ (z : Inner). render (endM z cs)) (w .1) ∙ ih .1,
+      ap (λ (z : Inner). endM z cs .peak) (w .1) ∙ ih .2,
     )
 
 pub fresh-listed : (title : List ℕ) (number : ℕ)

@@ -133,7 +133,7 @@ module _ (m : Inner) (v : Inv m) where
   unfolding render
   P = painted (header m) (m .owner) (content (m .lines) (m .lines))
 
-  rec : (b : ℕ) → b < blocks → recordAt d b ≡ m .owner b
+  pub rec : (b : ℕ) → b < blocks → recordAt d b ≡ m .owner b
   rec b h = record-is d (header m) (m .owner) (content (m .lines) (m .lines)) P b h (v .own .own-valid b h)
 
   home-is : (b f s : ℕ) → b < blocks → m .owner b ≡ File f s → partBlock d f s ≡ b
@@ -162,7 +162,7 @@ module _ (m : Inner) (v : Inv m) where
   unfolding dirEnd
   dirEnd-is = ap (λ (x : ℕ). x / slotBytes) dirBytes-is ∙ omega arith
 
-  word20 : at16 (d 0) 20 ≡ freeWord (m .peak) (fileBlocks m)
+  pub word20 : at16 (d 0) 20 ≡ freeWord (m .peak) (fileBlocks m)
   word20 = head16 20 (omega arith) ∙ at-20 m
 
   pub freeCount-at : freeCount d ≡ count blocks (freeOf (m .owner))
@@ -278,7 +278,7 @@ module _ (m : Inner) (v : Inv m) where
           let it : (slotBytes + length (x .content) + 1535) / blockBytes ≤ usable = omega (arith, v .free-sum, ap lineBlocks e) in
           omega arith
 
-      entry-is : (i : ℕ) → i < 64 → slotByte d k i ≡ entryByte (entryFor (x .name) (x .date) (length (x .content))) i
+      pub entry-is : (i : ℕ) → i < 64 → slotByte d k i ≡ entryByte (entryFor (x .name) (x .date) (length (x .content))) i
       unfolding slotOf
       entry-is i l = slot-is k i h l ∙ ap (λ (y : Line). slotOf y i) e
 

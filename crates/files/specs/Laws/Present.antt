@@ -28,7 +28,7 @@ Fills lines (x ∷ xs) = (k : ℕ) × (lines k ≡ some x) × Fills (upd lines k
 abbrev pub Once : (ℕ → Line) → Type 0
 Once lines = (i j : ℕ) (y z : NamedFile) → lines i ≡ some y → lines j ≡ some z → nameEq (y .name) (z .name) ≡ true → i ≡ j
 
-none-some : (x : NamedFile) → _≡_ {A = Line} none (some x) → ⊥
+pub none-some : (x : NamedFile) → _≡_ {A = Line} none (some x) → ⊥
 none-some x e = unfold isSome in true≢false (isSome {A = NamedFile} none) (ap isSome e) refl
 
 some-some : (x y : NamedFile) → _≡_ {A = Line} (some x) (some y) → x ≡ y
