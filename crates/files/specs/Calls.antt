@@ -21,7 +21,7 @@ use Rattle.files.specs.Disk.{Disk, diskOf, imageOf}
 use Rattle.files.specs.Map.{freeAt, freeCount, fileByte}
 use Rattle.files.specs.Directory.{nameRight, entryByte, entryFor, slotByte, slotEntry, held, dirEnd, findName, vacantSlot}
 use Rattle.files.specs.Check.{judged}
-use Rattle.files.specs.Written.{headerByte, paint, storedByte, blocksFor, zeros, setSlot, setFree, setEnd, stepUpdate, place, release}
+use Rattle.files.specs.Written.{headerByte, diskWith, storedByte, blocksFor, zeros, setSlot, setFree, setEnd, stepUpdate, giveBlocks, freeBlocks}
 
 -- what a call that reads leaves: its reply and the result buffer
 pub record Outcome : Type 0 where
@@ -70,7 +70,7 @@ freshOwner (suc (suc b)) = Free
 
 -- update count 0, free word 3 x (480 - 2), one slot of directory, all else zero
 unfoldable pub formatDisk : List ℕ → ℕ → Disk
-formatDisk title number = paint (headerByte title number 0 (blockSectors * (blocks - 2)) 1) freshOwner (λ (r : Record) (o : ℕ). 0)
+formatDisk title number = diskWith (headerByte title number 0 (blockSectors * (blocks - 2)) 1) freshOwner (λ (r : Record) (o : ℕ). 0)
 
 -- judges 1 and 12 alone
 unfoldable pub format : List ℕ → List ℕ → ℕ → Written
@@ -126,7 +126,7 @@ opensBlock d k = eqb k (dirEnd d) && eqb (k % blockSlots) 0
 
 -- the new block of the directory is the lowest free one
 unfoldable pub growDir : Disk → ℕ → Disk
-growDir d k = cond (opensBlock d k) (place d 0 zeros (k / blockSlots) (firsts blocks 1 (freeAt d))) d
+growDir d k = cond (opensBlock d k) (giveBlocks d 0 zeros (k / blockSlots) (firsts blocks 1 (freeAt d))) d
 
 -- the directory grows by a slot where k was its end
 unfoldable pub endAfter : ℕ → ℕ → Disk → Disk
@@ -136,7 +136,7 @@ endAfter k end d = cond (eqb k end) (setEnd d (suc k)) d
 unfoldable pub addAt : Disk → ℕ → Entry → List ℕ → Disk
 addAt d k e content =
     let d₁ : Disk = growDir d k in
-    let d₂ : Disk = place d₁ k (storedByte e content) 0 (firsts blocks (blocksFor (length content)) (freeAt d₁)) in
+    let d₂ : Disk = giveBlocks d₁ k (storedByte e content) 0 (firsts blocks (blocksFor (length content)) (freeAt d₁)) in
     stepUpdate (setFree (endAfter k (dirEnd d) (setSlot d₂ k (entryByte e))))
 
 -- blocks that an add into slot k takes
@@ -164,7 +164,7 @@ add image name date content = cond (imageRight image) (imaged (addDisk (diskOf i
 
 -- the file's blocks are zeroed and freed, its slot zeroed, free word and update count set; the directory keeps its length
 unfoldable pub removeAt : Disk → ℕ → Disk
-removeAt d k = stepUpdate (setFree (setSlot (release blocks d k) k zeros))
+removeAt d k = stepUpdate (setFree (setSlot (freeBlocks blocks d k) k zeros))
 
 unfoldable pub removeDisk : Disk → List ℕ → Changed
 removeDisk d name =

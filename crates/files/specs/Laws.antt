@@ -1,7 +1,7 @@
 -- Laws of the definitions: what proofs cite. A reader need not read them.
 pub mod Disk
 pub mod Names
-pub mod Paint
+pub mod Whole
 pub mod Inner
 pub mod Invariant
 pub mod Facts

@@ -24,7 +24,7 @@ use Rattle.files.specs.Directory.{nameEq, nameRight, entryByte, entryFor
 use Rattle.files.specs.Disk.{Disk}
 use Rattle.files.specs.Map.{isFree}
 use Rattle.files.specs.Sizes.{slotBytes, blockSlots}
-use Rattle.files.specs.Written.{headerByte, paint, storedByte, part, blocksFor}
+use Rattle.files.specs.Written.{headerByte, diskWith, storedByte, part, blocksFor}
 
 -- ---- lines
 
@@ -139,7 +139,7 @@ modelHeader m = headerByte (m .title) (m .number) (m .updates) (freeWord (m .pea
 
 unfoldable pub modelDisk : Model → Disk
 modelDisk m =
-    paint (modelHeader m) (recordIn (m .lines) (m .dir) (m .peak))
+    diskWith (modelHeader m) (recordIn (m .lines) (m .dir) (m .peak))
     (content (λ (k : ℕ). fileOf (m .lines k)) (λ (k : ℕ). fileOf (m .lines k)))
 
 -- ---- format

@@ -43,8 +43,8 @@ headerByte title number updates word end =
 -- ---- a whole disk
 
 -- the disk with this header, these records, and in each block what its record says
-unfoldable pub paint : (ℕ → ℕ) → (ℕ → Record) → (Record → ℕ → ℕ) → Disk
-paint header owner content b o =
+unfoldable pub diskWith : (ℕ → ℕ) → (ℕ → Record) → (Record → ℕ → ℕ) → Disk
+diskWith header owner content b o =
     cond (ltb b blocks && ltb o blockBytes)
     (cond (eqb b 0)
     (cond (ltb o mapStart) (header o) (encode (owner ((o - mapStart) / recordBytes)) ((o - mapStart) % recordBytes)))
@@ -97,15 +97,15 @@ unfoldable pub stepUpdate : Disk → Disk
 stepUpdate d = upd d 0 (patch (d 0) 16 4 (highByte 4 (at32 (d 0) 16 + 1)))
 
 -- the blocks are given to file f, from sequence s on, with the bytes c of the file
-unfoldable pub place : Disk → ℕ → (ℕ → ℕ) → ℕ → List ℕ → Disk
-place d f c s [] = d
-place d f c s (b ∷ bs) = place (setRecord (setBlock d b (part c s)) b (File f s)) f c (suc s) bs
+unfoldable pub giveBlocks : Disk → ℕ → (ℕ → ℕ) → ℕ → List ℕ → Disk
+giveBlocks d f c s [] = d
+giveBlocks d f c s (b ∷ bs) = giveBlocks (setRecord (setBlock d b (part c s)) b (File f s)) f c (suc s) bs
 
 -- block b is zeroed and its record freed if it bears file f
-unfoldable pub releaseAt : Disk → ℕ → ℕ → Disk
-releaseAt d f b = cond (bears f (recordAt d b)) (setRecord (setBlock d b zeros) b Free) d
+unfoldable pub freeBlock : Disk → ℕ → ℕ → Disk
+freeBlock d f b = cond (bears f (recordAt d b)) (setRecord (setBlock d b zeros) b Free) d
 
 -- so for the blocks below n
-unfoldable pub release : ℕ → Disk → ℕ → Disk
-release zero d f = d
-release (suc n) d f = releaseAt (release n d f) f n
+unfoldable pub freeBlocks : ℕ → Disk → ℕ → Disk
+freeBlocks zero d f = d
+freeBlocks (suc n) d f = freeBlock (freeBlocks n d f) f n

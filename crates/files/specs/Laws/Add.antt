@@ -30,11 +30,11 @@ use Rattle.files.specs.Laws.Invariant.{partsOf, Owned, Inv}
 use Rattle.files.specs.Laws.Last.{end-step, finish, slot-step}
 use Rattle.files.specs.Laws.Names.{name-sym}
 use Rattle.files.specs.Laws.Owners.{owned-cong, give-owned, give-count}
-use Rattle.files.specs.Laws.Paint.{Painted, painted, painted-is, free-is, give-block, repaint, part-out}
+use Rattle.files.specs.Laws.Whole.{With, with-is, with-only, free-is, give-block, with-same, part-out}
 use Rattle.files.specs.Map.{isFree, freeAt, freeCount}
 use Rattle.files.specs.Model.{NamedFile, Line, entryFrom, lineBlocks, dirBlocks, usable, freeWord, slotOf, bytesOf, dirByte, content, named, wrap}
 use Rattle.files.specs.Sizes.{blockBytes, slotBytes, blockSlots}
-use Rattle.files.specs.Written.{headerByte, storedByte, part, blocksFor, zeros, setBlock, setRecord, setSlot, setEnd, place}
+use Rattle.files.specs.Written.{headerByte, storedByte, part, blocksFor, zeros, setBlock, setRecord, setSlot, setEnd, giveBlocks}
 
 -- ---- blocks placed on the disk are given in the model
 
@@ -47,12 +47,12 @@ picks-inside p i [] z t = tt
 picks-inside p i (b ∷ bs) z t =
     (by-equal b 0 (λ q. true≢false (p b) (t .2) (ap p q ∙ z)) (λ q. omega arith), t .1, picks-inside p (suc b) bs z (t .3))
 
-pub place-step : (bs : List ℕ) (d : Disk) (h : ℕ → ℕ) (owner : ℕ → Record) (c : Record → ℕ → ℕ) (f s : ℕ) (g : ℕ → ℕ) → Inside bs
-    → ((t o : ℕ) → s ≤ t → o < blockBytes → part g t o ≡ c (File f t) o) → Painted d h owner c → Painted (place d f g s bs) h (give owner f s bs) c
-unfolding place give
-place-step [] d h owner c f s g w e p = p
-place-step (b ∷ bs) d h owner c f s g w e p =
-    place-step bs (setRecord (setBlock d b (part g s)) b (File f s)) h (upd owner b (File f s)) c f (suc s) g (w .2)
+pub give-step : (bs : List ℕ) (d : Disk) (h : ℕ → ℕ) (owner : ℕ → Record) (c : Record → ℕ → ℕ) (f s : ℕ) (g : ℕ → ℕ) → Inside bs
+    → ((t o : ℕ) → s ≤ t → o < blockBytes → part g t o ≡ c (File f t) o) → With d h owner c → With (giveBlocks d f g s bs) h (give owner f s bs) c
+unfolding giveBlocks give
+give-step [] d h owner c f s g w e p = p
+give-step (b ∷ bs) d h owner c f s g w e p =
+    give-step bs (setRecord (setBlock d b (part g s)) b (File f s)) h (upd owner b (File f s)) c f (suc s) g (w .2)
     (λ t o q l. e t o (omega arith) l)
     (give-block d h owner c p b (File f s) (part g s) (w .0) (w .1) (λ o l. e s o (omega arith) l) (λ o l. part-out g s o l))
 
@@ -387,10 +387,10 @@ module _ (m : Inner) (v : Inv m) (x : NamedFile) (right : (1 ≤ length (x .name
   abbrev d₀ : Disk
   d₀ = render m
 
-  start : Painted d₀ (header m) (m .owner) (content (m .lines) L′)
+  start : With d₀ (header m) (m .owner) (content (m .lines) L′)
   unfolding render
   start =
-      repaint d₀ (header m) (m .owner) (content (m .lines) (m .lines)) (painted (header m) (m .owner) (content (m .lines) (m .lines)))
+      with-same d₀ (header m) (m .owner) (content (m .lines) (m .lines)) (with-is (header m) (m .owner) (content (m .lines) (m .lines)))
       (header m) (m .owner) (content (m .lines) L′) (λ o l. refl) (λ b l. refl)
       (λ b o i j l. other-file (m .lines) (m .lines) L′ (m .owner b) o
       (λ f s e. sym (upd-other (m .lines) kk (some x) f
@@ -406,7 +406,7 @@ module _ (m : Inner) (v : Inv m) (x : NamedFile) (right : (1 ≤ length (x .name
   abbrev d₁ : Disk
   d₁ = growDir d₀ kk
 
-  grown : Painted d₁ (header m) owner₁ (content (m .lines) L′)
+  grown : With d₁ (header m) owner₁ (content (m .lines) L′)
   unfolding growDir growOwner
   grown =
       by-growth m v
@@ -414,34 +414,34 @@ module _ (m : Inner) (v : Inv m) (x : NamedFile) (right : (1 ≤ length (x .name
       let same-first : firsts blocks 1 (freeAt d₀) ≡ first =
       firsts-cong blocks 1 (freeAt d₀) (freeOf (m .owner))
       (λ j l. unfold freeOf in free-is d₀ (header m) (m .owner) (content (m .lines) L′) start (v .own .own-valid) j l) in
-      let p : Painted (place d₀ 0 zeros (dirBlocks (m .peak)) first) (header m) (give (m .owner) 0 (dirBlocks (m .peak)) first) (content (m .lines) L′) =
-      place-step first d₀ (header m) (m .owner) (content (m .lines) L′) 0 (dirBlocks (m .peak)) zeros
+      let p : With (giveBlocks d₀ 0 zeros (dirBlocks (m .peak)) first) (header m) (give (m .owner) 0 (dirBlocks (m .peak)) first) (content (m .lines) L′) =
+      give-step first d₀ (header m) (m .owner) (content (m .lines) L′) 0 (dirBlocks (m .peak)) zeros
       (picks-inside (freeOf (m .owner)) 0 first owner-free (firsts-picks blocks 1 (freeOf (m .owner)))) new-dir start in
-      let dd : d₁ ≡ place d₀ 0 zeros (dirBlocks (m .peak)) first =
-      cond-true _ _ (grows-is m v ∙ t) ∙ ap₂ (λ (s : ℕ) (bs : List ℕ). place d₀ 0 zeros s bs) q same-first in
+      let dd : d₁ ≡ giveBlocks d₀ 0 zeros (dirBlocks (m .peak)) first =
+      cond-true _ _ (grows-is m v ∙ t) ∙ ap₂ (λ (s : ℕ) (bs : List ℕ). giveBlocks d₀ 0 zeros s bs) q same-first in
       let oo : owner₁ ≡ give (m .owner) 0 (dirBlocks (m .peak)) first = cond-true _ _ t in
-      subst (λ (z : Disk). Painted z (header m) owner₁ (content (m .lines) L′)) (sym dd)
-      (subst (λ (z : ℕ → Record). Painted (place d₀ 0 zeros (dirBlocks (m .peak)) first) (header m) z (content (m .lines) L′)) (sym oo) p))
+      subst (λ (z : Disk). With z (header m) owner₁ (content (m .lines) L′)) (sym dd)
+      (subst (λ (z : ℕ → Record). With (giveBlocks d₀ 0 zeros (dirBlocks (m .peak)) first) (header m) z (content (m .lines) L′)) (sym oo) p))
       (λ t r.
       let dd : d₁ ≡ d₀ = cond-false _ _ (grows-is m v ∙ t) in
       let oo : owner₁ ≡ m .owner = cond-false _ _ t in
-      subst (λ (z : Disk). Painted z (header m) owner₁ (content (m .lines) L′)) (sym dd)
-      (subst (λ (z : ℕ → Record). Painted d₀ (header m) z (content (m .lines) L′)) (sym oo) start))
+      subst (λ (z : Disk). With z (header m) owner₁ (content (m .lines) L′)) (sym dd)
+      (subst (λ (z : ℕ → Record). With d₀ (header m) z (content (m .lines) L′)) (sym oo) start))
 
   abbrev stored : ℕ → ℕ
   stored = storedByte (entryFor (x .name) (x .date) (length (x .content))) (x .content)
 
   abbrev d₂ : Disk
-  d₂ = place d₁ kk stored 0 (firsts blocks n (freeAt d₁))
+  d₂ = giveBlocks d₁ kk stored 0 (firsts blocks n (freeAt d₁))
 
-  filled : Painted d₂ (header m) (give owner₁ kk 0 rest) (content (m .lines) L′)
+  filled : With d₂ (header m) (give owner₁ kk 0 rest) (content (m .lines) L′)
   unfolding bytesOf
   filled =
       let same-rest : firsts blocks n (freeAt d₁) ≡ rest =
       firsts-cong blocks n (freeAt d₁) (freeOf owner₁)
       (λ j l. unfold freeOf in free-is d₁ (header m) owner₁ (content (m .lines) L′) grown (owned₁ .own-valid) j l) in
-      subst (λ (bs : List ℕ). Painted (place d₁ kk stored 0 bs) (header m) (give owner₁ kk 0 rest) (content (m .lines) L′)) (sym same-rest)
-      (place-step rest d₁ (header m) owner₁ (content (m .lines) L′) kk 0 stored
+      subst (λ (bs : List ℕ). With (giveBlocks d₁ kk stored 0 bs) (header m) (give owner₁ kk 0 rest) (content (m .lines) L′)) (sym same-rest)
+      (give-step rest d₁ (header m) owner₁ (content (m .lines) L′) kk 0 stored
       (picks-inside (freeOf owner₁) 0 rest owner₁-free (firsts-picks blocks n (freeOf owner₁)))
       (λ t o h l. sym (file-content (m .lines) L′ kk t o (k-pos m v) ∙ ap (λ (y : Line). part (bytesOf y) t o) (upd-same (m .lines) kk (some x) kk refl)))
       grown)
@@ -456,14 +456,14 @@ module _ (m : Inner) (v : Inv m) (x : NamedFile) (right : (1 ≤ length (x .name
   unfolding partsOf addAtM dirBlocks
   in-dir = omega (arith, k-in)
 
-  slotted : Painted d₃ (header m) (m′ .owner) (content L′ L′)
+  slotted : With d₃ (header m) (m′ .owner) (content L′ L′)
   unfolding addAtM slotOf
   slotted = slot-step d₂ (header m) (m′ .owner) (partsOf m′) owned₂ (m .lines) L′ filled kk (some x) entry (λ i l. refl) in-dir
 
   abbrev d₄ : Disk
   d₄ = endAfter kk (dirEnd d₀) d₃
 
-  ended : Painted d₄ (headerByte (m .title) (m .number) (m .updates) (freeWord (m .peak) (fileBlocks m)) (suc (peakAfter m))) (m′ .owner) (content L′ L′)
+  ended : With d₄ (headerByte (m .title) (m .number) (m .updates) (freeWord (m .peak) (fileBlocks m)) (suc (peakAfter m))) (m′ .owner) (content L′ L′)
   unfolding endAfter header
   ended =
       let w : ℕ = freeWord (m .peak) (fileBlocks m) in
@@ -471,14 +471,14 @@ module _ (m : Inner) (v : Inv m) (x : NamedFile) (right : (1 ≤ length (x .name
       (λ h.
       let e : suc (m .peak) ≡ suc (peakAfter m) = ap suc (sym (peak-same m v (omega arith))) in
       let dd : d₄ ≡ d₃ = cond-false _ _ (eq-false {a = kk} {b = dirEnd d₀} (omega (arith, dirEnd-is m v))) in
-      subst (λ (z : Disk). Painted z (headerByte (m .title) (m .number) (m .updates) w (suc (peakAfter m))) (m′ .owner) (content L′ L′)) (sym dd)
-      (subst (λ (z : ℕ). Painted d₃ (headerByte (m .title) (m .number) (m .updates) w z) (m′ .owner) (content L′ L′)) e slotted))
+      subst (λ (z : Disk). With z (headerByte (m .title) (m .number) (m .updates) w (suc (peakAfter m))) (m′ .owner) (content L′ L′)) (sym dd)
+      (subst (λ (z : ℕ). With d₃ (headerByte (m .title) (m .number) (m .updates) w z) (m′ .owner) (content L′ L′)) e slotted))
       (λ h.
       let k₁ : kk ≡ suc (m .peak) = omega (arith, k-le m v) in
       let e : suc kk ≡ suc (peakAfter m) = ap suc (k₁ ∙ sym (peak-more m v k₁)) in
       let dd : d₄ ≡ setEnd d₃ (suc kk) = cond-true _ _ (eq-true {a = kk} {b = dirEnd d₀} (omega (arith, dirEnd-is m v))) in
-      subst (λ (z : Disk). Painted z (headerByte (m .title) (m .number) (m .updates) w (suc (peakAfter m))) (m′ .owner) (content L′ L′)) (sym dd)
-      (subst (λ (z : ℕ). Painted (setEnd d₃ (suc kk)) (headerByte (m .title) (m .number) (m .updates) w z) (m′ .owner) (content L′ L′)) e
+      subst (λ (z : Disk). With z (headerByte (m .title) (m .number) (m .updates) w (suc (peakAfter m))) (m′ .owner) (content L′ L′)) (sym dd)
+      (subst (λ (z : ℕ). With (setEnd d₃ (suc kk)) (headerByte (m .title) (m .number) (m .updates) w z) (m′ .owner) (content L′ L′)) e
       (end-step (m .title) (m .number) (m .updates) w (suc (m .peak)) (m′ .owner) (content L′ L′) d₃ slotted (suc kk))))
 
   pub add-image : addAt (render m) kk (entryFrom x) (x .content) ≡ render m′
@@ -486,8 +486,8 @@ module _ (m : Inner) (v : Inv m) (x : NamedFile) (right : (1 ≤ length (x .name
   add-image =
       let w : 3 * count blocks (freeOf (m′ .owner)) ≡ freeWord (peakAfter m) (fileBlocks m′) = unfold freeWord in omega (arith, add-inv .free-sum) in
       let p = finish (m .title) (m .number) (m .updates) (freeWord (m .peak) (fileBlocks m)) (suc (peakAfter m)) (m′ .owner) (content L′ L′) d₄ ended (owned₂ .own-valid) (v .updates-fit) in
-      painted-is (header m′) (m′ .owner) (content L′ L′) (addAt (render m) kk (entryFrom x) (x .content))
-      (subst (λ (y : ℕ). Painted (addAt (render m) kk (entryFrom x) (x .content))
+      with-only (header m′) (m′ .owner) (content L′ L′) (addAt (render m) kk (entryFrom x) (x .content))
+      (subst (λ (y : ℕ). With (addAt (render m) kk (entryFrom x) (x .content))
       (headerByte (m .title) (m .number) (wrap (m .updates + 1)) y (suc (peakAfter m))) (m′ .owner) (content L′ L′)) w p)
 
   pub present-add : present m′ ≡ suc (present m)

@@ -25,7 +25,7 @@ use Rattle.files.specs.Laws.Inner.{Inner, present, fileBlocks, header, r
 use Rattle.files.specs.Laws.Invariant.{partsOf, Inv}
 use Rattle.files.specs.Laws.Listed.{blocksOf, withOwner, Listed, owner-is, give-listed, freed-listed, listed-cong}
 use Rattle.files.specs.Laws.Names.{name-bounds}
-use Rattle.files.specs.Laws.Paint.{painted, painted-is, repaint, unowned}
+use Rattle.files.specs.Laws.Whole.{with-is, with-only, with-same, unowned}
 use Rattle.files.specs.Laws.Remove.{parts-other, parts-gone}
 use Rattle.files.specs.Laws.Run.{step-inv}
 use Rattle.files.specs.Map.{isFree}
@@ -80,8 +80,8 @@ module _ (b : Model) (o : ℕ → Record) (v : Inv (withOwner b o)) (r : Listed 
   unfolding render modelDisk modelHeader sizeIn withOwner header fileBlocks
   image-same =
       let c = content (m .lines) (m .lines) in
-      painted-is (header m) (recordIn (b .lines) (b .dir) (b .peak)) c (render m)
-      (repaint (render m) (header m) o c (painted (header m) o c) (header m) (recordIn (b .lines) (b .dir) (b .peak)) c (λ i l. refl) owner-same (λ x i p l q. refl))
+      with-only (header m) (recordIn (b .lines) (b .dir) (b .peak)) c (render m)
+      (with-same (render m) (header m) o c (with-is (header m) o c) (header m) (recordIn (b .lines) (b .dir) (b .peak)) c (λ i l. refl) owner-same (λ x i p l q. refl))
 
   -- a reply looks at the lines alone
   pub out-same : (c : Call) → outM m c ≡ modelOut b c
@@ -259,11 +259,11 @@ peak-same : (b : Model) (o : ℕ → Record) → withOwner b o .peak ≡ b .peak
 unfolding withOwner
 peak-same b o = refl
 
-pub books : (cs : List Call) (b : Model) (o : ℕ → Record) → Inv (withOwner b o) → Listed (b .lines) (b .dir) o (partsOf (withOwner b o))
+pub agree : (cs : List Call) (b : Model) (o : ℕ → Record) → Inv (withOwner b o) → Listed (b .lines) (b .dir) o (partsOf (withOwner b o))
     → (outsM (withOwner b o) cs ≡ modelOuts b cs) × (render (endM (withOwner b o) cs) ≡ modelDisk (modelEnd b cs)) × (endM (withOwner b o) cs .peak ≡ modelEnd b cs .peak)
 unfolding outsM modelOuts endM modelEnd
-books [] b o v r = (refl, image-same b o v r, peak-same b o)
-books (c ∷ cs) b o v r =
+agree [] b o v r = (refl, image-same b o v r, peak-same b o)
+agree (c ∷ cs) b o v r =
     let m : Inner = withOwner b o in
     let w : (o′ : ℕ → Record) × (stepM m c ≡ withOwner (modelStep b c) o′) × Listed (modelStep b c .lines) (modelStep b c .dir) o′ (partsOf (stepM m c)) = next b o v r c in
     let v′ : Inv (withOwner (modelStep b c) (w .0)) = subst Inv (w .1) (step-inv m v c) in
@@ -271,7 +271,7 @@ books (c ∷ cs) b o v r =
     subst (λ (z : Inner). Listed (modelStep b c .lines) (modelStep b c .dir) (w .0) (partsOf z)) (w .1) (w .2) in
     let ih : (outsM (withOwner (modelStep b c) (w .0)) cs ≡ modelOuts (modelStep b c) cs)
     × (render (endM (withOwner (modelStep b c) (w .0)) cs) ≡ modelDisk (modelEnd (modelStep b c) cs))
-    × (endM (withOwner (modelStep b c) (w .0)) cs .peak ≡ modelEnd (modelStep b c) cs .peak) = books cs (modelStep b c) (w .0) v′ r′ in (
+    × (endM (withOwner (modelStep b c) (w .0)) cs .peak ≡ modelEnd (modelStep b c) cs .peak) = agree cs (modelStep b c) (w .0) v′ r′ in (
       ap₂ (λ (x : Outcome) (xs : List Outcome). x ∷ xs) (out-same b o v r c) (ap (λ (z : Inner). outsM z cs) (w .1) ∙ ih .0),
       ap (λ (z : Inner). render (endM z cs)) (w .1) ∙ ih .1,
       ap (λ (z : Inner). endM z cs .peak) (w .1) ∙ ih .2,

@@ -31,7 +31,7 @@ use Rattle.files.specs.Directory.{nameEq, nameRight, entryOf, entryByte,
 use Rattle.files.specs.Disk.{Disk}
 use Rattle.files.specs.Laws.Inner.{Inner, fileBlocks, header, render, findM, emptyLine, freeOf, listM, readM}
 use Rattle.files.specs.Laws.Invariant.{partsOf, Inv}
-use Rattle.files.specs.Laws.Paint.{Valid, Painted, painted, record-is, freeCount-is, partBlock-is}
+use Rattle.files.specs.Laws.Whole.{Valid, With, with-is, record-is, freeCount-is, partBlock-is}
 use Rattle.files.specs.Map.{recordAt, isSystem, isOther, bears, isPart, within, freeCount, partBlock, fileByte}
 use Rattle.files.specs.Model.{NamedFile, Line, lineBlocks, dirBlocks, usable, freeWord, slotOf, bytesOf, dirByte, content, named, lineEntry, lineEntries, lineData}
 use Rattle.files.specs.Sizes.{blockBytes, slotBytes, blockSlots, slotCount, mapStart, nameMost}
@@ -129,9 +129,9 @@ module _ (m : Inner) (v : Inv m) where
   abbrev d : Disk
   d = render m
 
-  P : Painted d (header m) (m .owner) (content (m .lines) (m .lines))
+  P : With d (header m) (m .owner) (content (m .lines) (m .lines))
   unfolding render
-  P = painted (header m) (m .owner) (content (m .lines) (m .lines))
+  P = with-is (header m) (m .owner) (content (m .lines) (m .lines))
 
   pub rec : (b : ℕ) → b < blocks → recordAt d b ≡ m .owner b
   rec b h = record-is d (header m) (m .owner) (content (m .lines) (m .lines)) P b h (v .own .own-valid b h)

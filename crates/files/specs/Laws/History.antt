@@ -21,7 +21,7 @@ use Rattle.files.specs.Directory.{nameEq, nameRight, held, dirEnd}
 use Rattle.files.specs.Disk.{Disk, diskOf, imageOf}
 use Rattle.files.specs.Histories.{Call, imageOut, imageOuts, imageEnd, modelOuts, modelEnd, filesLeft, mostPresent, sizeOf, fileNamed, Present, toAdd, toRead}
 use Rattle.files.specs.History.{dataFound, HasEntry, Belongs, Holds, formatted, History}
-use Rattle.files.specs.Laws.Agree.{books, fresh-listed, start-is}
+use Rattle.files.specs.Laws.Agree.{agree, fresh-listed, start-is}
 use Rattle.files.specs.Laws.Disk.{length-image}
 use Rattle.files.specs.Laws.Facts.{dirEnd-is, word20, held-is, found-line}
 use Rattle.files.specs.Laws.Inner.{Inner, present, fileBlocks, render, emptyLines, formatM, findM, readM, ChangedM, refusedM, peakAfter, roomFor, addM, outM, outsM, endM}
@@ -153,7 +153,7 @@ module _ (title : List ℕ) (number : ℕ) (calls : List Call) where
       subst (λ (z : Inner). Listed (b₀ .lines) (b₀ .dir) freshOwner (partsOf z)) e (fresh-listed title number) in
       let h : (outsM (withOwner b₀ freshOwner) calls ≡ modelOuts b₀ calls)
       × (render (endM (withOwner b₀ freshOwner) calls) ≡ modelDisk (modelEnd b₀ calls))
-      × (endM (withOwner b₀ freshOwner) calls .peak ≡ modelEnd b₀ calls .peak) = books calls b₀ freshOwner w l in (
+      × (endM (withOwner b₀ freshOwner) calls .peak ≡ modelEnd b₀ calls .peak) = agree calls b₀ freshOwner w l in (
         ap (λ (z : Inner). outsM z calls) e ∙ h .0,
         ap (λ (z : Inner). render (endM z calls)) e ∙ h .1,
         ap (λ (z : Inner). endM z calls .peak) e ∙ h .2,

@@ -1,4 +1,4 @@
--- The inner model, a stepping stone: lines without blocks, and for each block what it is given to.
+-- The inner model, which the proofs alone use: lines without their blocks, and for each block the record that it has.
 -- Assumes nothing.
 use mathlib.Core.Bool.{Bool, not, cond, _&&_}
 use mathlib.Core.List.{List, [], _∷_}
@@ -20,10 +20,10 @@ use Rattle.files.specs.Calls.{Outcome, kept, freshOwner, deliver}
 use Rattle.files.specs.Directory.{nameRight}
 use Rattle.files.specs.Disk.{Disk}
 use Rattle.files.specs.Histories.{Call, toAdd, toRemove, toList, toRead}
-use Rattle.files.specs.Laws.Paint.{unowned}
+use Rattle.files.specs.Laws.Whole.{unowned}
 use Rattle.files.specs.Map.{isFree}
 use Rattle.files.specs.Model.{NamedFile, Line, lineBlocks, dirBlocks, usable, freeWord, content, named, lineEntries, lineData, wrap}
-use Rattle.files.specs.Written.{headerByte, paint, blocksFor}
+use Rattle.files.specs.Written.{headerByte, diskWith, blocksFor}
 
 pub record Inner : Type 0 where
   -- given at format
@@ -53,7 +53,7 @@ unfoldable pub header : Inner → ℕ → ℕ
 header m = headerByte (m .title) (m .number) (m .updates) (freeWord (m .peak) (fileBlocks m)) (suc (m .peak))
 
 unfoldable pub render : Inner → Disk
-render m = paint (header m) (m .owner) (content (m .lines) (m .lines))
+render m = diskWith (header m) (m .owner) (content (m .lines) (m .lines))
 
 -- ---- the steps
 

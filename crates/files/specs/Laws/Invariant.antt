@@ -11,7 +11,7 @@ use Rattle.files.specs.declared.Record.{Record}
 use Rattle.files.specs.declared.Record.the-variants.{System, File}
 use Rattle.files.specs.Directory.{nameEq}
 use Rattle.files.specs.Laws.Inner.{Inner, fileBlocks, freeOf}
-use Rattle.files.specs.Laws.Paint.{Valid}
+use Rattle.files.specs.Laws.Whole.{Valid}
 use Rattle.files.specs.Model.{NamedFile, lineBlocks, dirBlocks, usable}
 
 -- how many blocks file f has

@@ -18,7 +18,7 @@ use Rattle.files.specs.Disk.{Disk}
 use Rattle.files.specs.Laws.Facts.{isPart-true, true-isPart}
 use Rattle.files.specs.Laws.Inner.{freeOf}
 use Rattle.files.specs.Laws.Invariant.{Owned}
-use Rattle.files.specs.Laws.Paint.{Valid, Painted, freeCount-is, partBlock-is, write-head, write-block, repaint}
+use Rattle.files.specs.Laws.Whole.{Valid, With, freeCount-is, partBlock-is, write-head, write-block, with-same}
 use Rattle.files.specs.Map.{isSystem, isPart, freeCount, partBlock}
 use Rattle.files.specs.Model.{Line, slotOf, dirByte, content, wrap}
 use Rattle.files.specs.Sizes.{blockBytes, slotBytes, blockSlots}
@@ -84,53 +84,53 @@ wrap-bytes u (suc (suc (suc i))) h = let e : 8 * (4 - (suc (suc (suc i)) + 1)) �
 -- ---- the free word and the update count
 
 module _ (title : List ℕ) (number u w e : ℕ) (owner : ℕ → Record) (c : Record → ℕ → ℕ) (d : Disk)
-    (p : Painted d (headerByte title number u w e) owner c) where
-  pub free-step : ((b : ℕ) → b < blocks → Valid (owner b)) → Painted (setFree d) (headerByte title number u (3 * count blocks (freeOf owner)) e) owner c
+    (p : With d (headerByte title number u w e) owner c) where
+  pub free-step : ((b : ℕ) → b < blocks → Valid (owner b)) → With (setFree d) (headerByte title number u (3 * count blocks (freeOf owner)) e) owner c
   unfolding setFree setWord freeOf
   free-step v =
       let n : freeCount d ≡ count blocks (freeOf owner) = freeCount-is d (headerByte title number u w e) owner c p v in
-      subst (λ (k : ℕ). Painted (upd d 0 (patch (d 0) 20 2 (highByte 2 (3 * k)))) (headerByte title number u (3 * count blocks (freeOf owner)) e) owner c) (sym n)
-      (repaint (upd d 0 (patch (d 0) 20 2 (highByte 2 (3 * count blocks (freeOf owner)))))
+      subst (λ (k : ℕ). With (upd d 0 (patch (d 0) 20 2 (highByte 2 (3 * k)))) (headerByte title number u (3 * count blocks (freeOf owner)) e) owner c) (sym n)
+      (with-same (upd d 0 (patch (d 0) 20 2 (highByte 2 (3 * count blocks (freeOf owner)))))
       (patch (headerByte title number u w e) 20 2 (highByte 2 (3 * count blocks (freeOf owner)))) owner c
       (write-head d (headerByte title number u w e) owner c p 20 2 (highByte 2 (3 * count blocks (freeOf owner))) (omega arith))
       (headerByte title number u (3 * count blocks (freeOf owner)) e) owner c
       (λ o k. set-free-word title number u w (3 * count blocks (freeOf owner)) e o) (λ b k. refl) (λ b o i j k. refl))
 
-  pub end-step : (e′ : ℕ) → Painted (setEnd d e′) (headerByte title number u w e′) owner c
+  pub end-step : (e′ : ℕ) → With (setEnd d e′) (headerByte title number u w e′) owner c
   unfolding setEnd setWord
   end-step e′ =
       let h : ℕ → ℕ = headerByte title number u w e in
       let a : ℕ → ℕ = highByte 2 (e′ * slotBytes / blockBytes) in
       let b : ℕ → ℕ = highByte 2 (e′ * slotBytes % blockBytes) in
       let d₁ : Disk = upd d 0 (patch (d 0) 34 2 a) in
-      repaint (upd d₁ 0 (patch (d₁ 0) 36 2 b)) (patch (patch h 34 2 a) 36 2 b) owner c
+      with-same (upd d₁ 0 (patch (d₁ 0) 36 2 b)) (patch (patch h 34 2 a) 36 2 b) owner c
       (write-head d₁ (patch h 34 2 a) owner c (write-head d h owner c p 34 2 a (omega arith)) 36 2 b (omega arith))
       (headerByte title number u w e′) owner c
       (λ o k. set-end title number u w e e′ o) (λ x k. refl) (λ x o i j k. refl)
 
-  pub update-step : u < 4294967296 → Painted (stepUpdate d) (headerByte title number (wrap (u + 1)) w e) owner c
+  pub update-step : u < 4294967296 → With (stepUpdate d) (headerByte title number (wrap (u + 1)) w e) owner c
   unfolding stepUpdate at32
   update-step small =
       let h : ℕ → ℕ = headerByte title number u w e in
       let n : at32 (d 0) 16 ≡ u = rw (p .head 16 (omega arith), p .head 17 (omega arith), p .head 18 (omega arith), p .head 19 (omega arith)) (updates-at title number u w e small) in
       let g : highByte 4 (u + 1) ≡ highByte 4 (wrap (u + 1)) = fun-ext (λ (i : ℕ). wrap-bytes u i small) in
-      subst (λ (f : ℕ → ℕ). Painted (upd d 0 (patch (d 0) 16 4 f)) (headerByte title number (wrap (u + 1)) w e) owner c)
+      subst (λ (f : ℕ → ℕ). With (upd d 0 (patch (d 0) 16 4 f)) (headerByte title number (wrap (u + 1)) w e) owner c)
       (sym (ap (λ (k : ℕ). highByte 4 (k + 1)) n ∙ g))
-      (repaint (upd d 0 (patch (d 0) 16 4 (highByte 4 (wrap (u + 1))))) (patch h 16 4 (highByte 4 (wrap (u + 1)))) owner c
+      (with-same (upd d 0 (patch (d 0) 16 4 (highByte 4 (wrap (u + 1))))) (patch h 16 4 (highByte 4 (wrap (u + 1)))) owner c
       (write-head d h owner c p 16 4 (highByte 4 (wrap (u + 1))) (omega arith))
       (headerByte title number (wrap (u + 1)) w e) owner c
       (λ o k. set-updates title number u (wrap (u + 1)) w e o) (λ b k. refl) (λ b o i j k. refl))
 
 pub finish : (title : List ℕ) (number u w e : ℕ) (owner : ℕ → Record) (c : Record → ℕ → ℕ) (d : Disk)
-    → Painted d (headerByte title number u w e) owner c → ((b : ℕ) → b < blocks → Valid (owner b)) → u < 4294967296
-    → Painted (stepUpdate (setFree d)) (headerByte title number (wrap (u + 1)) (3 * count blocks (freeOf owner)) e) owner c
+    → With d (headerByte title number u w e) owner c → ((b : ℕ) → b < blocks → Valid (owner b)) → u < 4294967296
+    → With (stepUpdate (setFree d)) (headerByte title number (wrap (u + 1)) (3 * count blocks (freeOf owner)) e) owner c
 finish title number u w e owner c d p v small =
     update-step title number u (3 * count blocks (freeOf owner)) e owner c (setFree d) (free-step title number u w e owner c d p v) small
 
 -- ---- a slot is written
 
 module _ (d : Disk) (h : ℕ → ℕ) (owner : ℕ → Record) (parts : ℕ → ℕ) (v : Owned owner parts) (L F : ℕ → Line)
-    (p : Painted d h owner (content L F)) where
+    (p : With d h owner (content L F)) where
   pub owned-block : (b f s : ℕ) → b < blocks → owner b ≡ File f s → partBlock d f s ≡ b
   owned-block b f s l e =
       partBlock-is d h owner (content L F) p (v .own-valid) f s
@@ -178,13 +178,13 @@ module _ (d : Disk) (h : ℕ → ℕ) (owner : ℕ → Record) (parts : ℕ → 
     other-content (File zero s) o q l = other-block s o (λ z. q (ap (File 0) z)) l
     other-content (File (suc f) s) o q l = refl
 
-    pub slot-step : Painted (setSlot d k e) h owner (content L′ F)
+    pub slot-step : With (setSlot d k e) h owner (content L′ F)
     unfolding setSlot content
     slot-step =
         let w : (b : ℕ) × (b < blocks) × (owner b ≡ File 0 (k / blockSlots)) = v .own-part 0 (k / blockSlots) inDir in
         let nz : w .0 ≢ 0 = owned-not-zero (w .0) 0 (k / blockSlots) (w .2) in
         let g : ℕ → ℕ = patch (d (w .0)) (k % blockSlots * slotBytes) 64 e in
-        subst (λ (b : ℕ). Painted (upd d b (patch (d b) (k % blockSlots * slotBytes) 64 e)) h owner (content L′ F)) (sym (owned-block (w .0) 0 (k / blockSlots) (w .1) (w .2)))
+        subst (λ (b : ℕ). With (upd d b (patch (d b) (k % blockSlots * slotBytes) 64 e)) h owner (content L′ F)) (sym (owned-block (w .0) 0 (k / blockSlots) (w .1) (w .2)))
         (write-block d h owner (content L F) p (content L′ F) (w .0) g (omega arith) (w .1)
         (λ o l.
         patch-cong (d (w .0)) (λ (i : ℕ). dirByte L (k / blockSlots) i) (k % blockSlots * slotBytes) 64 e o

@@ -21,7 +21,7 @@ use Rattle.files.specs.declared.Record.the-variants.{Free, System, File,
 use Rattle.files.specs.Laws.Inner.{Inner, give, freeOf}
 use Rattle.files.specs.Laws.Invariant.{Owned}
 use Rattle.files.specs.Laws.Owners.{keeps, still-free}
-use Rattle.files.specs.Laws.Paint.{Valid, unowned}
+use Rattle.files.specs.Laws.Whole.{Valid, unowned}
 use Rattle.files.specs.Map.{isFree}
 use Rattle.files.specs.Model.{Filled, Model, fileOf, takenBy, position, orRecord, lineRecord, recordIn}
 

@@ -20,7 +20,7 @@ use Rattle.files.specs.declared.Record.the-variants.{Free, System, File,
 use Rattle.files.specs.Laws.Facts.{isPart-true, true-isPart}
 use Rattle.files.specs.Laws.Inner.{give, freeOf}
 use Rattle.files.specs.Laws.Invariant.{Owned}
-use Rattle.files.specs.Laws.Paint.{Valid, unowned}
+use Rattle.files.specs.Laws.Whole.{Valid, unowned}
 use Rattle.files.specs.Map.{isFree, isSystem, bears, isPart}
 
 -- ---- one record freed

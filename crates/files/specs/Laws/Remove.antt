@@ -17,10 +17,10 @@ use Rattle.files.specs.Laws.Inner.{Inner, present, fileBlocks, header, r
 use Rattle.files.specs.Laws.Invariant.{partsOf, Owned, Inv}
 use Rattle.files.specs.Laws.Last.{finish, slot-step}
 use Rattle.files.specs.Laws.Owners.{unowned-file, freed-count, freed-owned}
-use Rattle.files.specs.Laws.Paint.{Painted, painted, painted-is, repaint, unowned, release-all}
+use Rattle.files.specs.Laws.Whole.{With, with-is, with-only, with-same, unowned, free-all}
 use Rattle.files.specs.Model.{NamedFile, Line, lineBlocks, dirBlocks, freeWord, slotOf, bytesOf, content, wrap}
 use Rattle.files.specs.Sizes.{blockSlots}
-use Rattle.files.specs.Written.{headerByte, part, zeros, setSlot, release}
+use Rattle.files.specs.Written.{headerByte, part, zeros, setSlot, freeBlocks}
 
 -- a line that is not the one written
 pub kept-line : (L : ℕ → Line) (k : ℕ) (x y : Line) (j : ℕ) → upd L k y j ≡ x → (j ≢ k) → L j ≡ x
@@ -112,18 +112,18 @@ module _ (m : Inner) (v : Inv m) (k : ℕ) (pos : 0 < k) (low : k ≤ m .peak) w
   remove-image =
       let h : ℕ → ℕ = header m in
       let c : Record → ℕ → ℕ = content (m .lines) (m .lines) in
-      let p₀ : Painted (render m) h (m .owner) c = painted h (m .owner) c in
-      let d₁ : Disk = release blocks (render m) k in
-      let p₁ : Painted d₁ h own′ c = release-all h (m .owner) c k (v .own .own-valid) (v .own .own-zero) (λ o. unfold content in refl) (render m) p₀ in
+      let p₀ : With (render m) h (m .owner) c = with-is h (m .owner) c in
+      let d₁ : Disk = freeBlocks blocks (render m) k in
+      let p₁ : With d₁ h own′ c = free-all h (m .owner) c k (v .own .own-valid) (v .own .own-zero) (λ o. unfold content in refl) (render m) p₀ in
       let d₂ : Disk = setSlot d₁ k zeros in
-      let p₂ : Painted d₂ h own′ (content L′ (m .lines)) =
+      let p₂ : With d₂ h own′ (content L′ (m .lines)) =
       slot-step d₁ h own′ (partsOf m′) owned (m .lines) (m .lines) p₁ k none zeros (λ i l. unfold zeros slotOf in refl) in-dir in
-      let p₃ : Painted d₂ h own′ (content L′ L′) =
-      repaint d₂ h own′ (content L′ (m .lines)) p₂ h own′ (content L′ L′) (λ o l. refl) (λ b l. refl) (λ b o i j l. file-lines b o j) in
+      let p₃ : With d₂ h own′ (content L′ L′) =
+      with-same d₂ h own′ (content L′ (m .lines)) p₂ h own′ (content L′ L′) (λ o l. refl) (λ b l. refl) (λ b o i j l. file-lines b o j) in
       let w : 3 * count blocks (freeOf own′) ≡ freeWord (m .peak) (fileBlocks m′) = unfold freeWord in omega (arith, remove-inv .free-sum) in
       let p₄ = finish (m .title) (m .number) (m .updates) (freeWord (m .peak) (fileBlocks m)) (suc (m .peak)) own′ (content L′ L′) d₂ p₃ (owned .own-valid) (v .updates-fit) in
-      painted-is (header m′) own′ (content L′ L′) (removeAt (render m) k)
-      (subst (λ (x : ℕ). Painted (removeAt (render m) k) (headerByte (m .title) (m .number) (wrap (m .updates + 1)) x (suc (m .peak))) own′ (content L′ L′)) w p₄)
+      with-only (header m′) own′ (content L′ L′) (removeAt (render m) k)
+      (subst (λ (x : ℕ). With (removeAt (render m) k) (headerByte (m .title) (m .number) (wrap (m .updates + 1)) x (suc (m .peak))) own′ (content L′ L′)) w p₄)
 
   pub present-remove : (x : NamedFile) → m .lines k ≡ some x → present m ≡ suc (present m′)
   unfolding present removeAtM isSome

@@ -26,7 +26,7 @@ use Rattle.files.specs.Laws.Facts.{dirEnd-is, findName-is, vacantSlot-is
 use Rattle.files.specs.Laws.Inner.{Inner, fileBlocks, header, render, emptyLines, formatM, findM, emptyLine, freeOf, ChangedM, refusedM, removeAtM, removeM, addAtM, roomFor, addM, stepM, outM, outsM, endM}
 use Rattle.files.specs.Laws.Invariant.{partsOf, Inv}
 use Rattle.files.specs.Laws.Names.{name-bounds}
-use Rattle.files.specs.Laws.Paint.{Valid, painted, painted-is, repaint}
+use Rattle.files.specs.Laws.Whole.{Valid, with-is, with-only, with-same}
 use Rattle.files.specs.Laws.Remove.{remove-inv, remove-image}
 use Rattle.files.specs.Map.{isFree, isSystem}
 use Rattle.files.specs.Model.{NamedFile, lineBlocks, dirBlocks, freeWord, slotOf, bytesOf, dirByte, content}
@@ -46,9 +46,9 @@ blank (File (suc f) s) o = by-test (ltb o blockBytes) (λ t. cond-true _ _ t) (�
 pub format-is : (title : List ℕ) (number : ℕ) → formatDisk title number ≡ render (formatM title number)
 unfolding formatDisk render formatM header freeWord fileBlocks dirBlocks sum lineBlocks emptyLines
 format-is title number =
-    painted-is (headerByte title number 0 (blockSectors * (blocks - 2)) 1) freshOwner (content emptyLines emptyLines) (formatDisk title number)
-    (repaint (formatDisk title number) (headerByte title number 0 (blockSectors * (blocks - 2)) 1) freshOwner (λ (r : Record) (o : ℕ). 0)
-    (painted (headerByte title number 0 (blockSectors * (blocks - 2)) 1) freshOwner (λ (r : Record) (o : ℕ). 0))
+    with-only (headerByte title number 0 (blockSectors * (blocks - 2)) 1) freshOwner (content emptyLines emptyLines) (formatDisk title number)
+    (with-same (formatDisk title number) (headerByte title number 0 (blockSectors * (blocks - 2)) 1) freshOwner (λ (r : Record) (o : ℕ). 0)
+    (with-is (headerByte title number 0 (blockSectors * (blocks - 2)) 1) freshOwner (λ (r : Record) (o : ℕ). 0))
     (headerByte title number 0 (blockSectors * (blocks - 2)) 1) freshOwner (content emptyLines emptyLines)
     (λ o l. refl) (λ b l. refl) (λ b o i j l. sym (blank (freshOwner b) o)))
 
@@ -176,8 +176,8 @@ module _ (m : Inner) (v : Inv m) where
   pub img-disk : diskOf img ≡ render m
   unfolding render
   img-disk =
-      disk-image (render m) (painted (header m) (m .owner) (content (m .lines) (m .lines)) .far)
-      (painted (header m) (m .owner) (content (m .lines) (m .lines)) .out)
+      disk-image (render m) (with-is (header m) (m .owner) (content (m .lines) (m .lines)) .far)
+      (with-is (header m) (m .owner) (content (m .lines) (m .lines)) .out)
 
   add-image-is : (x : NamedFile) → add img (x .name) (x .date) (x .content) ≡ record { answer = addM m x .answer; image = imageOf (render (addM m x .model)) }
   unfolding add imaged disked

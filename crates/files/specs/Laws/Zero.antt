@@ -16,7 +16,7 @@ use Rattle.files.specs.History.{HasEntry, Belongs, inHead, inSlot, inFil
 use Rattle.files.specs.Laws.Facts.{parts-none, rec, entry-is}
 use Rattle.files.specs.Laws.Inner.{Inner, header, render}
 use Rattle.files.specs.Laws.Invariant.{Inv}
-use Rattle.files.specs.Laws.Paint.{Valid, painted}
+use Rattle.files.specs.Laws.Whole.{Valid, with-is}
 use Rattle.files.specs.Laws.Present.{Fills, fills-present}
 use Rattle.files.specs.Model.{NamedFile, Line, slotOf, bytesOf, dirByte, content}
 use Rattle.files.specs.Sizes.{blockBytes, slotBytes, blockSlots}
@@ -26,7 +26,7 @@ module _ (m : Inner) (b o : ℕ) (pos : 0 < b) (hb : b < blocks) (ho : o < block
   byte-at : (r : Record) → m .owner b ≡ r → render m b o ≡ content (m .lines) (m .lines) r o
   unfolding render
   byte-at r e =
-      painted (header m) (m .owner) (content (m .lines) (m .lines)) .block b o pos hb ho ∙ ap (λ (x : Record). content (m .lines) (m .lines) x o) e
+      with-is (header m) (m .owner) (content (m .lines) (m .lines)) .block b o pos hb ho ∙ ap (λ (x : Record). content (m .lines) (m .lines) x o) e
 
   -- a free block
   free-zero : m .owner b ≡ Free → render m b o ≡ 0
@@ -87,7 +87,7 @@ module _ (m : Inner) (v : Inv m) (fs : List NamedFile) (r : Fills (m .lines) fs)
   pub zero-outside : (b o : ℕ) → (Belongs d fs b o → ⊥) → render m b o ≡ 0
   unfolding render
   zero-outside b o not-in =
-      let P = painted (header m) (m .owner) (content (m .lines) (m .lines)) in
+      let P = with-is (header m) (m .owner) (content (m .lines) (m .lines)) in
       by-order b blocks
       (λ hb. by-order o blockBytes
       (λ ho. by-equal b 0

@@ -1,4 +1,4 @@
--- What is read of a disk that is `paint header owner content`, and which such disk the single steps leave.
+-- What is read of a disk that is given by its header, records and contents (`diskWith`), and which such disk the single steps leave.
 -- Assumes nothing.
 use mathlib.Core.Path.{_≡_, refl, sym, ap, ap₂, _∙_, subst, fun-ext}
 use mathlib.Core.Logic.{_≢_}
@@ -20,7 +20,7 @@ use Rattle.files.specs.Calls.{read}
 use Rattle.files.specs.Disk.{Disk}
 use Rattle.files.specs.Map.{decode, encode, recordAt, isFree, bears, isPart, freeAt, freeCount, partBlock}
 use Rattle.files.specs.Sizes.{blockBytes, mapStart, recordBytes}
-use Rattle.files.specs.Written.{paint, part, zeros, setBlock, setRecord, releaseAt, release}
+use Rattle.files.specs.Written.{diskWith, part, zeros, setBlock, setRecord, freeBlock, freeBlocks}
 
 -- ---- a record's three bytes say the record
 
@@ -43,7 +43,7 @@ decode-encode Other v = absurd v
 
 -- ---- a disk by its places
 
-pub record Painted (d : Disk) (h : ℕ → ℕ) (owner : ℕ → Record) (content : Record → ℕ → ℕ) : Type 0 where
+pub record With (d : Disk) (h : ℕ → ℕ) (owner : ℕ → Record) (content : Record → ℕ → ℕ) : Type 0 where
   pub head : (o : ℕ) → o < mapStart → d 0 o ≡ h o
   pub map : (b i : ℕ) → b < blocks → i < 3 → d 0 (mapStart + recordBytes * b + i) ≡ encode (owner b) i
   pub block : (b o : ℕ) → 0 < b → b < blocks → o < blockBytes → d b o ≡ content (owner b) o
@@ -54,19 +54,19 @@ module _ (h : ℕ → ℕ) (owner : ℕ → Record) (content : Record → ℕ �
   zeroPart : ℕ → ℕ
   zeroPart o = cond (ltb o mapStart) (h o) (encode (owner ((o - mapStart) / 3)) ((o - mapStart) % 3))
 
-  paint-zero : (o : ℕ) → o < blockBytes → paint h owner content 0 o ≡ zeroPart o
-  unfolding paint zeroPart
-  paint-zero o k = cond-true _ _ (and-true {a = ltb 0 blocks} refl (lt-true k))
+  zero-block : (o : ℕ) → o < blockBytes → diskWith h owner content 0 o ≡ zeroPart o
+  unfolding diskWith zeroPart
+  zero-block o k = cond-true _ _ (and-true {a = ltb 0 blocks} refl (lt-true k))
 
-  pub painted : Painted (paint h owner content) h owner content
-  unfolding paint zeroPart
-  painted =
+  pub with-is : With (diskWith h owner content) h owner content
+  unfolding diskWith zeroPart
+  with-is =
       record {
-        head = λ o k. paint-zero o (omega arith) ∙ cond-true _ _ (lt-true k);
+        head = λ o k. zero-block o (omega arith) ∙ cond-true _ _ (lt-true k);
         map = λ b i k l.
             let q : (mapStart + recordBytes * b + i - mapStart) / 3 ≡ b = omega arith in
             let r : (mapStart + recordBytes * b + i - mapStart) % 3 ≡ i = omega arith in
-            paint-zero (mapStart + recordBytes * b + i) (omega arith)
+            zero-block (mapStart + recordBytes * b + i) (omega arith)
             ∙ cond-false _ _ (lt-false {a = mapStart + recordBytes * b + i} {b = mapStart} (omega arith))
             ∙ ap₂ (λ (x y : ℕ). encode (owner x) y) q r;
         block = λ b o j k l. cond-true _ _ (and-true (lt-true k) (lt-true l)) ∙ cond-false _ _ (eq-false {a = b} {b = 0} (omega arith));
@@ -75,25 +75,25 @@ module _ (h : ℕ → ℕ) (owner : ℕ → Record) (content : Record → ℕ �
       }
 
   -- the places determine the disk
-  pub painted-is : (d : Disk) → Painted d h owner content → d ≡ paint h owner content
-  painted-is d p =
+  pub with-only : (d : Disk) → With d h owner content → d ≡ diskWith h owner content
+  with-only d p =
       fun-ext (λ (b : ℕ). fun-ext (λ (o : ℕ).
       by-order b blocks
       (λ (hb : b < blocks). by-order o blockBytes
       (λ (ho : o < blockBytes). by-equal b 0
-      (λ (z : b ≡ 0). subst (λ (x : ℕ). d x o ≡ paint h owner content x o) (sym z)
-      (by-order o mapStart (λ k. p .head o k ∙ sym (painted .head o k))
+      (λ (z : b ≡ 0). subst (λ (x : ℕ). d x o ≡ diskWith h owner content x o) (sym z)
+      (by-order o mapStart (λ k. p .head o k ∙ sym (with-is .head o k))
       (λ k.
       let e : mapStart + recordBytes * ((o - mapStart) / 3) + (o - mapStart) % 3 ≡ o = omega arith in
-      subst (λ (x : ℕ). d 0 x ≡ paint h owner content 0 x) e
-      (p .map ((o - mapStart) / 3) ((o - mapStart) % 3) (omega arith) (omega arith) ∙ sym (painted .map ((o - mapStart) / 3) ((o - mapStart) % 3) (omega arith) (omega arith))))))
-      (λ (z : b ≢ 0). p .block b o (omega arith) hb ho ∙ sym (painted .block b o (omega arith) hb ho)))
-      (λ (k : blockBytes ≤ o). p .out b o k ∙ sym (painted .out b o k)))
-      (λ (k : blocks ≤ b). p .far b o k ∙ sym (painted .far b o k))))
+      subst (λ (x : ℕ). d 0 x ≡ diskWith h owner content 0 x) e
+      (p .map ((o - mapStart) / 3) ((o - mapStart) % 3) (omega arith) (omega arith) ∙ sym (with-is .map ((o - mapStart) / 3) ((o - mapStart) % 3) (omega arith) (omega arith))))))
+      (λ (z : b ≢ 0). p .block b o (omega arith) hb ho ∙ sym (with-is .block b o (omega arith) hb ho)))
+      (λ (k : blockBytes ≤ o). p .out b o k ∙ sym (with-is .out b o k)))
+      (λ (k : blocks ≤ b). p .far b o k ∙ sym (with-is .far b o k))))
 
 -- ---- what is read
 
-module _ (d : Disk) (h : ℕ → ℕ) (owner : ℕ → Record) (content : Record → ℕ → ℕ) (p : Painted d h owner content) where
+module _ (d : Disk) (h : ℕ → ℕ) (owner : ℕ → Record) (content : Record → ℕ → ℕ) (p : With d h owner content) where
   pub record-is : (b : ℕ) → b < blocks → Valid (owner b) → recordAt d b ≡ owner b
   unfolding recordAt
   record-is b k v =
@@ -118,10 +118,10 @@ module _ (d : Disk) (h : ℕ → ℕ) (owner : ℕ → Record) (content : Record
 
 -- ---- what the steps leave
 
-module _ (d : Disk) (h : ℕ → ℕ) (owner : ℕ → Record) (content : Record → ℕ → ℕ) (p : Painted d h owner content) where
+module _ (d : Disk) (h : ℕ → ℕ) (owner : ℕ → Record) (content : Record → ℕ → ℕ) (p : With d h owner content) where
   -- a block is written and given to r
   pub give-block : (b : ℕ) (r : Record) (g : ℕ → ℕ) → 0 < b → b < blocks → ((o : ℕ) → o < blockBytes → g o ≡ content r o) → ((o : ℕ) → blockBytes ≤ o → g o ≡ 0)
-      → Painted (setRecord (setBlock d b g) b r) h (upd owner b r) content
+      → With (setRecord (setBlock d b g) b r) h (upd owner b r) content
   unfolding setRecord setBlock
   give-block b r g b₀ b₁ inside outside =
       let d₁ : Disk = upd d b g in
@@ -154,7 +154,7 @@ module _ (d : Disk) (h : ℕ → ℕ) (owner : ℕ → Record) (content : Record
       }
 
   -- n bytes of the header are written
-  pub write-head : (o n : ℕ) (g : ℕ → ℕ) → o + n ≤ mapStart → Painted (upd d 0 (patch (d 0) o n g)) (patch h o n g) owner content
+  pub write-head : (o n : ℕ) (g : ℕ → ℕ) → o + n ≤ mapStart → With (upd d 0 (patch (d 0) o n g)) (patch h o n g) owner content
   write-head o n g f =
       let F : ℕ → ℕ = patch (d 0) o n g in
       record {
@@ -176,7 +176,7 @@ module _ (d : Disk) (h : ℕ → ℕ) (owner : ℕ → Record) (content : Record
   pub write-block : (content′ : Record → ℕ → ℕ) (b₀ : ℕ) (g : ℕ → ℕ) → 0 < b₀ → b₀ < blocks
       → ((o : ℕ) → o < blockBytes → g o ≡ content′ (owner b₀) o) → ((o : ℕ) → blockBytes ≤ o → g o ≡ 0)
       → ((b o : ℕ) → b ≢ b₀ → b < blocks → o < blockBytes → content (owner b) o ≡ content′ (owner b) o)
-      → Painted (upd d b₀ g) h owner content′
+      → With (upd d b₀ g) h owner content′
   write-block content′ b₀ g z l inside outside others =
       record {
         head = λ i k. upd₂-other d b₀ g 0 i (omega arith) ∙ p .head i k;
@@ -189,10 +189,10 @@ module _ (d : Disk) (h : ℕ → ℕ) (owner : ℕ → Record) (content : Record
       }
 
   -- the same disk, said otherwise
-  pub repaint : (h′ : ℕ → ℕ) (owner′ : ℕ → Record) (content′ : Record → ℕ → ℕ)
+  pub with-same : (h′ : ℕ → ℕ) (owner′ : ℕ → Record) (content′ : Record → ℕ → ℕ)
       → ((o : ℕ) → o < mapStart → h o ≡ h′ o) → ((b : ℕ) → b < blocks → owner b ≡ owner′ b)
-      → ((b o : ℕ) → 0 < b → b < blocks → o < blockBytes → content (owner b) o ≡ content′ (owner b) o) → Painted d h′ owner′ content′
-  repaint h′ owner′ content′ eh eo ec =
+      → ((b o : ℕ) → 0 < b → b < blocks → o < blockBytes → content (owner b) o ≡ content′ (owner b) o) → With d h′ owner′ content′
+  with-same h′ owner′ content′ eh eo ec =
       record {
         head = λ o k. p .head o k ∙ eh o k;
         map = λ b i k l. p .map b i k l ∙ ap (λ (r : Record). encode r i) (eo b k);
@@ -205,7 +205,7 @@ module _ (d : Disk) (h : ℕ → ℕ) (owner : ℕ → Record) (content : Record
 unfoldable pub unowned : ℕ → Record → Record
 unowned f r = cond (bears f r) Free r
 
--- ---- blocks of a file are released
+-- ---- the blocks of a file are freed
 
 pub part-out : (c : ℕ → ℕ) (s o : ℕ) → blockBytes ≤ o → part c s o ≡ 0
 unfolding part
@@ -221,14 +221,14 @@ unownedBelow n f owner b = cond (ltb b n) (unowned f (owner b)) (owner b)
 
 module _ (h : ℕ → ℕ) (owner : ℕ → Record) (content : Record → ℕ → ℕ) (f : ℕ)
     (valid : (b : ℕ) → b < blocks → Valid (owner b)) (first : owner 0 ≡ System) (blank : (o : ℕ) → content Free o ≡ 0) where
-  pub release-below : (d : Disk) → Painted d h owner content → (n : ℕ) → n ≤ blocks → Painted (release n d f) h (unownedBelow n f owner) content
-  unfolding release releaseAt unownedBelow unowned zeros
-  release-below d p zero k = repaint d h owner content p h (unownedBelow 0 f owner) content (λ o q. refl) (λ b q. sym (cond-false _ _ (lt-false {a = b} {b = 0} (omega arith)))) (λ b o i j l. refl)
-  release-below d p (suc n) k =
+  pub free-below : (d : Disk) → With d h owner content → (n : ℕ) → n ≤ blocks → With (freeBlocks n d f) h (unownedBelow n f owner) content
+  unfolding freeBlocks freeBlock unownedBelow unowned zeros
+  free-below d p zero k = with-same d h owner content p h (unownedBelow 0 f owner) content (λ o q. refl) (λ b q. sym (cond-false _ _ (lt-false {a = b} {b = 0} (omega arith)))) (λ b o i j l. refl)
+  free-below d p (suc n) k =
       let ow : ℕ → Record = unownedBelow n f owner in
       let ow′ : ℕ → Record = unownedBelow (suc n) f owner in
-      let dn : Disk = release n d f in
-      let q : Painted dn h ow content = release-below d p n (omega arith) in
+      let dn : Disk = freeBlocks n d f in
+      let q : With dn h ow content = free-below d p n (omega arith) in
       let here : ow n ≡ owner n = cond-false _ _ (lt-false {a = n} {b = n} (omega arith)) in
       let read : recordAt dn n ≡ owner n = record-is dn h ow content q n (omega arith) (subst Valid (sym here) (valid n (omega arith))) ∙ here in
       let other : (b : ℕ) → b ≢ n → ow b ≡ ow′ b =
@@ -238,8 +238,8 @@ module _ (h : ℕ → ℕ) (owner : ℕ → Record) (content : Record → ℕ �
       by-test (bears f (owner n))
       (λ t.
       let pos : n ≢ 0 = λ z. bears-not-system f (owner n) t (ap owner z ∙ first) in
-      subst (λ (x : Disk). Painted x h ow′ content) (sym (cond-true _ _ (ap (bears f) read ∙ t)))
-      (repaint (setRecord (setBlock dn n zeros) n Free) h (upd ow n Free) content
+      subst (λ (x : Disk). With x h ow′ content) (sym (cond-true _ _ (ap (bears f) read ∙ t)))
+      (with-same (setRecord (setBlock dn n zeros) n Free) h (upd ow n Free) content
       (give-block dn h ow content q n Free zeros (omega arith) (omega arith) (λ o l. sym (blank o)) (λ o l. refl))
       h ow′ content (λ o l. refl)
       (λ b l. by-equal b n
@@ -247,15 +247,15 @@ module _ (h : ℕ → ℕ) (owner : ℕ → Record) (content : Record → ℕ �
       (λ e. upd-other ow n Free b e ∙ other b e))
       (λ b o i j l. refl)))
       (λ t.
-      subst (λ (x : Disk). Painted x h ow′ content) (sym (cond-false _ _ (ap (bears f) read ∙ t)))
-      (repaint dn h ow content q h ow′ content (λ o l. refl)
+      subst (λ (x : Disk). With x h ow′ content) (sym (cond-false _ _ (ap (bears f) read ∙ t)))
+      (with-same dn h ow content q h ow′ content (λ o l. refl)
       (λ b l. by-equal b n
       (λ e. ap ow e ∙ here ∙ sym (cond-false _ _ t) ∙ sym (ap ow′ e ∙ there))
       (λ e. other b e))
       (λ b o i j l. refl)))
 
-  pub release-all : (d : Disk) → Painted d h owner content → Painted (release blocks d f) h (λ (b : ℕ). unowned f (owner b)) content
+  pub free-all : (d : Disk) → With d h owner content → With (freeBlocks blocks d f) h (λ (b : ℕ). unowned f (owner b)) content
   unfolding unownedBelow
-  release-all d p =
-      repaint (release blocks d f) h (unownedBelow blocks f owner) content (release-below d p blocks (omega arith)) h (λ (b : ℕ). unowned f (owner b)) content
+  free-all d p =
+      with-same (freeBlocks blocks d f) h (unownedBelow blocks f owner) content (free-below d p blocks (omega arith)) h (λ (b : ℕ). unowned f (owner b)) content
       (λ o l. refl) (λ b l. cond-true _ _ (lt-true l)) (λ b o i j l. refl)
