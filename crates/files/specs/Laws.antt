@@ -16,3 +16,6 @@ pub mod Present
 pub mod Left
 pub mod Zero
 pub mod History
+pub mod Bytes
+pub mod Refusals
+pub mod Give

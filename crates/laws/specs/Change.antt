@@ -1,13 +1,13 @@
 -- Functions on numbers that are changed at one number, or at some numbers in a row.
 -- Assumes nothing.
-use mathlib.Core.Path.{_≡_, refl, sym, ap, _∙_}
+use mathlib.Core.Path.{_≡_, refl, sym, ap, _∙_, fun-ext}
 use mathlib.Core.Logic.{_≢_}
 use mathlib.Core.Bool.{Bool, true, false, cond, _&&_}
 use Prim.Native.Nat.{ℕ, _+_, _-_, _≤_, _<_}
 use native.Mathlib.Omega.{arith}
 use lib.Dec.{leb, ltb, eqb}
 use Rattle.laws.specs.Order.{by-order}
-use Rattle.laws.specs.Tests.{lt-true, lt-false, le-true, le-false, eq-true, eq-false, cond-true, cond-false, and-true, and-false-left, and-false-right}
+use Rattle.laws.specs.Tests.{by-equal, lt-true, lt-false, le-true, le-false, eq-true, eq-false, cond-true, cond-false, and-true, and-false-left, and-false-right}
 
 -- f with v at k
 unfoldable pub upd : {A : Type 0} → (ℕ → A) → ℕ → A → ℕ → A
@@ -71,3 +71,44 @@ patch-swap f o n g o′ n′ g′ i q =
     (λ a b. patch-in (patch f o n g) o′ n′ g′ i a b ∙ sym (patch-in f o′ n′ g′ i a b) ∙ sym (patch-below (patch f o′ n′ g′) o n g i (omega arith)))
     (λ a. patch-below (patch f o n g) o′ n′ g′ i a ∙ patch-cong f (patch f o′ n′ g′) o n g i (sym (patch-below f o′ n′ g′ i a)))
     (λ a. patch-above (patch f o n g) o′ n′ g′ i a ∙ patch-cong f (patch f o′ n′ g′) o n g i (sym (patch-above f o′ n′ g′ i a)))
+
+-- ---- a row written value by value
+
+pub patch-none : (f : ℕ → ℕ) (o : ℕ) (g : ℕ → ℕ) → patch f o 0 g ≡ f
+patch-none f o g =
+    fun-ext (λ (i : ℕ). by-order i o (λ h. patch-below f o 0 g i h) (λ h. patch-above f o 0 g i (omega arith)))
+
+pub patch-more : (f : ℕ → ℕ) (o n : ℕ) (g : ℕ → ℕ) (v : ℕ) → v ≡ g n → upd (patch f o n g) (o + n) v ≡ patch f o (n + 1) g
+patch-more f o n g v e =
+    fun-ext (λ (i : ℕ).
+    by-equal i (o + n)
+    (λ q.
+    let j : i - o ≡ n = omega arith in
+    upd-same (patch f o n g) (o + n) v i q ∙ e ∙ sym (patch-in f o (n + 1) g i (omega arith) (omega arith) ∙ ap g j))
+    (λ q. upd-other (patch f o n g) (o + n) v i q
+    ∙ by-place f o n g i
+    (λ a b. patch-in f o n g i a b ∙ sym (patch-in f o (n + 1) g i a (omega arith)))
+    (λ a. patch-below f o n g i a ∙ sym (patch-below f o (n + 1) g i a))
+    (λ a. patch-above f o n g i a ∙ sym (patch-above f o (n + 1) g i (omega arith)))))
+
+-- the next values of a row are written behind the first
+pub patch-next : (f : ℕ → ℕ) (o n k : ℕ) (g h : ℕ → ℕ) → ((i : ℕ) → i < k → h i ≡ g (n + i)) → patch (patch f o n g) (o + n) k h ≡ patch f o (n + k) g
+patch-next f o n k g h e =
+    fun-ext (λ (i : ℕ).
+    by-place (patch f o n g) (o + n) k h i
+    (λ a b.
+    let j : n + (i - (o + n)) ≡ i - o = omega arith in
+    patch-in (patch f o n g) (o + n) k h i a b ∙ e (i - (o + n)) (omega arith) ∙ ap g j ∙ sym (patch-in f o (n + k) g i (omega arith) (omega arith)))
+    (λ a. patch-below (patch f o n g) (o + n) k h i a
+    ∙ by-place f o n g i
+    (λ c b. patch-in f o n g i c b ∙ sym (patch-in f o (n + k) g i c (omega arith)))
+    (λ c. patch-below f o n g i c ∙ sym (patch-below f o (n + k) g i c))
+    (λ c. absurd (omega arith)))
+    (λ a. patch-above (patch f o n g) (o + n) k h i a ∙ patch-above f o n g i (omega arith) ∙ sym (patch-above f o (n + k) g i (omega arith))))
+
+-- a second change at the same number
+pub upd-twice : {A : Type 0} (f : ℕ → A) (k : ℕ) (v w : A) → upd (upd f k v) k w ≡ upd f k w
+upd-twice f k v w =
+    fun-ext (λ (i : ℕ).
+    by-equal i k (λ q. upd-same (upd f k v) k w i q ∙ sym (upd-same f k w i q))
+    (λ q. upd-other (upd f k v) k w i q ∙ upd-other f k v i q ∙ sym (upd-other f k w i q)))

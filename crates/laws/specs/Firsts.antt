@@ -35,57 +35,63 @@ picks-later n p i [] t = tt
 picks-later n p i (b ∷ bs) t = (omega (arith, t .0), t .1, t .2, t .3)
 
 module _ (p : ℕ → Bool) where
-  low-yes : (n i k : ℕ) → p i ≡ true → firstsFrom (suc n) i (suc k) p ≡ i ∷ firstsFrom n (suc i) k p
+  pub firsts-yes : (n i k : ℕ) → p i ≡ true → firstsFrom (suc n) i (suc k) p ≡ i ∷ firstsFrom n (suc i) k p
   unfolding firstsFrom
-  low-yes n i k e =
+  firsts-yes n i k e =
       ap (λ (b : Bool). elim b as (λ (x : Bool). List ℕ) [ true ↦ i ∷ firstsFrom n (suc i) k p | false ↦ firstsFrom n (suc i) (suc k) p ]) e
 
-  low-no : (n i k : ℕ) → p i ≡ false → firstsFrom (suc n) i (suc k) p ≡ firstsFrom n (suc i) (suc k) p
+  pub firsts-no : (n i k : ℕ) → p i ≡ false → firstsFrom (suc n) i (suc k) p ≡ firstsFrom n (suc i) (suc k) p
   unfolding firstsFrom
-  low-no n i k e =
+  firsts-no n i k e =
       ap (λ (b : Bool). elim b as (λ (x : Bool). List ℕ) [ true ↦ i ∷ firstsFrom n (suc i) k p | false ↦ firstsFrom n (suc i) (suc k) p ]) e
 
-  low-picks : (n i k N : ℕ) → i + n ≡ N → Picks N p i (firstsFrom n i k p)
+  from-picks : (n i k N : ℕ) → i + n ≡ N → Picks N p i (firstsFrom n i k p)
   unfolding firstsFrom
-  low-picks zero i k N e = tt
-  low-picks (suc n) i zero N e = tt
-  low-picks (suc n) i (suc k) N e =
+  from-picks zero i k N e = tt
+  from-picks (suc n) i zero N e = tt
+  from-picks (suc n) i (suc k) N e =
       by-test (p i)
-      (λ t. subst (Picks N p i) (sym (low-yes n i k t)) (omega arith, omega arith, t, low-picks n (suc i) k N (omega arith)))
-      (λ t. subst (Picks N p i) (sym (low-no n i k t)) (picks-later N p i (firstsFrom n (suc i) (suc k) p) (low-picks n (suc i) (suc k) N (omega arith))))
+      (λ t. subst (Picks N p i) (sym (firsts-yes n i k t)) (omega arith, omega arith, t, from-picks n (suc i) k N (omega arith)))
+      (λ t. subst (Picks N p i) (sym (firsts-no n i k t)) (picks-later N p i (firstsFrom n (suc i) (suc k) p) (from-picks n (suc i) (suc k) N (omega arith))))
 
 pub firsts-picks : (n k : ℕ) (p : ℕ → Bool) → Picks n p 0 (firsts n k p)
 unfolding firsts
-firsts-picks n k p = low-picks p n 0 k n (omega arith)
+firsts-picks n k p = from-picks p n 0 k n (omega arith)
 
-low-cong : (p q : ℕ → Bool) (n i k : ℕ) → ((j : ℕ) → i ≤ j → j < i + n → p j ≡ q j) → firstsFrom n i k p ≡ firstsFrom n i k q
+pub from-cong : (p q : ℕ → Bool) (n i k : ℕ) → ((j : ℕ) → i ≤ j → j < i + n → p j ≡ q j) → firstsFrom n i k p ≡ firstsFrom n i k q
 unfolding firstsFrom
-low-cong p q zero i k e = refl
-low-cong p q (suc n) i zero e = refl
-low-cong p q (suc n) i (suc k) e =
+from-cong p q zero i k e = refl
+from-cong p q (suc n) i zero e = refl
+from-cong p q (suc n) i (suc k) e =
     let here : p i ≡ q i = e i (omega arith) (omega arith) in
     by-test (q i)
-    (λ t. low-yes p n i k (here ∙ t) ∙ ap (λ (l : List ℕ). i ∷ l) (low-cong p q n (suc i) k (λ j h l. e j (omega arith) (omega arith))) ∙ sym (low-yes q n i k t))
-    (λ t. low-no p n i k (here ∙ t) ∙ low-cong p q n (suc i) (suc k) (λ j h l. e j (omega arith) (omega arith)) ∙ sym (low-no q n i k t))
+    (λ t. firsts-yes p n i k (here ∙ t) ∙ ap (λ (l : List ℕ). i ∷ l) (from-cong p q n (suc i) k (λ j h l. e j (omega arith) (omega arith))) ∙ sym (firsts-yes q n i k t))
+    (λ t. firsts-no p n i k (here ∙ t) ∙ from-cong p q n (suc i) (suc k) (λ j h l. e j (omega arith) (omega arith)) ∙ sym (firsts-no q n i k t))
 
 pub firsts-cong : (n k : ℕ) (p q : ℕ → Bool) → ((j : ℕ) → j < n → p j ≡ q j) → firsts n k p ≡ firsts n k q
 unfolding firsts
-firsts-cong n k p q e = low-cong p q n 0 k (λ j h l. e j (omega arith))
+firsts-cong n k p q e = from-cong p q n 0 k (λ j h l. e j (omega arith))
 
-low-length : (p : ℕ → Bool) (n i k : ℕ) → k ≤ count n (λ (j : ℕ). p (i + j)) → length (firstsFrom n i k p) ≡ k
+from-length : (p : ℕ → Bool) (n i k : ℕ) → k ≤ count n (λ (j : ℕ). p (i + j)) → length (firstsFrom n i k p) ≡ k
 unfolding firstsFrom count
-low-length p zero i k h = omega arith
-low-length p (suc n) i zero h = refl
-low-length p (suc n) i (suc k) h =
+from-length p zero i k h = omega arith
+from-length p (suc n) i zero h = refl
+from-length p (suc n) i (suc k) h =
     let here : p (i + 0) ≡ p i = ap p (omega arith) in
     let shift : count n (λ (j : ℕ). p (i + suc j)) ≡ count n (λ (j : ℕ). p (suc i + j)) =
     count-cong n (λ (j : ℕ). p (i + suc j)) (λ (j : ℕ). p (suc i + j)) (λ j l. ap p (omega arith)) in
     by-test (p i)
-    (λ t. ap length (low-yes p n i k t) ∙ ap suc (low-length p n (suc i) k (omega (arith, count-head-yes n (λ (j : ℕ). p (i + j)) (here ∙ t)))))
-    (λ t. ap length (low-no p n i k t) ∙ low-length p n (suc i) (suc k) (omega (arith, count-head-no n (λ (j : ℕ). p (i + j)) (here ∙ t))))
+    (λ t. ap length (firsts-yes p n i k t) ∙ ap suc (from-length p n (suc i) k (omega (arith, count-head-yes n (λ (j : ℕ). p (i + j)) (here ∙ t)))))
+    (λ t. ap length (firsts-no p n i k t) ∙ from-length p n (suc i) (suc k) (omega (arith, count-head-no n (λ (j : ℕ). p (i + j)) (here ∙ t))))
 
 pub firsts-length : (n k : ℕ) (p : ℕ → Bool) → k ≤ count n p → length (firsts n k p) ≡ k
 unfolding firsts
 firsts-length n k p h =
-    low-length p n 0 k
+    from-length p n 0 k
     (subst (λ (c : ℕ). k ≤ c) (count-cong n p (λ (j : ℕ). p (0 + j)) (λ j l. ap p (omega arith))) h)
+
+-- none are asked for
+pub firsts-zero : (n i : ℕ) (p : ℕ → Bool) → firstsFrom n i 0 p ≡ []
+unfolding firstsFrom
+firsts-zero zero i p = refl
+firsts-zero (suc n) i p = refl
