@@ -58,19 +58,19 @@ count-one n i p h a u =
     ∙ ap suc (count-none n (λ (j : ℕ). false) (λ j l. refl))
 
 -- of two tests that never both pass
-pub count-or : (n : ℕ) (p q : ℕ → Bool) → ((i : ℕ) → i < n → ((p i) && (q i)) ≡ false) → count n (λ (i : ℕ). ((p i) || (q i))) ≡ count n p + count n q
+pub count-or : (n : ℕ) (p q : ℕ → Bool) → ((i : ℕ) → i < n → (p i && q i) ≡ false) → count n (λ (i : ℕ). (p i || q i)) ≡ count n p + count n q
 unfolding count
 count-or zero p q e = refl
 count-or (suc n) p q e =
-    let ih : count n (λ (i : ℕ). ((p i) || (q i))) ≡ count n p + count n q = count-or n p q (λ i h. e i (omega arith)) in
+    let ih : count n (λ (i : ℕ). (p i || q i)) ≡ count n p + count n q = count-or n p q (λ i h. e i (omega arith)) in
     by-test (p n)
     (λ a.
     let b : q n ≡ false = and-not (p n) (q n) a (e n (omega arith)) in
-    let y : ((p n) || (q n)) ≡ true = or-left (p n) (q n) a in
-    omega (arith, count-yes n (λ (i : ℕ). ((p i) || (q i))) y, count-yes n p a, count-no n q b))
+    let y : (p n || q n) ≡ true = or-left (p n) (q n) a in
+    omega (arith, count-yes n (λ (i : ℕ). (p i || q i)) y, count-yes n p a, count-no n q b))
     (λ a. by-test (q n)
-    (λ b. omega (arith, count-yes n (λ (i : ℕ). ((p i) || (q i))) (or-right (p n) (q n) b), count-no n p a, count-yes n q b))
-    (λ b. omega (arith, count-no n (λ (i : ℕ). ((p i) || (q i))) (or-none (p n) (q n) a b), count-no n p a, count-no n q b)))
+    (λ b. omega (arith, count-yes n (λ (i : ℕ). (p i || q i)) (or-right (p n) (q n) b), count-no n p a, count-yes n q b))
+    (λ b. omega (arith, count-no n (λ (i : ℕ). (p i || q i)) (or-none (p n) (q n) a b), count-no n p a, count-no n q b)))
 
 pub count-le : (n : ℕ) (p : ℕ → Bool) → count n p ≤ n
 unfolding count

@@ -18,7 +18,7 @@ use Rattle.laws.specs.Order.{by-order}
 use Rattle.laws.specs.Search.{lowest-le, lowest-hit, lowest-low}
 use Rattle.laws.specs.Tests.{lt-true, lt-false, eq-true, eq-false, true-lt, true-le, true≢false, not-was, by-equal, cond-true, cond-false, and-true, and-false-left, and-false-right, leb-iff, isSome}
 use Rattle.laws.specs.Truth.{and-left, and-right, by-test}
-use Rattle.sectors.specs.Geometry.{blocks}
+use Rattle.sectors.specs.Geometry.{blockSectors, blocks}
 use Rattle.files.specs.declared.Record.{Record}
 use Rattle.files.specs.declared.Record.the-variants.{Free, System, File, Other}
 use Rattle.files.specs.Calls.{opensBlock, growDir, endAfter, addAt, needed}
@@ -33,7 +33,7 @@ use Rattle.files.specs.Laws.Owners.{owned-cong, give-owned, give-count}
 use Rattle.files.specs.Laws.Whole.{With, with-is, with-only, free-is, give-block, with-same, part-out}
 use Rattle.files.specs.Map.{isFree, freeAt, freeCount}
 use Rattle.files.specs.Model.{NamedFile, Line, entryFrom, lineBlocks, dirBlocks, usable, freeWord, slotOf, bytesOf, dirByte, content, named, wrap}
-use Rattle.files.specs.Sizes.{blockBytes, slotBytes, blockSlots}
+use Rattle.files.specs.Sizes.{blockBytes, slotBytes, blockSlots, nameMost}
 use Rattle.files.specs.Written.{headerByte, storedByte, part, blocksFor, zeros, setBlock, setRecord, setSlot, setEnd, giveBlocks}
 
 -- ---- blocks placed on the disk are given in the model
@@ -84,7 +84,7 @@ module _ (m : Inner) (v : Inv m) where
   k = emptyLine m
 
   vacant : ℕ → Bool
-  vacant j = ((ltb 0 j) && (not (isSome (m .lines j))))
+  vacant j = (ltb 0 j && not (isSome (m .lines j)))
 
   k-is : k ≡ lowest vacant (suc (m .peak))
   unfolding emptyLine vacant
@@ -208,7 +208,7 @@ other-file E F G Other o e = refl
 other-file E F G (File zero s) o e = refl
 other-file E F G (File (suc f) s) o e = ap (λ (x : Line). part (bytesOf x) s o) (e (suc f) s refl)
 
-module _ (m : Inner) (v : Inv m) (x : NamedFile) (right : (1 ≤ length (x .name)) × (length (x .name) ≤ 36))
+module _ (m : Inner) (v : Inv m) (x : NamedFile) (right : (1 ≤ length (x .name)) × (length (x .name) ≤ nameMost))
     (new : suc (m .peak) ≤ findM m (x .name)) (room : dirBlocks (peakAfter m) + (fileBlocks m + blocksFor (length (x .content))) ≤ usable) where
   abbrev kk : ℕ
   kk = emptyLine m
@@ -356,7 +356,7 @@ module _ (m : Inner) (v : Inv m) (x : NamedFile) (right : (1 ≤ length (x .name
         line-past = λ j h. off-k j (omega (arith, k-in)) ∙ v .line-past j (omega (arith, peak-up));
         line-name = λ j y e.
             by-equal j kk
-            (λ q. subst (λ (z : NamedFile). (1 ≤ length (z .name)) × (length (z .name) ≤ 36)) (some-same x y (sym (ap L′ q ∙ at-k) ∙ e)) right)
+            (λ q. subst (λ (z : NamedFile). (1 ≤ length (z .name)) × (length (z .name) ≤ nameMost)) (some-same x y (sym (ap L′ q ∙ at-k) ∙ e)) right)
             (λ q. v .line-name j y (sym (off-k j q) ∙ e));
         line-once = λ i j y z ei ej s.
             by-equal i kk
@@ -484,7 +484,7 @@ module _ (m : Inner) (v : Inv m) (x : NamedFile) (right : (1 ≤ length (x .name
   pub add-image : addAt (render m) kk (entryFrom x) (x .content) ≡ render m′
   unfolding addAt render addAtM header
   add-image =
-      let w : 3 * count blocks (freeOf (m′ .owner)) ≡ freeWord (peakAfter m) (fileBlocks m′) = unfold freeWord in omega (arith, add-inv .free-sum) in
+      let w : blockSectors * count blocks (freeOf (m′ .owner)) ≡ freeWord (peakAfter m) (fileBlocks m′) = unfold freeWord in omega (arith, add-inv .free-sum) in
       let p = finish (m .title) (m .number) (m .updates) (freeWord (m .peak) (fileBlocks m)) (suc (peakAfter m)) (m′ .owner) (content L′ L′) d₄ ended (owned₂ .own-valid) (v .updates-fit) in
       with-only (header m′) (m′ .owner) (content L′ L′) (addAt (render m) kk (entryFrom x) (x .content))
       (subst (λ (y : ℕ). With (addAt (render m) kk (entryFrom x) (x .content))

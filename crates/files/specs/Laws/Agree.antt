@@ -25,11 +25,12 @@ use Rattle.files.specs.Laws.Inner.{Inner, present, fileBlocks, header, r
 use Rattle.files.specs.Laws.Invariant.{partsOf, Inv}
 use Rattle.files.specs.Laws.Listed.{blocksOf, withOwner, Listed, owner-is, give-listed, freed-listed, listed-cong}
 use Rattle.files.specs.Laws.Names.{name-bounds}
-use Rattle.files.specs.Laws.Whole.{with-is, with-only, with-same, unowned}
 use Rattle.files.specs.Laws.Remove.{parts-other, parts-gone}
 use Rattle.files.specs.Laws.Run.{step-inv}
+use Rattle.files.specs.Laws.Whole.{with-is, with-only, with-same, unowned}
 use Rattle.files.specs.Map.{isFree}
 use Rattle.files.specs.Model.{NamedFile, Line, Filled, Model, fileOf, takenBy, lineBlocks, presentIn, sizeIn, dirBlocks, usable, content, recordIn, modelHeader, modelDisk, modelFormat, lineNamed, lineEmpty, modelList, modelRead, wrap, peakThen, fits, freeIn, dirThen, fill, clear, addReply, modelAdd, removeReply, modelRemove}
+use Rattle.files.specs.Sizes.{nameMost}
 use Rattle.files.specs.Written.{blocksFor}
 
 file-none : (h : Option Filled) → fileOf h ≡ none → h ≡ none
@@ -128,7 +129,7 @@ module _ (b : Model) (o : ℕ → Record) (v : Inv (withOwner b o)) (r : Listed 
         (λ j q. blocks-other (b .lines) (b .dir) k none j q) (blocks-this (b .lines) (b .dir) k none h),
   )
 
-  module _ (x : NamedFile) (right : (1 ≤ length (x .name)) × (length (x .name) ≤ 36)) (new : suc (m .peak) ≤ findM m (x .name))
+  module _ (x : NamedFile) (right : (1 ≤ length (x .name)) × (length (x .name) ≤ nameMost)) (new : suc (m .peak) ≤ findM m (x .name))
       (room : dirBlocks (peakAfter m) + (fileBlocks m + blocksFor (length (x .content))) ≤ usable) where
     abbrev k : ℕ
     k = emptyLine m
@@ -239,7 +240,7 @@ module _ (b : Model) (o : ℕ → Record) (v : Inv (withOwner b o)) (r : Listed 
       subst (λ (z : Inner). Next z (modelStep b (toAdd x))) (sym em) (subst (λ (z : Model). Next m z) (sym eb) stay))
       (λ h. by-test (roomFor m x)
       (λ s.
-      let right : (1 ≤ length (x .name)) × (length (x .name) ≤ 36) = name-bounds (x .name) t in
+      let right : (1 ≤ length (x .name)) × (length (x .name) ≤ nameMost) = name-bounds (x .name) t in
       let em : addM m x .model ≡ addAtM m (emptyLine m) x = ap (λ (c : ChangedM). c .model) (cond-true _ _ t ∙ cond-false _ _ (lt-false h) ∙ cond-true _ _ s) in
       let eb : modelStep b (toAdd x) ≡ fill b (emptyLine m) x = cond-true _ _ t ∙ cond-false _ _ (lt-false h) ∙ cond-true _ _ s in
       subst (λ (z : Inner). Next z (modelStep b (toAdd x))) (sym em)

@@ -57,11 +57,11 @@ module _ (name : List ℕ) (date size : ℕ) where
   unfolding at32 entryByte entryFor patch
   entry-length h = high4-at (slotBytes + size) h
 
-  entry-name-length : length name ≤ 36 → at16 (entryByte (entryFor name date size)) 14 ≡ length name
+  entry-name-length : length name ≤ nameMost → at16 (entryByte (entryFor name date size)) 14 ≡ length name
   unfolding at16 entryByte entryFor patch
   entry-name-length h = high2-at (length name) (omega arith)
 
-  entry-name-byte : (i : ℕ) → i < 36 → entryByte (entryFor name date size) (16 + i) ≡ getD name i 0
+  entry-name-byte : (i : ℕ) → i < nameMost → entryByte (entryFor name date size) (16 + i) ≡ getD name i 0
   unfolding entryByte entryFor
   entry-name-byte i h =
       let e : 16 + i - 16 ≡ i = omega arith in
@@ -72,7 +72,7 @@ module _ (name : List ℕ) (date size : ℕ) where
       ∙ tab-in (λ (j : ℕ). getD name j 0) nameMost i h
 
   -- byte 15 is not zero
-  entry-low : length name ≤ 36 → entryByte (entryFor name date size) 15 ≡ length name
+  entry-low : length name ≤ nameMost → entryByte (entryFor name date size) 15 ≡ length name
   unfolding entryByte entryFor patch highByte
   entry-low h = omega arith
 
@@ -105,7 +105,7 @@ module _ (m : Inner) where
 
   at-20 : at16 (header m) 20 ≡ freeWord (m .peak) (fileBlocks m)
   unfolding at16 header headerByte patch freeWord
-  at-20 = high2-at (3 * (usable - (dirBlocks (m .peak) + fileBlocks m))) (omega arith)
+  at-20 = high2-at (blockSectors * (usable - (dirBlocks (m .peak) + fileBlocks m))) (omega arith)
 
   signature-at : bytesAre (header m) 0 signature ≡ true
   unfolding bytesAre tab signature header headerByte fixedByte patch same
@@ -194,7 +194,7 @@ module _ (m : Inner) (v : Inv m) where
   length-right =
       and-true (lt-true {a = at16 (d 0) 36} {b = blockBytes} (omega (arith, word36)))
       (and-true (eq-true {a = dirBytes d % slotBytes} {b = 0} (ap (λ (x : ℕ). x % slotBytes) dirBytes-is ∙ omega arith))
-      (le-true {a = 64} {b = dirBytes d} (omega (arith, dirBytes-is))))
+      (le-true {a = slotBytes} {b = dirBytes d} (omega (arith, dirBytes-is))))
 
   fixed : (o w : ℕ) → o + 1 < mapStart → at16 (header m) o ≡ w → eqb (at16 (d 0) o) w ≡ true
   fixed o w h e = eq-true (head16 o h ∙ e)
@@ -247,7 +247,7 @@ module _ (m : Inner) (v : Inv m) where
       ∙ P .block (w .0) o (omega arith) (w .1) l
       ∙ ap (λ (r : Record). content (m .lines) (m .lines) r o) (w .2)
 
-  pub slot-is : (k i : ℕ) → k ≤ m .peak → i < 64 → slotByte d k i ≡ slotOf (m .lines k) i
+  pub slot-is : (k i : ℕ) → k ≤ m .peak → i < slotBytes → slotByte d k i ≡ slotOf (m .lines k) i
   unfolding slotByte partsOf dirBlocks content dirByte
   slot-is k i h l =
       let e : k / blockSlots * blockSlots + (k % blockSlots * slotBytes + i) / slotBytes ≡ k = omega arith in
@@ -260,14 +260,14 @@ module _ (m : Inner) (v : Inv m) where
     unfolding held isSome slotOf
     held-is none e =
         and-false-right (ltb 0 k)
-        (ap not (all-is (λ (i : ℕ). eqb (slotByte d k i) 0) 64 (λ i g. eq-true (slot-is k i h g ∙ ap (λ (x : Line). slotOf x i) e))))
+        (ap not (all-is (λ (i : ℕ). eqb (slotByte d k i) 0) slotBytes (λ i g. eq-true (slot-is k i h g ∙ ap (λ (x : Line). slotOf x i) e))))
     held-is (some x) e =
         let b15 : slotByte d k 15 ≡ length (x .name) =
         slot-is k 15 h (omega arith) ∙ ap (λ (y : Line). slotOf y 15) e
         ∙ entry-low (x .name) (x .date) (length (x .content)) (v .line-name k x e .1) in
         let nz : k ≢ 0 = λ z. true≢false (isSome (m .lines k)) (ap isSome e) (ap (λ (j : ℕ). isSome (m .lines j)) z ∙ ap isSome (v .line-zero)) in
         and-true (lt-true {a = 0} {b = k} (omega arith))
-        (ap not (all-false (λ (i : ℕ). eqb (slotByte d k i) 0) 64 15 (omega arith)
+        (ap not (all-false (λ (i : ℕ). eqb (slotByte d k i) 0) slotBytes 15 (omega arith)
         (eq-false {a = slotByte d k 15} {b = 0} (λ z. omega (arith, v .line-name k x e .0)))))
 
     module _ (x : NamedFile) (e : m .lines k ≡ some x) where
@@ -275,10 +275,10 @@ module _ (m : Inner) (v : Inv m) where
       unfolding fileBlocks lineBlocks blocksFor up
       size-fits =
           let one : lineBlocks (m .lines k) ≤ fileBlocks m = sum-at (suc (m .peak)) k (λ (j : ℕ). lineBlocks (m .lines j)) (omega arith) in
-          let it : (slotBytes + length (x .content) + 1535) / blockBytes ≤ usable = omega (arith, v .free-sum, ap lineBlocks e) in
+          let it : (slotBytes + length (x .content) + (blockBytes - 1)) / blockBytes ≤ usable = omega (arith, v .free-sum, ap lineBlocks e) in
           omega arith
 
-      pub entry-is : (i : ℕ) → i < 64 → slotByte d k i ≡ entryByte (entryFor (x .name) (x .date) (length (x .content))) i
+      pub entry-is : (i : ℕ) → i < slotBytes → slotByte d k i ≡ entryByte (entryFor (x .name) (x .date) (length (x .content))) i
       unfolding slotOf
       entry-is i l = slot-is k i h l ∙ ap (λ (y : Line). slotOf y i) e
 
@@ -304,31 +304,31 @@ module _ (m : Inner) (v : Inv m) where
           ∙ entry-name-byte (x .name) (x .date) (length (x .content)) i (omega (arith, v .line-name k x e .1)))
           ∙ tab-self (x .name)
 
-    named-is : (name : List ℕ) (l : Line) → m .lines k ≡ l → ((held d k) && (nameEq (slotName d k) name)) ≡ named name l
+    named-is : (name : List ℕ) (l : Line) → m .lines k ≡ l → (held d k && nameEq (slotName d k) name) ≡ named name l
     unfolding named isSome
     named-is name none e = and-false-left (nameEq (slotName d k) name) (held-is none e)
     named-is name (some x) e = ap₂ (λ (a b : Bool). a && b) (held-is (some x) e) (ap (λ (n : List ℕ). nameEq n name) (slotName-is x e))
 
-    entry-list : (l : Line) → m .lines k ≡ l → cond (held d k) (tab (slotByte d k) 64) [] ≡ lineEntry l
+    entry-list : (l : Line) → m .lines k ≡ l → cond (held d k) (tab (slotByte d k) slotBytes) [] ≡ lineEntry l
     unfolding lineEntry isSome
     entry-list none e = cond-false _ _ (held-is none e)
     entry-list (some x) e =
         cond-true _ _ (held-is (some x) e)
-        ∙ tab-ext (slotByte d k) (entryByte (entryFor (x .name) (x .date) (length (x .content)))) 64 (entry-is x e)
+        ∙ tab-ext (slotByte d k) (entryByte (entryFor (x .name) (x .date) (length (x .content)))) slotBytes (entry-is x e)
 
   pub findName-is : (name : List ℕ) → findName d name ≡ findM m name
   unfolding findName findM
   findName-is name =
-      ap (λ (n : ℕ). lowest (λ (k : ℕ). ((held d k) && (nameEq (slotName d k) name))) n) dirEnd-is
-      ∙ lowest-cong (λ (k : ℕ). ((held d k) && (nameEq (slotName d k) name))) (λ (k : ℕ). named name (m .lines k)) (suc (m .peak))
+      ap (λ (n : ℕ). lowest (λ (k : ℕ). (held d k && nameEq (slotName d k) name)) n) dirEnd-is
+      ∙ lowest-cong (λ (k : ℕ). (held d k && nameEq (slotName d k) name)) (λ (k : ℕ). named name (m .lines k)) (suc (m .peak))
       (λ k h. named-is k (omega arith) name (m .lines k) refl)
 
   pub vacantSlot-is : vacantSlot d ≡ emptyLine m
   unfolding vacantSlot emptyLine
   vacantSlot-is =
-      ap (λ (n : ℕ). lowest (λ (k : ℕ). ((ltb 0 k) && (not (held d k)))) n) dirEnd-is
-      ∙ lowest-cong (λ (k : ℕ). ((ltb 0 k) && (not (held d k)))) (λ (k : ℕ). ((ltb 0 k) && (not (isSome (m .lines k))))) (suc (m .peak))
-      (λ k h. ap (λ (b : Bool). ((ltb 0 k) && (not b))) (held-is k (omega arith) (m .lines k) refl))
+      ap (λ (n : ℕ). lowest (λ (k : ℕ). (ltb 0 k && not (held d k))) n) dirEnd-is
+      ∙ lowest-cong (λ (k : ℕ). (ltb 0 k && not (held d k))) (λ (k : ℕ). (ltb 0 k && not (isSome (m .lines k)))) (suc (m .peak))
+      (λ k h. ap (λ (b : Bool). (ltb 0 k && not b)) (held-is k (omega arith) (m .lines k) refl))
 
   entries-below : (n : ℕ) → n ≤ suc (m .peak) → entries d n ≡ lineEntries (m .lines) n
   unfolding entries lineEntries
@@ -342,7 +342,7 @@ module _ (m : Inner) (v : Inv m) where
   unfolding dataOf fileByte partsOf lineBlocks blocksFor up content part bytesOf storedByte
   readAt-is k x h e =
       let n : ℕ = length (x .content) in
-      let size : lineBlocks (m .lines (suc k)) ≡ (slotBytes + n + 1535) / blockBytes = ap lineBlocks e in
+      let size : lineBlocks (m .lines (suc k)) ≡ (slotBytes + n + (blockBytes - 1)) / blockBytes = ap lineBlocks e in
       let long : (slotEntry d (suc k) .length) - slotBytes ≡ n = omega (arith, slotLength-is (suc k) h x e) in
       ap (λ (j : ℕ). tab (λ (i : ℕ). fileByte d (suc k) (slotBytes + i)) j) long
       ∙ tab-ext (λ (i : ℕ). fileByte d (suc k) (slotBytes + i)) (λ (i : ℕ). getD (x .content) i 0) n
@@ -352,7 +352,7 @@ module _ (m : Inner) (v : Inv m) where
       part-byte (suc k) ((slotBytes + i) / blockBytes) ((slotBytes + i) % blockBytes) (omega arith) (omega arith)
       ∙ cond-true _ _ (lt-true {a = (slotBytes + i) % blockBytes} {b = blockBytes} (omega arith))
       ∙ ap₂ bytesOf e whole
-      ∙ cond-false _ _ (lt-false {a = slotBytes + i} {b = 64} (omega arith))
+      ∙ cond-false _ _ (lt-false {a = slotBytes + i} {b = slotBytes} (omega arith))
       ∙ ap (λ (j : ℕ). getD (x .content) j 0) back)
       ∙ tab-self (x .content)
 
@@ -397,7 +397,7 @@ module _ (m : Inner) (v : Inv m) where
       (λ b h. ap (λ (r : Record). not (bears f r)) (rec b h) ∙ ap not (none-bears f b z h (m .owner b) refl))
 
   module _ (k : ℕ) (h : k ≤ m .peak) (x : NamedFile) (e : m .lines k ≡ some x) where
-    other-name : (j : ℕ) → j < k → (l : Line) → m .lines j ≡ l → ((held d j) && (nameEq (slotName d j) (slotName d k))) ≡ false
+    other-name : (j : ℕ) → j < k → (l : Line) → m .lines j ≡ l → (held d j && nameEq (slotName d j) (slotName d k)) ≡ false
     unfolding isSome
     other-name j q none a = and-false-left (nameEq (slotName d j) (slotName d k)) (held-is j (omega arith) none a)
     other-name j q (some y) a =
@@ -408,7 +408,7 @@ module _ (m : Inner) (v : Inv m) where
     newName-right : newName d k ≡ true
     unfolding newName
     newName-right =
-        all-is (λ (j : ℕ). not ((held d j) && (nameEq (slotName d j) (slotName d k)))) k
+        all-is (λ (j : ℕ). not (held d j && nameEq (slotName d j) (slotName d k))) k
         (λ j q. ap not (other-name j q (m .lines j) refl))
 
     entry-right : 0 < k → entryRight d k ≡ true
@@ -416,12 +416,12 @@ module _ (m : Inner) (v : Inv m) where
     entry-right pos =
         let size : (slotEntry d k .length) ≡ slotBytes + length (x .content) = slotLength-is k h x e in
         let long : (slotEntry d k .named) ≡ length (x .name) = slotNameLength-is k h x e in
-        and-true (le-true {a = 64} {b = (slotEntry d k .length)} (omega arith))
+        and-true (le-true {a = slotBytes} {b = (slotEntry d k .length)} (omega arith))
         (and-true (le-true {a = 1} {b = (slotEntry d k .named)} (omega (arith, v .line-name k x e .0)))
-        (and-true (le-true {a = (slotEntry d k .named)} {b = 36} (omega (arith, v .line-name k x e .1)))
+        (and-true (le-true {a = (slotEntry d k .named)} {b = nameMost} (omega (arith, v .line-name k x e .1)))
         (and-true newName-right (parts-right k (up ((slotEntry d k .length)) blockBytes) (ap (λ (n : ℕ). up n blockBytes) size ∙ sym (parts-some m k x e pos))))))
 
-  vacant-right : (f : ℕ) → 0 < f → (l : Line) → m .lines f ≡ l → cond ((ltb f (dirEnd d)) && (held d f)) (entryRight d f) (unborne d f) ≡ true
+  vacant-right : (f : ℕ) → 0 < f → (l : Line) → m .lines f ≡ l → cond (ltb f (dirEnd d) && held d f) (entryRight d f) (unborne d f) ≡ true
   unfolding isSome
   vacant-right f p none e =
       by-order f (suc (m .peak))

@@ -70,7 +70,7 @@ findM m name = lowest (λ (k : ℕ). named name (m .lines k)) (suc (m .peak))
 
 -- the lowest empty line
 unfoldable pub emptyLine : Inner → ℕ
-emptyLine m = lowest (λ (k : ℕ). ((ltb 0 k) && (not (isSome (m .lines k))))) (suc (m .peak))
+emptyLine m = lowest (λ (k : ℕ). (ltb 0 k && not (isSome (m .lines k)))) (suc (m .peak))
 
 -- the blocks are given to file f, from place s on
 unfoldable pub give : (ℕ → Record) → ℕ → ℕ → List ℕ → ℕ → Record

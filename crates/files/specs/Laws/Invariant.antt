@@ -13,6 +13,7 @@ use Rattle.files.specs.Directory.{nameEq}
 use Rattle.files.specs.Laws.Inner.{Inner, fileBlocks, freeOf}
 use Rattle.files.specs.Laws.Whole.{Valid}
 use Rattle.files.specs.Model.{NamedFile, lineBlocks, dirBlocks, usable}
+use Rattle.files.specs.Sizes.{nameMost}
 
 -- how many blocks file f has
 unfoldable pub partsOf : Inner → ℕ → ℕ
@@ -33,7 +34,7 @@ pub record Inv (m : Inner) : Type 0 where
   -- the lines
   pub line-zero : m .lines 0 ≡ none
   pub line-past : (k : ℕ) → m .peak < k → m .lines k ≡ none
-  pub line-name : (k : ℕ) (x : NamedFile) → m .lines k ≡ some x → (1 ≤ length (x .name)) × (length (x .name) ≤ 36)
+  pub line-name : (k : ℕ) (x : NamedFile) → m .lines k ≡ some x → (1 ≤ length (x .name)) × (length (x .name) ≤ nameMost)
   pub line-once : (j k : ℕ) (x y : NamedFile) → m .lines j ≡ some x → m .lines k ≡ some y → nameEq (x .name) (y .name) ≡ true → j ≡ k
   -- the counts
   pub free-sum : count blocks (freeOf (m .owner)) + (dirBlocks (m .peak) + fileBlocks m) ≡ usable

@@ -11,7 +11,7 @@ use Rattle.laws.specs.Numbers.{at32, high4-at}
 use Rattle.laws.specs.Search.{lowest-only}
 use Rattle.laws.specs.Tests.{true≢false}
 use Rattle.laws.specs.Words.{highByte}
-use Rattle.sectors.specs.Geometry.{blocks}
+use Rattle.sectors.specs.Geometry.{blockSectors, blocks}
 use Rattle.files.specs.declared.Record.{Record}
 use Rattle.files.specs.declared.Record.the-variants.{Free, System, File, Other}
 use Rattle.files.specs.Disk.{Disk}
@@ -85,16 +85,16 @@ wrap-bytes u (suc (suc (suc i))) h = let e : 8 * (4 - (suc (suc (suc i)) + 1)) �
 
 module _ (title : List ℕ) (number u w e : ℕ) (owner : ℕ → Record) (c : Record → ℕ → ℕ) (d : Disk)
     (p : With d (headerByte title number u w e) owner c) where
-  pub free-step : ((b : ℕ) → b < blocks → Valid (owner b)) → With (setFree d) (headerByte title number u (3 * count blocks (freeOf owner)) e) owner c
+  pub free-step : ((b : ℕ) → b < blocks → Valid (owner b)) → With (setFree d) (headerByte title number u (blockSectors * count blocks (freeOf owner)) e) owner c
   unfolding setFree setWord freeOf
   free-step v =
       let n : freeCount d ≡ count blocks (freeOf owner) = freeCount-is d (headerByte title number u w e) owner c p v in
-      subst (λ (k : ℕ). With (upd d 0 (patch (d 0) 20 2 (highByte 2 (3 * k)))) (headerByte title number u (3 * count blocks (freeOf owner)) e) owner c) (sym n)
-      (with-same (upd d 0 (patch (d 0) 20 2 (highByte 2 (3 * count blocks (freeOf owner)))))
-      (patch (headerByte title number u w e) 20 2 (highByte 2 (3 * count blocks (freeOf owner)))) owner c
-      (write-head d (headerByte title number u w e) owner c p 20 2 (highByte 2 (3 * count blocks (freeOf owner))) (omega arith))
-      (headerByte title number u (3 * count blocks (freeOf owner)) e) owner c
-      (λ o k. set-free-word title number u w (3 * count blocks (freeOf owner)) e o) (λ b k. refl) (λ b o i j k. refl))
+      subst (λ (k : ℕ). With (upd d 0 (patch (d 0) 20 2 (highByte 2 (blockSectors * k)))) (headerByte title number u (blockSectors * count blocks (freeOf owner)) e) owner c) (sym n)
+      (with-same (upd d 0 (patch (d 0) 20 2 (highByte 2 (blockSectors * count blocks (freeOf owner)))))
+      (patch (headerByte title number u w e) 20 2 (highByte 2 (blockSectors * count blocks (freeOf owner)))) owner c
+      (write-head d (headerByte title number u w e) owner c p 20 2 (highByte 2 (blockSectors * count blocks (freeOf owner))) (omega arith))
+      (headerByte title number u (blockSectors * count blocks (freeOf owner)) e) owner c
+      (λ o k. set-free-word title number u w (blockSectors * count blocks (freeOf owner)) e o) (λ b k. refl) (λ b o i j k. refl))
 
   pub end-step : (e′ : ℕ) → With (setEnd d e′) (headerByte title number u w e′) owner c
   unfolding setEnd setWord
@@ -123,9 +123,9 @@ module _ (title : List ℕ) (number u w e : ℕ) (owner : ℕ → Record) (c : R
 
 pub finish : (title : List ℕ) (number u w e : ℕ) (owner : ℕ → Record) (c : Record → ℕ → ℕ) (d : Disk)
     → With d (headerByte title number u w e) owner c → ((b : ℕ) → b < blocks → Valid (owner b)) → u < 4294967296
-    → With (stepUpdate (setFree d)) (headerByte title number (wrap (u + 1)) (3 * count blocks (freeOf owner)) e) owner c
+    → With (stepUpdate (setFree d)) (headerByte title number (wrap (u + 1)) (blockSectors * count blocks (freeOf owner)) e) owner c
 finish title number u w e owner c d p v small =
-    update-step title number u (3 * count blocks (freeOf owner)) e owner c (setFree d) (free-step title number u w e owner c d p v) small
+    update-step title number u (blockSectors * count blocks (freeOf owner)) e owner c (setFree d) (free-step title number u w e owner c d p v) small
 
 -- ---- a slot is written
 
@@ -141,27 +141,27 @@ module _ (d : Disk) (h : ℕ → ℕ) (owner : ℕ → Record) (parts : ℕ → 
   unfolding isSystem
   owned-not-zero b f s e z = true≢false (isSystem (owner 0)) (ap isSystem (v .own-zero)) (ap (λ (x : ℕ). isSystem (owner x)) (sym z) ∙ ap isSystem e)
 
-  module _ (k : ℕ) (x : Line) (e : ℕ → ℕ) (same-entry : (i : ℕ) → i < 64 → e i ≡ slotOf x i) (inDir : k / blockSlots < parts 0) where
+  module _ (k : ℕ) (x : Line) (e : ℕ → ℕ) (same-entry : (i : ℕ) → i < slotBytes → e i ≡ slotOf x i) (inDir : k / blockSlots < parts 0) where
     abbrev L′ : ℕ → Line
     L′ = upd L k x
 
     -- the block with the slot
     slot-block : (s o : ℕ) → s ≡ k / blockSlots → o < blockBytes
-        → patch (λ (i : ℕ). dirByte L s i) (k % blockSlots * slotBytes) 64 e o ≡ dirByte L′ s o
+        → patch (λ (i : ℕ). dirByte L s i) (k % blockSlots * slotBytes) slotBytes e o ≡ dirByte L′ s o
     unfolding dirByte
     slot-block s o q l =
-        by-place (λ (i : ℕ). dirByte L s i) (k % blockSlots * slotBytes) 64 e o
+        by-place (λ (i : ℕ). dirByte L s i) (k % blockSlots * slotBytes) slotBytes e o
         (λ a b.
         let here : s * blockSlots + o / slotBytes ≡ k = omega arith in
         let off : o - k % blockSlots * slotBytes ≡ o % slotBytes = omega arith in
-        patch-in (λ (i : ℕ). dirByte L s i) (k % blockSlots * slotBytes) 64 e o a b
+        patch-in (λ (i : ℕ). dirByte L s i) (k % blockSlots * slotBytes) slotBytes e o a b
         ∙ ap e off ∙ same-entry (o % slotBytes) (omega arith) ∙ ap (λ (y : Line). slotOf y (o % slotBytes)) (sym (upd-same L k x (s * blockSlots + o / slotBytes) here)))
         (λ a.
         let there : s * blockSlots + o / slotBytes ≢ k = omega arith in
-        patch-below (λ (i : ℕ). dirByte L s i) (k % blockSlots * slotBytes) 64 e o a ∙ ap (λ (y : Line). slotOf y (o % slotBytes)) (sym (upd-other L k x (s * blockSlots + o / slotBytes) there)))
+        patch-below (λ (i : ℕ). dirByte L s i) (k % blockSlots * slotBytes) slotBytes e o a ∙ ap (λ (y : Line). slotOf y (o % slotBytes)) (sym (upd-other L k x (s * blockSlots + o / slotBytes) there)))
         (λ a.
         let there : s * blockSlots + o / slotBytes ≢ k = omega arith in
-        patch-above (λ (i : ℕ). dirByte L s i) (k % blockSlots * slotBytes) 64 e o a ∙ ap (λ (y : Line). slotOf y (o % slotBytes)) (sym (upd-other L k x (s * blockSlots + o / slotBytes) there)))
+        patch-above (λ (i : ℕ). dirByte L s i) (k % blockSlots * slotBytes) slotBytes e o a ∙ ap (λ (y : Line). slotOf y (o % slotBytes)) (sym (upd-other L k x (s * blockSlots + o / slotBytes) there)))
 
     -- any other block of the directory
     other-block : (s o : ℕ) → s ≢ k / blockSlots → o < blockBytes → dirByte L s o ≡ dirByte L′ s o
@@ -183,13 +183,13 @@ module _ (d : Disk) (h : ℕ → ℕ) (owner : ℕ → Record) (parts : ℕ → 
     slot-step =
         let w : (b : ℕ) × (b < blocks) × (owner b ≡ File 0 (k / blockSlots)) = v .own-part 0 (k / blockSlots) inDir in
         let nz : w .0 ≢ 0 = owned-not-zero (w .0) 0 (k / blockSlots) (w .2) in
-        let g : ℕ → ℕ = patch (d (w .0)) (k % blockSlots * slotBytes) 64 e in
-        subst (λ (b : ℕ). With (upd d b (patch (d b) (k % blockSlots * slotBytes) 64 e)) h owner (content L′ F)) (sym (owned-block (w .0) 0 (k / blockSlots) (w .1) (w .2)))
+        let g : ℕ → ℕ = patch (d (w .0)) (k % blockSlots * slotBytes) slotBytes e in
+        subst (λ (b : ℕ). With (upd d b (patch (d b) (k % blockSlots * slotBytes) slotBytes e)) h owner (content L′ F)) (sym (owned-block (w .0) 0 (k / blockSlots) (w .1) (w .2)))
         (write-block d h owner (content L F) p (content L′ F) (w .0) g (omega arith) (w .1)
         (λ o l.
-        patch-cong (d (w .0)) (λ (i : ℕ). dirByte L (k / blockSlots) i) (k % blockSlots * slotBytes) 64 e o
+        patch-cong (d (w .0)) (λ (i : ℕ). dirByte L (k / blockSlots) i) (k % blockSlots * slotBytes) slotBytes e o
         (p .block (w .0) o (omega arith) (w .1) l ∙ ap (λ (r : Record). content L F r o) (w .2))
         ∙ slot-block (k / blockSlots) o refl l
         ∙ ap (λ (r : Record). content L′ F r o) (sym (w .2)))
-        (λ o l. patch-above (d (w .0)) (k % blockSlots * slotBytes) 64 e o (omega arith) ∙ p .out (w .0) o l)
+        (λ o l. patch-above (d (w .0)) (k % blockSlots * slotBytes) slotBytes e o (omega arith) ∙ p .out (w .0) o l)
         (λ b o q l i. other-content (owner b) o (λ z. q (v .own-once b (w .0) 0 (k / blockSlots) l (w .1) z (w .2))) i))

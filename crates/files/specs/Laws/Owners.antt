@@ -64,7 +64,7 @@ unfolding unowned
 unowned-valid k r v =
     by-test (bears k r) (λ t. subst Valid (sym (cond-true {b = bears k r} Free r t)) tt) (λ t. subst Valid (sym (cond-false {b = bears k r} Free r t)) v)
 
-unowned-free : (k : ℕ) (r : Record) → isFree (unowned k r) ≡ ((isFree r) || (bears k r))
+unowned-free : (k : ℕ) (r : Record) → isFree (unowned k r) ≡ (isFree r || bears k r)
 unfolding unowned isFree bears
 unowned-free k Free = refl
 unowned-free k System = refl
@@ -72,7 +72,7 @@ unowned-free k Other = refl
 unowned-free k (File f s) =
     by-test (eqb f k) (λ t. ap isFree (cond-true _ _ t) ∙ sym t) (λ t. ap isFree (cond-false _ _ t) ∙ sym t)
 
-free-apart : (k : ℕ) (r : Record) → ((isFree r) && (bears k r)) ≡ false
+free-apart : (k : ℕ) (r : Record) → (isFree r && bears k r) ≡ false
 unfolding isFree bears
 free-apart k Free = refl
 free-apart k System = refl
@@ -85,16 +85,16 @@ partBelow : ℕ → ℕ → Record → Bool
 partBelow k n Free = false
 partBelow k n System = false
 partBelow k n Other = false
-partBelow k n (File f s) = ((eqb f k) && (ltb s n))
+partBelow k n (File f s) = (eqb f k && ltb s n)
 
-below-suc : (k n : ℕ) (r : Record) → partBelow k (suc n) r ≡ ((partBelow k n r) || (isPart k n r))
+below-suc : (k n : ℕ) (r : Record) → partBelow k (suc n) r ≡ (partBelow k n r || isPart k n r)
 unfolding partBelow isPart
 below-suc k n Free = refl
 below-suc k n System = refl
 below-suc k n Other = refl
 below-suc k n (File f s) =
-    let A : Bool = ((eqb f k) && (ltb s n)) in
-    let B : Bool = ((eqb f k) && (eqb s n)) in
+    let A : Bool = (eqb f k && ltb s n) in
+    let B : Bool = (eqb f k && eqb s n) in
     by-test (eqb f k)
     (λ t. by-order s n
     (λ h. and-true t (lt-true {a = s} {b = suc n} (omega arith)) ∙ sym (or-left A B (and-true t (lt-true h))))
@@ -104,7 +104,7 @@ below-suc k n (File f s) =
     ∙ sym (or-none A B (and-false-right (eqb f k) (lt-false h)) (and-false-right (eqb f k) (eq-false q))))))
     (λ t. and-false-left (ltb s (suc n)) t ∙ sym (or-none A B (and-false-left (ltb s n) t) (and-false-left (eqb s n) t)))
 
-below-apart : (k n : ℕ) (r : Record) → ((partBelow k n r) && (isPart k n r)) ≡ false
+below-apart : (k n : ℕ) (r : Record) → (partBelow k n r && isPart k n r) ≡ false
 unfolding partBelow isPart
 below-apart k n Free = refl
 below-apart k n System = refl
@@ -112,7 +112,7 @@ below-apart k n Other = refl
 below-apart k n (File f s) =
     by-equal s n
     (λ q. and-false-left _ (and-false-right (eqb f k) (lt-false {a = s} {b = n} (omega arith))))
-    (λ q. and-false-right ((eqb f k) && (ltb s n)) (and-false-right (eqb f k) (eq-false q)))
+    (λ q. and-false-right (eqb f k && ltb s n) (and-false-right (eqb f k) (eq-false q)))
 
 below-none : (k : ℕ) (r : Record) → partBelow k 0 r ≡ false
 unfolding partBelow
@@ -130,10 +130,10 @@ module _ (owner : ℕ → Record) (parts : ℕ → ℕ) (v : Owned owner parts) 
       count-one blocks (w .0) (λ (b : ℕ). isPart k n (owner b)) (w .1) (isPart-true k n (owner (w .0)) (w .2))
       (λ j l t. v .own-once j (w .0) k n l (w .1) (true-isPart k n (owner j) t) (w .2)) in
       let ih : count blocks (λ (b : ℕ). partBelow k n (owner b)) ≡ n = count-below n (omega arith) in
-      let both : count blocks (λ (b : ℕ). ((partBelow k n (owner b)) || (isPart k n (owner b))))
+      let both : count blocks (λ (b : ℕ). (partBelow k n (owner b) || isPart k n (owner b)))
       ≡ count blocks (λ (b : ℕ). partBelow k n (owner b)) + count blocks (λ (b : ℕ). isPart k n (owner b)) =
       count-or blocks (λ (b : ℕ). partBelow k n (owner b)) (λ (b : ℕ). isPart k n (owner b)) (λ b l. below-apart k n (owner b)) in
-      count-cong blocks (λ (b : ℕ). partBelow k (suc n) (owner b)) (λ (b : ℕ). ((partBelow k n (owner b)) || (isPart k n (owner b))))
+      count-cong blocks (λ (b : ℕ). partBelow k (suc n) (owner b)) (λ (b : ℕ). (partBelow k n (owner b) || isPart k n (owner b)))
       (λ b l. below-suc k n (owner b))
       ∙ omega arith
 
@@ -160,7 +160,7 @@ module _ (owner : ℕ → Record) (parts : ℕ → ℕ) (v : Owned owner parts) 
   pub freed-count : count blocks (freeOf owner′) ≡ count blocks (freeOf owner) + parts k
   unfolding freeOf
   freed-count =
-      count-cong blocks (λ (b : ℕ). isFree (owner′ b)) (λ (b : ℕ). ((isFree (owner b)) || (bears k (owner b)))) (λ b l. unowned-free k (owner b))
+      count-cong blocks (λ (b : ℕ). isFree (owner′ b)) (λ (b : ℕ). (isFree (owner b) || bears k (owner b))) (λ b l. unowned-free k (owner b))
       ∙ count-or blocks (λ (b : ℕ). isFree (owner b)) (λ (b : ℕ). bears k (owner b)) (λ b l. free-apart k (owner b))
       ∙ ap (λ (x : ℕ). count blocks (λ (b : ℕ). isFree (owner b)) + x) count-bears
 

@@ -26,11 +26,11 @@ use Rattle.files.specs.Laws.Facts.{dirEnd-is, findName-is, vacantSlot-is
 use Rattle.files.specs.Laws.Inner.{Inner, fileBlocks, header, render, emptyLines, formatM, findM, emptyLine, freeOf, ChangedM, refusedM, removeAtM, removeM, addAtM, roomFor, addM, stepM, outM, outsM, endM}
 use Rattle.files.specs.Laws.Invariant.{partsOf, Inv}
 use Rattle.files.specs.Laws.Names.{name-bounds}
-use Rattle.files.specs.Laws.Whole.{Valid, with-is, with-only, with-same}
 use Rattle.files.specs.Laws.Remove.{remove-inv, remove-image}
+use Rattle.files.specs.Laws.Whole.{Valid, with-is, with-only, with-same}
 use Rattle.files.specs.Map.{isFree, isSystem}
 use Rattle.files.specs.Model.{NamedFile, lineBlocks, dirBlocks, freeWord, slotOf, bytesOf, dirByte, content}
-use Rattle.files.specs.Sizes.{blockBytes}
+use Rattle.files.specs.Sizes.{blockBytes, nameMost}
 use Rattle.files.specs.Written.{headerByte, part}
 
 -- ---- format
@@ -143,7 +143,7 @@ module _ (m : Inner) (v : Inv m) where
       ))
       (λ h. by-test (roomFor m x)
       (λ r.
-      let right : (1 ≤ length (x .name)) × (length (x .name) ≤ 36) = name-bounds (x .name) t in
+      let right : (1 ≤ length (x .name)) × (length (x .name) ≤ nameMost) = name-bounds (x .name) t in
       let e : addM m x ≡ record { answer = done; model = addAtM m (emptyLine m) x } =
       cond-true _ _ t ∙ cond-false _ _ (lt-false h) ∙ cond-true _ _ r in (
         rw (judged-none m v, findName-is m v (x .name), dirEnd-is m v, vacantSlot-is m v)

@@ -19,6 +19,7 @@ use Rattle.files.specs.declared.Record.the-variants.{Free, System, File,
 use Rattle.files.specs.Calls.{read}
 use Rattle.files.specs.Disk.{Disk}
 use Rattle.files.specs.Map.{decode, encode, recordAt, isFree, bears, isPart, freeAt, freeCount, partBlock}
+use Rattle.files.specs.Model.{content}
 use Rattle.files.specs.Sizes.{blockBytes, mapStart, recordBytes}
 use Rattle.files.specs.Written.{diskWith, part, zeros, setBlock, setRecord, freeBlock, freeBlocks}
 
@@ -45,14 +46,14 @@ decode-encode Other v = absurd v
 
 pub record With (d : Disk) (h : ℕ → ℕ) (owner : ℕ → Record) (content : Record → ℕ → ℕ) : Type 0 where
   pub head : (o : ℕ) → o < mapStart → d 0 o ≡ h o
-  pub map : (b i : ℕ) → b < blocks → i < 3 → d 0 (mapStart + recordBytes * b + i) ≡ encode (owner b) i
+  pub map : (b i : ℕ) → b < blocks → i < recordBytes → d 0 (mapStart + recordBytes * b + i) ≡ encode (owner b) i
   pub block : (b o : ℕ) → 0 < b → b < blocks → o < blockBytes → d b o ≡ content (owner b) o
   pub far : (b o : ℕ) → blocks ≤ b → d b o ≡ 0
   pub out : (b o : ℕ) → blockBytes ≤ o → d b o ≡ 0
 
 module _ (h : ℕ → ℕ) (owner : ℕ → Record) (content : Record → ℕ → ℕ) where
   zeroPart : ℕ → ℕ
-  zeroPart o = cond (ltb o mapStart) (h o) (encode (owner ((o - mapStart) / 3)) ((o - mapStart) % 3))
+  zeroPart o = cond (ltb o mapStart) (h o) (encode (owner ((o - mapStart) / recordBytes)) ((o - mapStart) % recordBytes))
 
   zero-block : (o : ℕ) → o < blockBytes → diskWith h owner content 0 o ≡ zeroPart o
   unfolding diskWith zeroPart
@@ -64,8 +65,8 @@ module _ (h : ℕ → ℕ) (owner : ℕ → Record) (content : Record → ℕ �
       record {
         head = λ o k. zero-block o (omega arith) ∙ cond-true _ _ (lt-true k);
         map = λ b i k l.
-            let q : (mapStart + recordBytes * b + i - mapStart) / 3 ≡ b = omega arith in
-            let r : (mapStart + recordBytes * b + i - mapStart) % 3 ≡ i = omega arith in
+            let q : (mapStart + recordBytes * b + i - mapStart) / recordBytes ≡ b = omega arith in
+            let r : (mapStart + recordBytes * b + i - mapStart) % recordBytes ≡ i = omega arith in
             zero-block (mapStart + recordBytes * b + i) (omega arith)
             ∙ cond-false _ _ (lt-false {a = mapStart + recordBytes * b + i} {b = mapStart} (omega arith))
             ∙ ap₂ (λ (x y : ℕ). encode (owner x) y) q r;
@@ -84,9 +85,9 @@ module _ (h : ℕ → ℕ) (owner : ℕ → Record) (content : Record → ℕ �
       (λ (z : b ≡ 0). subst (λ (x : ℕ). d x o ≡ diskWith h owner content x o) (sym z)
       (by-order o mapStart (λ k. p .head o k ∙ sym (with-is .head o k))
       (λ k.
-      let e : mapStart + recordBytes * ((o - mapStart) / 3) + (o - mapStart) % 3 ≡ o = omega arith in
+      let e : mapStart + recordBytes * ((o - mapStart) / recordBytes) + (o - mapStart) % recordBytes ≡ o = omega arith in
       subst (λ (x : ℕ). d 0 x ≡ diskWith h owner content 0 x) e
-      (p .map ((o - mapStart) / 3) ((o - mapStart) % 3) (omega arith) (omega arith) ∙ sym (with-is .map ((o - mapStart) / 3) ((o - mapStart) % 3) (omega arith) (omega arith))))))
+      (p .map ((o - mapStart) / recordBytes) ((o - mapStart) % recordBytes) (omega arith) (omega arith) ∙ sym (with-is .map ((o - mapStart) / recordBytes) ((o - mapStart) % recordBytes) (omega arith) (omega arith))))))
       (λ (z : b ≢ 0). p .block b o (omega arith) hb ho ∙ sym (with-is .block b o (omega arith) hb ho)))
       (λ (k : blockBytes ≤ o). p .out b o k ∙ sym (with-is .out b o k)))
       (λ (k : blocks ≤ b). p .far b o k ∙ sym (with-is .far b o k))))
@@ -126,18 +127,18 @@ module _ (d : Disk) (h : ℕ → ℕ) (owner : ℕ → Record) (content : Record
   give-block b r g b₀ b₁ inside outside =
       let d₁ : Disk = upd d b g in
       let zero-row : (o : ℕ) → d₁ 0 o ≡ d 0 o = λ o. upd₂-other d b g 0 o (omega arith) in
-      let F : ℕ → ℕ = patch (d₁ 0) (mapStart + recordBytes * b) 3 (encode r) in
+      let F : ℕ → ℕ = patch (d₁ 0) (mapStart + recordBytes * b) recordBytes (encode r) in
       record {
         head = λ o k.
-            upd₂-same d₁ 0 F 0 o refl ∙ patch-below (d₁ 0) (mapStart + recordBytes * b) 3 (encode r) o (omega arith) ∙ zero-row o ∙ p .head o k;
+            upd₂-same d₁ 0 F 0 o refl ∙ patch-below (d₁ 0) (mapStart + recordBytes * b) recordBytes (encode r) o (omega arith) ∙ zero-row o ∙ p .head o k;
         map = λ b′ i k l.
             upd₂-same d₁ 0 F 0 (mapStart + recordBytes * b′ + i) refl
             ∙ by-equal b′ b
-            (λ e. patch-in (d₁ 0) (mapStart + recordBytes * b) 3 (encode r) (mapStart + recordBytes * b′ + i) (omega arith) (omega arith)
+            (λ e. patch-in (d₁ 0) (mapStart + recordBytes * b) recordBytes (encode r) (mapStart + recordBytes * b′ + i) (omega arith) (omega arith)
             ∙ ap₂ encode (sym (upd-same owner b r b′ e)) (omega arith))
             (λ e. by-order b′ b
-            (λ q. patch-below (d₁ 0) (mapStart + recordBytes * b) 3 (encode r) (mapStart + recordBytes * b′ + i) (omega arith))
-            (λ q. patch-above (d₁ 0) (mapStart + recordBytes * b) 3 (encode r) (mapStart + recordBytes * b′ + i) (omega arith))
+            (λ q. patch-below (d₁ 0) (mapStart + recordBytes * b) recordBytes (encode r) (mapStart + recordBytes * b′ + i) (omega arith))
+            (λ q. patch-above (d₁ 0) (mapStart + recordBytes * b) recordBytes (encode r) (mapStart + recordBytes * b′ + i) (omega arith))
             ∙ zero-row (mapStart + recordBytes * b′ + i) ∙ p .map b′ i k l
             ∙ ap (λ (x : Record). encode x i) (sym (upd-other owner b r b′ e)));
         block = λ b′ o j k l.
@@ -148,7 +149,7 @@ module _ (d : Disk) (h : ℕ → ℕ) (owner : ℕ → Record) (content : Record
         far = λ b′ o k. upd₂-other d₁ 0 F b′ o (omega arith) ∙ upd₂-other d b g b′ o (omega arith) ∙ p .far b′ o k;
         out = λ b′ o k.
             by-equal b′ 0
-            (λ e. upd₂-same d₁ 0 F b′ o e ∙ patch-above (d₁ 0) (mapStart + recordBytes * b) 3 (encode r) o (omega arith) ∙ zero-row o ∙ p .out 0 o k)
+            (λ e. upd₂-same d₁ 0 F b′ o e ∙ patch-above (d₁ 0) (mapStart + recordBytes * b) recordBytes (encode r) o (omega arith) ∙ zero-row o ∙ p .out 0 o k)
             (λ e. upd₂-other d₁ 0 F b′ o e
             ∙ by-equal b′ b (λ q. upd₂-same d b g b′ o q ∙ outside o k) (λ q. upd₂-other d b g b′ o q ∙ p .out b′ o k));
       }

@@ -16,8 +16,8 @@ use Rattle.files.specs.History.{HasEntry, Belongs, inHead, inSlot, inFil
 use Rattle.files.specs.Laws.Facts.{parts-none, rec, entry-is}
 use Rattle.files.specs.Laws.Inner.{Inner, header, render}
 use Rattle.files.specs.Laws.Invariant.{Inv}
-use Rattle.files.specs.Laws.Whole.{Valid, with-is}
 use Rattle.files.specs.Laws.Present.{Fills, fills-present}
+use Rattle.files.specs.Laws.Whole.{Valid, with-is}
 use Rattle.files.specs.Model.{NamedFile, Line, slotOf, bytesOf, dirByte, content}
 use Rattle.files.specs.Sizes.{blockBytes, slotBytes, blockSlots}
 use Rattle.files.specs.Written.{storedByte, part}
