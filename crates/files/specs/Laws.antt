@@ -19,3 +19,5 @@ pub mod History
 pub mod Bytes
 pub mod Refusals
 pub mod Give
+pub mod Entries
+pub mod Track

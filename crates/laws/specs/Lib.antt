@@ -12,3 +12,4 @@ pub mod Change
 pub mod Count
 pub mod Firsts
 pub mod Numbers
+pub mod Rows
