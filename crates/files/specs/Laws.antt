@@ -21,3 +21,5 @@ pub mod Refusals
 pub mod Give
 pub mod Entries
 pub mod Track
+pub mod Access
+pub mod Sound
