@@ -6,7 +6,10 @@ use mathlib.Core.List.{List, [], _∷_}
 use Prim.Native.Nat.{ℕ, zero, suc, _+_, _≤_, _<_}
 use native.Mathlib.Omega.{arith}
 use lib.ListN.{length}
+use Rattle.laws.specs.Order.{by-order}
 use Rattle.laws.specs.Truth.{by-test}
+use Rattle.laws.specs.Lowest.{lowest}
+use Rattle.laws.specs.Search.{lowest-hit, lowest-low}
 use Rattle.laws.specs.Count.{count, count-cong, count-head-yes, count-head-no}
 
 -- of n numbers from i on, those that pass, upwards, the first k of them
@@ -95,3 +98,17 @@ pub firsts-zero : (n i : ℕ) (p : ℕ → Bool) → firstsFrom n i 0 p ≡ []
 unfolding firstsFrom
 firsts-zero zero i p = refl
 firsts-zero (suc n) i p = refl
+
+-- the lowest alone
+one-from : (p : ℕ → Bool) (n i j : ℕ) → i ≤ j → j < i + n → p j ≡ true → ((m : ℕ) → i ≤ m → m < j → p m ≡ false) → firstsFrom n i 1 p ≡ j ∷ []
+one-from p zero i j h l t low = absurd (omega arith)
+one-from p (suc n) i j h l t low =
+    by-order i j
+    (λ q. firsts-no p n i 0 (low i (omega arith) q) ∙ one-from p n (suc i) j (omega arith) (omega arith) t (λ m a b. low m (omega arith) b))
+    (λ q.
+    let e : i ≡ j = omega arith in
+    firsts-yes p n i 0 (ap p e ∙ t) ∙ ap (λ (l : List ℕ). i ∷ l) (firsts-zero n (suc i) p) ∙ ap (λ (x : ℕ). x ∷ []) e)
+
+pub firsts-one : (p : ℕ → Bool) (n : ℕ) → lowest p n < n → firsts n 1 p ≡ lowest p n ∷ []
+unfolding firsts
+firsts-one p n h = one-from p n 0 (lowest p n) (omega arith) (omega arith) (lowest-hit p n h) (λ m a b. lowest-low p n m b)

@@ -1,21 +1,25 @@
 -- Where the parts of a disk stand in its image, read and written: header words, records, slots, blocks. For the functions' proofs.
 -- Assumes nothing.
-use mathlib.Core.Path.{_≡_, refl, sym, ap, ap₂, _∙_, fun-ext}
+use mathlib.Core.Path.{_≡_, refl, sym, ap, ap₂, _∙_, subst, fun-ext}
+use mathlib.Core.Bool.{_&&_}
 use mathlib.Core.List.{List}
 use Prim.Native.Nat.{ℕ, _+_, _*_, _/_, _%_, _≤_, _<_}
 use native.Mathlib.Omega.{arith}
+use lib.Dec.{ltb}
 use lib.ListN.{length, getD}
 use Rattle.laws.specs.Change.{upd, patch, upd-same, upd-other, patch-none, patch-more, patch-next, upd-twice}
 use Rattle.laws.specs.Numbers.{at16, at32}
 use Rattle.laws.specs.Overlay.{overlay}
-use Rattle.laws.specs.Tests.{by-equal}
+use Rattle.laws.specs.Tests.{by-equal, cond-true, cond-false}
+use Rattle.laws.specs.Truth.{by-test}
 use Rattle.laws.specs.Words.{highFirst, highByte}
 use Rattle.sectors.specs.Geometry.{sectorBytes, blockSectors, blocks, imageBytes}
 use Rattle.files.specs.declared.Record.{Record}
 use Rattle.files.specs.Directory.{slotByte}
 use Rattle.files.specs.Disk.{Disk, byteOf, diskOf, setByte}
 use Rattle.files.specs.Laws.Bytes.{byte-next, byte-first, disk-at, disk-out, disk-patch, block-rows}
-use Rattle.files.specs.Map.{decode, encode, recordAt, partBlock}
+use Rattle.files.specs.Map.{decode, encode, recordAt, partBlock, fileByte}
+use Rattle.files.specs.Model.{fits}
 use Rattle.files.specs.Sizes.{blockBytes, slotBytes, blockSlots, mapStart, recordBytes}
 use Rattle.files.specs.Values.{row}
 use Rattle.files.specs.Written.{setBlock, setRecord, setSlot, setWord, stepUpdate}
@@ -145,3 +149,25 @@ block-start d b f =
 pub block-done : (image : List ℕ) (b : ℕ) (f : ℕ → ℕ) → ((o : ℕ) → blockBytes ≤ o → f o ≡ 0)
     → upd (diskOf image) b (patch (diskOf image b) 0 (blockSectors * sectorBytes) f) ≡ setBlock (diskOf image) b f
 block-done image b f zero-f = sym (block-rows (diskOf image) b f (λ o h. disk-out image b o h) zero-f)
+
+-- ---- a file's bytes: in a row within a sector
+
+pub file-in : (image : List ℕ) (f p j : ℕ) → partBlock (diskOf image) f (p / blockBytes) < blocks → p % sectorBytes + j < sectorBytes
+    → fileByte (diskOf image) f (p + j) ≡ getD image (byteOf (partBlock (diskOf image) f (p / blockBytes)) (p % blockBytes) + j) 0
+unfolding fileByte
+file-in image f p j h fits =
+    let b : ℕ = partBlock (diskOf image) f (p / blockBytes) in
+    let e₁ : (p + j) / blockBytes ≡ p / blockBytes = omega arith in
+    let e₂ : (p + j) % blockBytes ≡ p % blockBytes + j = omega arith in
+    ap₂ (λ (q o : ℕ). diskOf image (partBlock (diskOf image) f q) o) e₁ e₂
+    ∙ disk-at image b (p % blockBytes + j) h (omega arith)
+    ∙ ap (λ (x : ℕ). getD image x 0) (byte-next b (p % blockBytes) j (omega arith))
+
+-- ---- bytes stay bytes
+
+pub disk-bytes : (image : List ℕ) → ((i : ℕ) → getD image i 0 < 256) → (b o : ℕ) → diskOf image b o < 256
+unfolding diskOf
+disk-bytes image h b o =
+    by-test (ltb b blocks && ltb o blockBytes)
+    (λ t. subst (λ (x : ℕ). x < 256) (sym (cond-true (getD image (byteOf b o) 0) 0 t)) (h (byteOf b o)))
+    (λ t. subst (λ (x : ℕ). x < 256) (sym (cond-false (getD image (byteOf b o) 0) 0 t)) (omega arith))

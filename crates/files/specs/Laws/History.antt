@@ -16,20 +16,21 @@ use Rattle.laws.specs.Tests.{lt-true, lt-false, le-true, eq-true, true≢false,
 use Rattle.laws.specs.Truth.{by-test}
 use Rattle.sectors.specs.Geometry.{imageBytes}
 use Rattle.sectors.specs.Replies.{done, refusal}
-use Rattle.files.specs.Calls.{Outcome, Written, kept, imageRight, freshOwner, formatDisk, format, deliver, read, add}
+use Rattle.files.specs.Calls.{Outcome, Written, kept, unless, imageRight, freshOwner, formatDisk, format, check, deliver, read, add}
+use Rattle.files.specs.Check.{judged}
 use Rattle.files.specs.Directory.{nameEq, nameRight, held, dirEnd}
 use Rattle.files.specs.Disk.{Disk, diskOf, imageOf}
 use Rattle.files.specs.Histories.{Call, imageOut, imageOuts, imageEnd, modelOuts, modelEnd, filesLeft, mostPresent, sizeOf, fileNamed, Present, toAdd, toRead}
 use Rattle.files.specs.History.{dataFound, HasEntry, Belongs, Holds, formatted, History}
 use Rattle.files.specs.Laws.Agree.{agree, fresh-listed, start-is}
 use Rattle.files.specs.Laws.Disk.{length-image}
-use Rattle.files.specs.Laws.Facts.{dirEnd-is, word20, held-is, found-line}
+use Rattle.files.specs.Laws.Facts.{dirEnd-is, word20, held-is, judged-none, found-line}
 use Rattle.files.specs.Laws.Inner.{Inner, present, fileBlocks, render, emptyLines, formatM, findM, readM, ChangedM, refusedM, peakAfter, roomFor, addM, outM, outsM, endM}
 use Rattle.files.specs.Laws.Invariant.{partsOf, Inv}
 use Rattle.files.specs.Laws.Left.{count-is, left-is}
 use Rattle.files.specs.Laws.Listed.{withOwner, Listed}
 use Rattle.files.specs.Laws.Present.{Fills, none-some, fills-size, fills-named, fills-not-named, fills-present, present-fills}
-use Rattle.files.specs.Laws.Run.{format-is, format-inv, img-disk, out-is, runs, end-inv}
+use Rattle.files.specs.Laws.Run.{format-is, format-inv, img-right, img-disk, out-is, runs, end-inv}
 use Rattle.files.specs.Laws.Zero.{by-line, filled-below, line-entry, zero-outside}
 use Rattle.files.specs.Model.{NamedFile, Line, Model, dirBlocks, usable, freeWord, modelDisk, modelFormat, named, lineData}
 use Rattle.files.specs.Sizes.{titleMost}
@@ -215,3 +216,17 @@ history old title number calls long short =
           (subst (λ (xs : List Outcome). Holds title number calls (imageOf (render (endM (formatM title number) calls))) xs (filesLeft [] calls xs) (mostPresent [] calls xs)) (sym o)
           (holds title number calls)),
     )
+
+-- after every history the check passes
+pub history-check : (old title : List ℕ) (number : ℕ) (calls : List Call) → length old ≡ imageBytes → length title ≤ titleMost
+    → check (imageEnd (formatted old title number) calls) ≡ done
+unfolding check unless
+history-check old title number calls long short =
+    let n : Inner = endM (formatM title number) calls in
+    let w : Inv n = end-inv calls (formatM title number) (format-inv title number) in
+    let f : format old title number ≡ record { answer = done; image = imageOf (formatDisk title number) } = format-is-done old title number long short in
+    let e : imageEnd (formatted old title number) calls ≡ imageOf (render n) =
+    ap (λ (l : List ℕ). imageEnd l calls) (ap (λ (x : Written). x .image) f ∙ ap imageOf (format-is title number))
+    ∙ runs calls (formatM title number) (format-inv title number) .1 in
+    let none-found : judged (diskOf (imageOf (render n))) ≡ none = ap judged (img-disk n w) ∙ judged-none n w in
+    ap check e ∙ cond-true _ _ (img-right n w) ∙ rw none-found
