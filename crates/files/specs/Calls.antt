@@ -54,9 +54,11 @@ unless (some r) f a = f r
 
 -- ---- 1: the block image has another length
 
+-- the block image has 737,280 bytes
 unfoldable pub imageRight : List ℕ → Bool
 imageRight image = eqb (length image) imageBytes
 
+-- else 1, which 2: the block image, or the first track
 abbrev pub wrongLength : Reply
 wrongLength = reply 1 2 0 0
 
@@ -81,6 +83,7 @@ format image title number =
 
 -- ---- check
 
+-- 1, then 8 to 11
 unfoldable pub check : List ℕ → Reply
 check image = cond (imageRight image) (unless (judged (diskOf image)) (λ (r : Reply). r) done) wrongLength
 
@@ -98,9 +101,11 @@ unfoldable pub entries : Disk → ℕ → List ℕ
 entries d zero = []
 entries d (suc n) = entries d n ++ cond (held d n) (tab (slotByte d n) slotBytes) []
 
+-- 8 to 11, then 16
 unfoldable pub listDisk : Disk → List ℕ → Outcome
 listDisk d buf = unless (judged d) (kept buf) (deliver (entries d (dirEnd d)) buf)
 
+-- 1 before that
 unfoldable pub list : List ℕ → List ℕ → Outcome
 list image buf = cond (imageRight image) (listDisk (diskOf image) buf) (kept buf wrongLength)
 
@@ -108,6 +113,7 @@ list image buf = cond (imageRight image) (listDisk (diskOf image) buf) (kept buf
 unfoldable pub dataOf : Disk → ℕ → List ℕ
 dataOf d k = tab (λ (i : ℕ). fileByte d k (slotBytes + i)) (slotEntry d k .length - slotBytes)
 
+-- 8 to 11, then 12, 14, 16
 unfoldable pub readDisk : Disk → List ℕ → List ℕ → Outcome
 readDisk d name buf =
     unless (judged d) (kept buf)
@@ -115,6 +121,7 @@ readDisk d name buf =
     (cond (ltb (findName d name) (dirEnd d)) (deliver (dataOf d (findName d name)) buf) (kept buf (refusal 14)))
     (kept buf (refusal 12)))
 
+-- 1 before that
 unfoldable pub read : List ℕ → List ℕ → List ℕ → Outcome
 read image name buf = cond (imageRight image) (readDisk (diskOf image) name buf) (kept buf wrongLength)
 
@@ -143,6 +150,7 @@ addAt d k e content =
 unfoldable pub needed : Disk → ℕ → List ℕ → ℕ
 needed d k content = cond (opensBlock d k) (suc (blocksFor (length content))) (blocksFor (length content))
 
+-- 8 to 11, then 12, 13 with the slot that has the name, 15
 unfoldable pub addDisk : Disk → List ℕ → ℕ → List ℕ → Changed
 addDisk d name date content =
     unless (judged d) (refused d)
@@ -157,6 +165,7 @@ addDisk d name date content =
 unfoldable pub imaged : Changed → Written
 imaged c = record { answer = c .answer; image = imageOf (c .disk) }
 
+-- 1 before that
 unfoldable pub add : List ℕ → List ℕ → ℕ → List ℕ → Written
 add image name date content = cond (imageRight image) (imaged (addDisk (diskOf image) name date content)) (unwritten image wrongLength)
 
@@ -166,6 +175,7 @@ add image name date content = cond (imageRight image) (imaged (addDisk (diskOf i
 unfoldable pub removeAt : Disk → ℕ → Disk
 removeAt d k = stepUpdate (setFree (setSlot (freeBlocks blocks d k) k zeros))
 
+-- 8 to 11, then 12, 14
 unfoldable pub removeDisk : Disk → List ℕ → Changed
 removeDisk d name =
     unless (judged d) (refused d)
@@ -174,5 +184,6 @@ removeDisk d name =
     (refused d (refusal 14)))
     (refused d (refusal 12)))
 
+-- 1 before that
 unfoldable pub remove : List ℕ → List ℕ → Written
 remove image name = cond (imageRight image) (imaged (removeDisk (diskOf image) name)) (unwritten image wrongLength)

@@ -102,20 +102,25 @@ fileFault d = lowest (λ (f : ℕ). not (fileRight d f)) slotCount
 
 -- ---- 11: the free word
 
+-- it is 3 x the free records
 unfoldable pub freeRight : Disk → Bool
 freeRight d = eqb (at16 (d 0) 20) (blockSectors * freeCount d)
 
 -- ---- the refusals, in order
 
+-- 8 with the offset of the lowest wrong field
 unfoldable pub refusal8 : Disk → Option Reply
 refusal8 d = Option·map (λ (o : ℕ). reply 8 o 0 0) (headerFault d)
 
+-- 9 with the lowest block
 unfoldable pub refusal9 : Disk → Option Reply
 refusal9 d = cond (ltb (mapFault d) blocks) (some (reply 9 (mapFault d) 0 0)) none
 
+-- 10 with the lowest file number
 unfoldable pub refusal10 : Disk → Option Reply
 refusal10 d = cond (ltb (fileFault d) slotCount) (some (reply 10 (fileFault d) 0 0)) none
 
+-- 11, with no place
 unfoldable pub refusal11 : Disk → Option Reply
 refusal11 d = cond (freeRight d) none (some (refusal 11))
 

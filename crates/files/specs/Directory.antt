@@ -57,9 +57,11 @@ entryFor name date size =
 unfoldable pub slotByte : Disk → ℕ → ℕ → ℕ
 slotByte d k i = d (partBlock d 0 (k / blockSlots)) (k % blockSlots * slotBytes + i)
 
+-- the entry of slot k
 unfoldable pub slotEntry : Disk → ℕ → Entry
 slotEntry d k = entryOf (slotByte d k)
 
+-- its name
 unfoldable pub slotName : Disk → ℕ → List ℕ
 slotName d k = nameOf (slotEntry d k)
 

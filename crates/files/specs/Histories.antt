@@ -37,10 +37,12 @@ imageStep image (toRemove name) = remove image name .image
 imageStep image (toList buf) = image
 imageStep image (toRead name buf) = image
 
+-- all of them in order, each call on what the last left
 unfoldable pub imageOuts : List ℕ → List Call → List Outcome
 imageOuts image [] = []
 imageOuts image (c ∷ cs) = imageOut image c ∷ imageOuts (imageStep image c) cs
 
+-- the image at the end
 unfoldable pub imageEnd : List ℕ → List Call → List ℕ
 imageEnd image [] = image
 imageEnd image (c ∷ cs) = imageEnd (imageStep image c) cs
@@ -69,6 +71,7 @@ modelEnd m (c ∷ cs) = modelEnd (modelStep m c) cs
 
 -- ---- by the calls and their replies alone
 
+-- a reply of 0
 unfoldable pub accepted : Outcome → Bool
 accepted o = eqb (o .answer .number) 0
 

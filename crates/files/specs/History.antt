@@ -39,7 +39,8 @@ pub data Belongs (d : Disk) (files : List NamedFile) : ℕ → ℕ → Type 0 wh
 
 -- `image` is the image at the end, `outs` the replies and result buffers in order, `files` those that the accepted calls leave,
 -- `most` the greatest number of them present at once
-pub record Holds (title : List ℕ) (number : ℕ) (calls : List Call) (image : List ℕ) (outs : List Outcome) (files : List NamedFile) (most : ℕ) : Type 0 where
+pub record Holds (title : List ℕ) (number : ℕ) (calls : List Call)
+    (image : List ℕ) (outs : List Outcome) (files : List NamedFile) (most : ℕ) : Type 0 where
   -- each reply, the whole result buffer after each list and read, and the whole image at the end are the model's
   pub same-outs : outs ≡ modelOuts (modelFormat title number) calls
   pub same-image : image ≡ imageOf (modelDisk (modelEnd (modelFormat title number) calls))
@@ -48,7 +49,8 @@ pub record Holds (title : List ℕ) (number : ℕ) (calls : List Call) (image : 
   -- each has its entry in a slot, and each held slot has the entry of one
   pub read-gives : (name buf : List ℕ) → nameRight name ≡ true → read image name buf ≡ dataFound (fileNamed name files) buf
   pub has-slot : (x : NamedFile) → Present x files → (k : ℕ) × (0 < k) × (k < dirEnd (diskOf image)) × HasEntry (diskOf image) k x
-  pub slot-has : (k : ℕ) → k < dirEnd (diskOf image) → held (diskOf image) k ≡ true → (x : NamedFile) × Present x files × HasEntry (diskOf image) k x
+  pub slot-has : (k : ℕ) → k < dirEnd (diskOf image) → held (diskOf image) k ≡ true
+      → (x : NamedFile) × Present x files × HasEntry (diskOf image) k x
   -- P, which the model counts as its peak, is the greatest number of them present at once
   pub peak-is : modelEnd (modelFormat title number) calls .peak ≡ most
   -- the free word is 3 x (479 - D - S), and D + S is at most 479

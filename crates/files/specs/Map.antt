@@ -41,18 +41,21 @@ mapRecord d b = record { block = b; «record» = recordAt d (b .0) }
 
 -- ---- what a record is asked
 
+-- whether it is free
 unfoldable pub isFree : Record → Bool
 isFree Free = true
 isFree System = false
 isFree (File f s) = false
 isFree Other = false
 
+-- whether it is system
 unfoldable pub isSystem : Record → Bool
 isSystem Free = false
 isSystem System = true
 isSystem (File f s) = false
 isSystem Other = false
 
+-- whether it is of none of the kinds
 unfoldable pub isOther : Record → Bool
 isOther Free = false
 isOther System = false
@@ -82,6 +85,7 @@ within f n Other = true
 
 -- ---- the whole map
 
+-- whether block b's record is free
 unfoldable pub freeAt : Disk → ℕ → Bool
 freeAt d b = isFree (recordAt d b)
 

@@ -34,6 +34,7 @@ pub record NamedFile : Type 0 where
   pub date : ℕ
   pub content : List ℕ
 
+-- a file, or none
 abbrev pub Line : Type 0
 Line = Option NamedFile
 
@@ -42,6 +43,7 @@ pub record Filled : Type 0 where
   pub file : NamedFile
   pub taken : List ℕ
 
+-- the model's state
 pub record Model : Type 0 where
   -- given at format
   pub title : List ℕ
@@ -55,6 +57,7 @@ pub record Model : Type 0 where
   -- the directory's blocks, in sequence
   pub dir : List ℕ
 
+-- a line's file, and its blocks
 unfoldable pub fileOf : Option Filled → Line
 fileOf none = none
 fileOf (some h) = some (h .file)
@@ -96,6 +99,7 @@ freeWord peak size = blockSectors * (usable - (dirBlocks peak + size))
 
 -- ---- the model's image
 
+-- byte i of a line's slot, and of its file with the entry in front
 unfoldable pub slotOf : Line → ℕ → ℕ
 slotOf none i = 0
 slotOf (some x) i = entryByte (entryFrom x) i
@@ -121,6 +125,7 @@ unfoldable pub position : ℕ → ℕ → List ℕ → Option ℕ
 position b i [] = none
 position b i (x ∷ xs) = cond (eqb x b) (some i) (position b (suc i) xs)
 
+-- file k with that sequence, or the other record
 unfoldable pub orRecord : ℕ → Option ℕ → Record → Record
 orRecord k none r = r
 orRecord k (some s) r = File k s
@@ -134,9 +139,11 @@ lineRecord lines (suc k) b = orRecord k (position b 0 (takenBy (lines k))) (line
 unfoldable pub recordIn : (ℕ → Option Filled) → List ℕ → ℕ → ℕ → Record
 recordIn lines dir peak b = cond (eqb b 0) System (orRecord 0 (position b 0 dir) (lineRecord lines (suc peak) b))
 
+-- the header, with the free word by demand 3
 unfoldable pub modelHeader : Model → ℕ → ℕ
 modelHeader m = headerByte (m .title) (m .number) (m .updates) (freeWord (m .peak) (sizeIn m)) (suc (m .peak))
 
+-- the formatted disk with map and header, entries in their slots, files in their blocks
 unfoldable pub modelDisk : Model → Disk
 modelDisk m =
     diskWith (modelHeader m) (recordIn (m .lines) (m .dir) (m .peak))
@@ -144,11 +151,13 @@ modelDisk m =
 
 -- ---- format
 
+-- no lines, and block 1 for the directory
 unfoldable pub modelFormat : List ℕ → ℕ → Model
 modelFormat title number = record { title = title; number = number; updates = 0; peak = 0; lines = λ (k : ℕ). none; dir = 1 ∷ [] }
 
 -- ---- which line
 
+-- whether a line has the file of that name
 unfoldable pub named : List ℕ → Line → Bool
 named name none = false
 named name (some x) = nameEq (x .name) name
@@ -163,6 +172,7 @@ lineEmpty m = lowest (λ (k : ℕ). ltb 0 k && not (isSome (fileOf (m .lines k))
 
 -- ---- list and read
 
+-- the 64 bytes of its entry
 unfoldable pub lineEntry : Line → List ℕ
 lineEntry none = []
 lineEntry (some x) = tab (entryByte (entryFrom x)) slotBytes
@@ -172,13 +182,16 @@ unfoldable pub lineEntries : (ℕ → Line) → ℕ → List ℕ
 lineEntries lines zero = []
 lineEntries lines (suc n) = lineEntries lines n ++ lineEntry (lines n)
 
+-- 16 or the entries
 unfoldable pub modelList : Model → List ℕ → Outcome
 modelList m buf = deliver (lineEntries (λ (k : ℕ). fileOf (m .lines k)) (suc (m .peak))) buf
 
+-- its data
 unfoldable pub lineData : Line → List ℕ
 lineData none = []
 lineData (some x) = x .content
 
+-- 12, 14, 16 or the line's data
 unfoldable pub modelRead : Model → List ℕ → List ℕ → Outcome
 modelRead m name buf =
     cond (nameRight name)
@@ -187,6 +200,7 @@ modelRead m name buf =
 
 -- ---- add and remove
 
+-- counts wrap at 32 bits
 unfoldable pub wrap : ℕ → ℕ
 wrap n = n % 4294967296
 
@@ -198,6 +212,7 @@ peakThen m = max (m .peak) (suc (presentIn m))
 unfoldable pub fits : Model → NamedFile → Bool
 fits m x = leb (dirBlocks (peakThen m) + (sizeIn m + blocksFor (length (x .content)))) usable
 
+-- whether no line and not the directory has block b
 unfoldable pub freeIn : (ℕ → Option Filled) → List ℕ → ℕ → ℕ → Bool
 freeIn lines dir peak b = isFree (recordIn lines dir peak b)
 
@@ -233,7 +248,7 @@ clear m k =
       dir = m .dir;
     }
 
--- the reply, and whether the call is accepted, then the model after it
+-- 12, 13 with the line, 15 or done, and the model after an add
 unfoldable pub addReply : Model → NamedFile → Reply
 addReply m x =
     cond (nameRight (x .name))
@@ -247,6 +262,7 @@ modelAdd m x =
     (cond (ltb (lineNamed m (x .name)) (suc (m .peak))) m
     (cond (fits m x) (fill m (lineEmpty m) x) m)) m
 
+-- 12, 14 or done, and the model after a remove
 unfoldable pub removeReply : Model → List ℕ → Reply
 removeReply m name =
     cond (nameRight name) (cond (ltb (lineNamed m name) (suc (m .peak))) done (refusal 14)) (refusal 12)

@@ -65,22 +65,27 @@ part c s o = cond (ltb o blockBytes) (c (s * blockBytes + o)) 0
 unfoldable pub blocksFor : ℕ → ℕ
 blocksFor size = up (slotBytes + size) blockBytes
 
+-- zero bytes
 unfoldable pub zeros : ℕ → ℕ
 zeros o = 0
 
 -- ---- single steps
 
+-- block b has the bytes f
 unfoldable pub setBlock : Disk → ℕ → (ℕ → ℕ) → Disk
 setBlock d b f = upd d b f
 
+-- block b's record is r
 unfoldable pub setRecord : Disk → ℕ → Record → Disk
 setRecord d b r = upd d 0 (patch (d 0) (mapStart + recordBytes * b) recordBytes (encode r))
 
+-- slot k has the 64 bytes e
 unfoldable pub setSlot : Disk → ℕ → (ℕ → ℕ) → Disk
 setSlot d k e =
     upd d (partBlock d 0 (k / blockSlots))
     (patch (d (partBlock d 0 (k / blockSlots))) (k % blockSlots * slotBytes) slotBytes e)
 
+-- the two bytes at o of the header have the number v
 unfoldable pub setWord : Disk → ℕ → ℕ → Disk
 setWord d o v = upd d 0 (patch (d 0) o 2 (highByte 2 v))
 
