@@ -23,3 +23,4 @@ pub mod Entries
 pub mod Track
 pub mod Access
 pub mod Sound
+pub mod Judged
