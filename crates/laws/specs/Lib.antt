@@ -6,3 +6,10 @@ pub mod Words
 pub mod Same
 pub mod Below
 pub mod Lowest
+pub mod Tests
+pub mod Search
+pub mod Change
+pub mod Count
+pub mod Firsts
+pub mod Numbers
+pub mod Rows

@@ -50,3 +50,8 @@ image-one-to-one n k hn hk e = sym (running-image n hn) ∙ ap runningSector e �
 pub image-first : imageSector 0 ≡ 0
 unfolding imageSector sidePlace
 image-first = refl
+
+-- a sector stays on its track
+pub image-track : (n : ℕ) → n < allSectors → imageSector n / trackSectors ≡ n / trackSectors
+unfolding imageSector sidePlace all
+image-track = all-eq (λ (n : ℕ). imageSector n / trackSectors) (λ (n : ℕ). n / trackSectors) allSectors refl

@@ -1,0 +1,272 @@
+-- The model: document 01's book ("The book of demand 3"). It is fed with the arguments of the format and of the calls, never with an image.
+-- It shares with the calls what is written (header, entry and record bytes), and none of their decisions.
+-- Assumes nothing: these are definitions.
+use mathlib.Core.Bool.{Bool, false, not, cond, _&&_}
+use mathlib.Core.List.{List, [], _∷_, _++_}
+use mathlib.Core.Option.{Option, none, some}
+use Prim.Native.Nat.{ℕ, zero, suc, _+_, _-_, _*_, _/_, _%_, max}
+use lib.Dec.{leb, ltb, eqb}
+use lib.ListN.{length}
+use Rattle.laws.specs.Change.{upd}
+use Rattle.laws.specs.Count.{count, sum}
+use Rattle.laws.specs.Firsts.{firsts}
+use Rattle.laws.specs.Lowest.{lowest}
+use Rattle.laws.specs.Tab.{tab}
+use Rattle.laws.specs.Tests.{isSome}
+use Rattle.sectors.specs.Geometry.{blockSectors, blocks}
+use Rattle.sectors.specs.Replies.{reply, done, refusal}
+use Rattle.sectors.specs.declared.Reply.{Reply}
+use Rattle.files.specs.declared.Entry.{Entry}
+use Rattle.files.specs.declared.Record.{Record}
+use Rattle.files.specs.declared.Record.the-variants.{Free, System, File, Other}
+use Rattle.files.specs.Calls.{Outcome, kept, deliver, entries}
+use Rattle.files.specs.Directory.{nameEq, nameRight, entryByte, entryFor}
+use Rattle.files.specs.Disk.{Disk}
+use Rattle.files.specs.Map.{isFree}
+use Rattle.files.specs.Sizes.{slotBytes, blockSlots}
+use Rattle.files.specs.Written.{headerByte, diskWith, storedByte, part, blocksFor}
+
+-- ---- lines
+
+-- a file as it is given to add
+pub record NamedFile : Type 0 where
+  pub name : List ℕ
+  pub date : ℕ
+  pub content : List ℕ
+
+-- a file, or none
+abbrev pub Line : Type 0
+Line = Option NamedFile
+
+-- a filled line: a file and its blocks, in sequence
+pub record Filled : Type 0 where
+  pub file : NamedFile
+  pub taken : List ℕ
+
+-- the model's state
+pub record Model : Type 0 where
+  -- given at format
+  pub title : List ℕ
+  pub number : ℕ
+  -- accepted adds and removes, wrapping at 32 bits
+  pub updates : ℕ
+  -- P: the greatest number of files present at once
+  pub peak : ℕ
+  -- the lines from 1 up, by their number; line 0 stays empty
+  pub lines : ℕ → Option Filled
+  -- the directory's blocks, in sequence
+  pub dir : List ℕ
+
+-- a line's file, and its blocks
+unfoldable pub fileOf : Option Filled → Line
+fileOf none = none
+fileOf (some h) = some (h .file)
+
+unfoldable pub takenBy : Option Filled → List ℕ
+takenBy none = []
+takenBy (some h) = h .taken
+
+-- the entry that add writes for a file
+abbrev pub entryFrom : NamedFile → Entry
+entryFrom x = entryFor (x .name) (x .date) (length (x .content))
+
+-- ---- the sizes of demand 3
+
+-- the blocks of a line's file: (64 + length of data) / 1536, rounded up
+unfoldable pub lineBlocks : Line → ℕ
+lineBlocks none = 0
+lineBlocks (some x) = blocksFor (length (x .content))
+
+-- how many files are present
+unfoldable pub presentIn : Model → ℕ
+presentIn m = count (suc (m .peak)) (λ (k : ℕ). isSome (fileOf (m .lines k)))
+
+-- S: the blocks of all files present
+unfoldable pub sizeIn : Model → ℕ
+sizeIn m = sum (suc (m .peak)) (λ (k : ℕ). lineBlocks (fileOf (m .lines k)))
+
+-- D: 1 + P / 24, rounded down
+unfoldable pub dirBlocks : ℕ → ℕ
+dirBlocks peak = suc (peak / blockSlots)
+
+-- blocks that the directory and files can have: all but the header's
+abbrev pub usable : ℕ
+usable = blocks - 1
+
+-- the free word: 3 x (479 - D - S)
+unfoldable pub freeWord : ℕ → ℕ → ℕ
+freeWord peak size = blockSectors * (usable - (dirBlocks peak + size))
+
+-- ---- the model's image
+
+-- byte i of a line's slot, and of its file with the entry in front
+unfoldable pub slotOf : Line → ℕ → ℕ
+slotOf none i = 0
+slotOf (some x) i = entryByte (entryFrom x) i
+
+unfoldable pub bytesOf : Line → ℕ → ℕ
+bytesOf none i = 0
+bytesOf (some x) i = storedByte (entryFrom x) (x .content) i
+
+-- byte o of block s of the directory: entries in their slots
+unfoldable pub dirByte : (ℕ → Line) → ℕ → ℕ → ℕ
+dirByte entries s o = slotOf (entries (s * blockSlots + o / slotBytes)) (o % slotBytes)
+
+-- byte o of a block with this record, where the directory has these entries and the files are these
+unfoldable pub content : (ℕ → Line) → (ℕ → Line) → Record → ℕ → ℕ
+content entries files Free o = 0
+content entries files System o = 0
+content entries files Other o = 0
+content entries files (File zero s) o = dirByte entries s o
+content entries files (File (suc f) s) o = part (bytesOf (files (suc f))) s o
+
+-- where b stands in a list of blocks
+unfoldable pub position : ℕ → ℕ → List ℕ → Option ℕ
+position b i [] = none
+position b i (x ∷ xs) = cond (eqb x b) (some i) (position b (suc i) xs)
+
+-- file k with that sequence, or the other record
+unfoldable pub orRecord : ℕ → Option ℕ → Record → Record
+orRecord k none r = r
+orRecord k (some s) r = File k s
+
+-- the record of block b by the lines below n: the line that has it, and its place there
+unfoldable pub lineRecord : (ℕ → Option Filled) → ℕ → ℕ → Record
+lineRecord lines zero b = Free
+lineRecord lines (suc k) b = orRecord k (position b 0 (takenBy (lines k))) (lineRecord lines k b)
+
+-- the record of block b: block 0 is system, the directory is file 0
+unfoldable pub recordIn : (ℕ → Option Filled) → List ℕ → ℕ → ℕ → Record
+recordIn lines dir peak b = cond (eqb b 0) System (orRecord 0 (position b 0 dir) (lineRecord lines (suc peak) b))
+
+-- the header, with the free word by demand 3
+unfoldable pub modelHeader : Model → ℕ → ℕ
+modelHeader m = headerByte (m .title) (m .number) (m .updates) (freeWord (m .peak) (sizeIn m)) (suc (m .peak))
+
+-- the formatted disk with map and header, entries in their slots, files in their blocks
+unfoldable pub modelDisk : Model → Disk
+modelDisk m =
+    diskWith (modelHeader m) (recordIn (m .lines) (m .dir) (m .peak))
+    (content (λ (k : ℕ). fileOf (m .lines k)) (λ (k : ℕ). fileOf (m .lines k)))
+
+-- ---- format
+
+-- no lines, and block 1 for the directory
+unfoldable pub modelFormat : List ℕ → ℕ → Model
+modelFormat title number = record { title = title; number = number; updates = 0; peak = 0; lines = λ (k : ℕ). none; dir = 1 ∷ [] }
+
+-- ---- which line
+
+-- whether a line has the file of that name
+unfoldable pub named : List ℕ → Line → Bool
+named name none = false
+named name (some x) = nameEq (x .name) name
+
+-- the line with the file of that name, or the first past the peak
+unfoldable pub lineNamed : Model → List ℕ → ℕ
+lineNamed m name = lowest (λ (k : ℕ). named name (fileOf (m .lines k))) (suc (m .peak))
+
+-- the lowest empty line from 1 on
+unfoldable pub lineEmpty : Model → ℕ
+lineEmpty m = lowest (λ (k : ℕ). ltb 0 k && not (isSome (fileOf (m .lines k)))) (suc (m .peak))
+
+-- ---- list and read
+
+-- the 64 bytes of its entry
+unfoldable pub lineEntry : Line → List ℕ
+lineEntry none = []
+lineEntry (some x) = tab (entryByte (entryFrom x)) slotBytes
+
+-- the entries of the filled lines below n, in order
+unfoldable pub lineEntries : (ℕ → Line) → ℕ → List ℕ
+lineEntries lines zero = []
+lineEntries lines (suc n) = lineEntries lines n ++ lineEntry (lines n)
+
+-- 16 or the entries
+unfoldable pub modelList : Model → List ℕ → Outcome
+modelList m buf = deliver (lineEntries (λ (k : ℕ). fileOf (m .lines k)) (suc (m .peak))) buf
+
+-- its data
+unfoldable pub lineData : Line → List ℕ
+lineData none = []
+lineData (some x) = x .content
+
+-- 12, 14, 16 or the line's data
+unfoldable pub modelRead : Model → List ℕ → List ℕ → Outcome
+modelRead m name buf =
+    cond (nameRight name)
+    (cond (ltb (lineNamed m name) (suc (m .peak))) (deliver (lineData (fileOf (m .lines (lineNamed m name)))) buf) (kept buf (refusal 14)))
+    (kept buf (refusal 12))
+
+-- ---- add and remove
+
+-- counts wrap at 32 bits
+unfoldable pub wrap : ℕ → ℕ
+wrap n = n % 4294967296
+
+-- the peak once a file more is present
+unfoldable pub peakThen : Model → ℕ
+peakThen m = max (m .peak) (suc (presentIn m))
+
+-- whether demand 3's word, this file counted, stays at zero or above
+unfoldable pub fits : Model → NamedFile → Bool
+fits m x = leb (dirBlocks (peakThen m) + (sizeIn m + blocksFor (length (x .content)))) usable
+
+-- whether no line and not the directory has block b
+unfoldable pub freeIn : (ℕ → Option Filled) → List ℕ → ℕ → ℕ → Bool
+freeIn lines dir peak b = isFree (recordIn lines dir peak b)
+
+-- the directory's blocks once a file more is present: a new one is the lowest free
+unfoldable pub dirThen : Model → List ℕ
+dirThen m =
+    cond (ltb (dirBlocks (m .peak)) (dirBlocks (peakThen m)))
+    (m .dir ++ firsts blocks 1 (freeIn (m .lines) (m .dir) (m .peak))) (m .dir)
+
+-- line k is filled; the file's blocks are the lowest free, in sequence
+unfoldable pub fill : Model → ℕ → NamedFile → Model
+fill m k x =
+    record {
+      title = m .title;
+      number = m .number;
+      updates = wrap (m .updates + 1);
+      peak = peakThen m;
+      lines =
+          upd (m .lines) k
+          (some (record { file = x; taken = firsts blocks (blocksFor (length (x .content))) (freeIn (m .lines) (dirThen m) (m .peak)) }));
+      dir = dirThen m;
+    }
+
+-- line k is emptied; the directory keeps its blocks
+unfoldable pub clear : Model → ℕ → Model
+clear m k =
+    record {
+      title = m .title;
+      number = m .number;
+      updates = wrap (m .updates + 1);
+      peak = m .peak;
+      lines = upd (m .lines) k none;
+      dir = m .dir;
+    }
+
+-- 12, 13 with the line, 15 or done, and the model after an add
+unfoldable pub addReply : Model → NamedFile → Reply
+addReply m x =
+    cond (nameRight (x .name))
+    (cond (ltb (lineNamed m (x .name)) (suc (m .peak))) (reply 13 (lineNamed m (x .name)) 0 0)
+    (cond (fits m x) done (refusal 15)))
+    (refusal 12)
+
+unfoldable pub modelAdd : Model → NamedFile → Model
+modelAdd m x =
+    cond (nameRight (x .name))
+    (cond (ltb (lineNamed m (x .name)) (suc (m .peak))) m
+    (cond (fits m x) (fill m (lineEmpty m) x) m)) m
+
+-- 12, 14 or done, and the model after a remove
+unfoldable pub removeReply : Model → List ℕ → Reply
+removeReply m name =
+    cond (nameRight name) (cond (ltb (lineNamed m name) (suc (m .peak))) done (refusal 14)) (refusal 12)
+
+unfoldable pub modelRemove : Model → List ℕ → Model
+modelRemove m name =
+    cond (nameRight name) (cond (ltb (lineNamed m name) (suc (m .peak))) (clear m (lineNamed m name)) m) m

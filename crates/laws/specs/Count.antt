@@ -1,0 +1,142 @@
+-- How many numbers below a bound pass a test, and sums over the numbers below a bound.
+-- Assumes nothing.
+use mathlib.Core.Path.{_≡_, refl, sym, ap, ap₂, _∙_}
+use mathlib.Core.Logic.{_≢_}
+use mathlib.Core.Bool.{Bool, true, false, cond, _&&_, _||_}
+use Prim.Native.Nat.{ℕ, zero, suc, _+_, _≤_, _<_}
+use native.Mathlib.Nat.{not-suc-le-zero}
+use native.Mathlib.Omega.{arith}
+use Rattle.laws.specs.Truth.{by-test}
+use Rattle.laws.specs.Tests.{true≢false, by-equal, cond-true, cond-false, and-not, or-left, or-right, or-none}
+use Rattle.laws.specs.Change.{upd, upd-same, upd-other}
+
+-- how many numbers below n pass the test; the count is bound, so that it is computed once
+unfoldable pub count : ℕ → (ℕ → Bool) → ℕ
+count zero p = zero
+count (suc n) p = let c : ℕ = count n p in cond (p n) (suc c) c
+
+-- the sum of f 0 to f (n - 1)
+unfoldable pub sum : ℕ → (ℕ → ℕ) → ℕ
+sum zero f = zero
+sum (suc n) f = sum n f + f n
+
+pub count-cong : (n : ℕ) (p q : ℕ → Bool) → ((i : ℕ) → i < n → p i ≡ q i) → count n p ≡ count n q
+unfolding count
+count-cong zero p q e = refl
+count-cong (suc n) p q e =
+    ap₂ (λ (b : Bool) (c : ℕ). cond b (suc c) c) (e n (omega arith)) (count-cong n p q (λ i h. e i (omega arith)))
+
+pub count-yes : (n : ℕ) (p : ℕ → Bool) → p n ≡ true → count (suc n) p ≡ suc (count n p)
+unfolding count
+count-yes n p e = cond-true (suc (count n p)) (count n p) e
+
+pub count-no : (n : ℕ) (p : ℕ → Bool) → p n ≡ false → count (suc n) p ≡ count n p
+unfolding count
+count-no n p e = cond-false (suc (count n p)) (count n p) e
+
+pub count-none : (n : ℕ) (p : ℕ → Bool) → ((i : ℕ) → i < n → p i ≡ false) → count n p ≡ 0
+unfolding count
+count-none zero p e = refl
+count-none (suc n) p e = count-no n p (e n (omega arith)) ∙ count-none n p (λ i h. e i (omega arith))
+
+-- q passes where p does but at i
+pub count-drop : (n i : ℕ) (p q : ℕ → Bool) → i < n → p i ≡ true → q i ≡ false → ((j : ℕ) → j < n → j ≢ i → p j ≡ q j) → count n p ≡ suc (count n q)
+count-drop zero i p q h a b e = absurd (not-suc-le-zero h)
+count-drop (suc n) i p q h a b e =
+    by-equal n i
+    (λ r. count-yes n p (ap p r ∙ a) ∙ ap suc (count-cong n p q (λ j l. e j (omega arith) (omega arith)) ∙ sym (count-no n q (ap q r ∙ b))))
+    (λ r.
+    let ih : count n p ≡ suc (count n q) = count-drop n i p q (omega arith) a b (λ j l. e j (omega arith)) in
+    let same-n : p n ≡ q n = e n (omega arith) r in
+    by-test (q n)
+    (λ t. count-yes n p (same-n ∙ t) ∙ ap suc (ih ∙ sym (count-yes n q t)))
+    (λ t. count-no n p (same-n ∙ t) ∙ ih ∙ ap suc (sym (count-no n q t))))
+
+pub count-one : (n i : ℕ) (p : ℕ → Bool) → i < n → p i ≡ true → ((j : ℕ) → j < n → p j ≡ true → j ≡ i) → count n p ≡ 1
+count-one n i p h a u =
+    count-drop n i p (λ (j : ℕ). false) h a refl (λ j l r. by-test (p j) (λ t. absurd (r (u j l t))) (λ t. t))
+    ∙ ap suc (count-none n (λ (j : ℕ). false) (λ j l. refl))
+
+-- of two tests that never both pass
+pub count-or : (n : ℕ) (p q : ℕ → Bool) → ((i : ℕ) → i < n → (p i && q i) ≡ false) → count n (λ (i : ℕ). (p i || q i)) ≡ count n p + count n q
+unfolding count
+count-or zero p q e = refl
+count-or (suc n) p q e =
+    let ih : count n (λ (i : ℕ). (p i || q i)) ≡ count n p + count n q = count-or n p q (λ i h. e i (omega arith)) in
+    by-test (p n)
+    (λ a.
+    let b : q n ≡ false = and-not (p n) (q n) a (e n (omega arith)) in
+    let y : (p n || q n) ≡ true = or-left (p n) (q n) a in
+    omega (arith, count-yes n (λ (i : ℕ). (p i || q i)) y, count-yes n p a, count-no n q b))
+    (λ a. by-test (q n)
+    (λ b. omega (arith, count-yes n (λ (i : ℕ). (p i || q i)) (or-right (p n) (q n) b), count-no n p a, count-yes n q b))
+    (λ b. omega (arith, count-no n (λ (i : ℕ). (p i || q i)) (or-none (p n) (q n) a b), count-no n p a, count-no n q b)))
+
+pub count-le : (n : ℕ) (p : ℕ → Bool) → count n p ≤ n
+unfolding count
+count-le zero p = omega arith
+count-le (suc n) p = by-test (p n) (λ e. omega (arith, count-yes n p e, count-le n p)) (λ e. omega (arith, count-no n p e, count-le n p))
+
+-- all from 1 to n pass, and 0 does not
+pub count-but-zero : (n : ℕ) (p : ℕ → Bool) → p 0 ≡ false → ((j : ℕ) → 0 < j → j ≤ n → p j ≡ true) → count (suc n) p ≡ n
+unfolding count
+count-but-zero zero p z e = count-no 0 p z
+count-but-zero (suc n) p z e = count-yes (suc n) p (e (suc n) (omega arith) (omega arith)) ∙ ap suc (count-but-zero n p z (λ j h l. e j h (omega arith)))
+
+-- two numbers do not pass
+pub count-two-out : (n i j : ℕ) (p : ℕ → Bool) → i < n → j < n → i ≢ j → p i ≡ false → p j ≡ false → count n p + 2 ≤ n
+count-two-out n i j p hi hj q ei ej =
+    let p₁ : ℕ → Bool = upd p i true in
+    let p₂ : ℕ → Bool = upd p₁ j true in
+    let c₁ : count n p₁ ≡ suc (count n p) =
+    count-drop n i p₁ p hi (upd-same p i true i refl) ei (λ l h r. upd-other p i true l r) in
+    let c₂ : count n p₂ ≡ suc (count n p₁) =
+    count-drop n j p₂ p₁ hj (upd-same p₁ j true j refl) (upd-other p i true j (omega arith) ∙ ej) (λ l h r. upd-other p₁ j true l r) in
+    omega (arith, count-le n p₂)
+
+-- counted from below
+pub count-head-yes : (n : ℕ) (p : ℕ → Bool) → p 0 ≡ true → count (suc n) p ≡ suc (count n (λ (j : ℕ). p (suc j)))
+unfolding count
+count-head-yes zero p e = count-yes 0 p e
+count-head-yes (suc n) p e =
+    by-test (p (suc n))
+    (λ t. count-yes (suc n) p t ∙ ap suc (count-head-yes n p e ∙ sym (count-yes n (λ (j : ℕ). p (suc j)) t)))
+    (λ t. count-no (suc n) p t ∙ count-head-yes n p e ∙ ap suc (sym (count-no n (λ (j : ℕ). p (suc j)) t)))
+
+pub count-head-no : (n : ℕ) (p : ℕ → Bool) → p 0 ≡ false → count (suc n) p ≡ count n (λ (j : ℕ). p (suc j))
+unfolding count
+count-head-no zero p e = count-no 0 p e
+count-head-no (suc n) p e =
+    by-test (p (suc n))
+    (λ t. count-yes (suc n) p t ∙ ap suc (count-head-no n p e) ∙ sym (count-yes n (λ (j : ℕ). p (suc j)) t))
+    (λ t. count-no (suc n) p t ∙ count-head-no n p e ∙ sym (count-no n (λ (j : ℕ). p (suc j)) t))
+
+-- ---- sums
+
+pub sum-cong : (n : ℕ) (f g : ℕ → ℕ) → ((i : ℕ) → i < n → f i ≡ g i) → sum n f ≡ sum n g
+unfolding sum
+sum-cong zero f g e = refl
+sum-cong (suc n) f g e = ap₂ (λ (x y : ℕ). x + y) (sum-cong n f g (λ i h. e i (omega arith))) (e n (omega arith))
+
+pub sum-at : (n k : ℕ) (f : ℕ → ℕ) → k < n → f k ≤ sum n f
+unfolding sum
+sum-at zero k f h = absurd (not-suc-le-zero h)
+sum-at (suc n) k f h = by-equal k n (λ r. omega (arith, ap f r)) (λ r. omega (arith, sum-at n k f (omega arith)))
+
+-- f and g differ at k alone
+pub sum-change : (n k : ℕ) (f g : ℕ → ℕ) → k < n → ((j : ℕ) → j < n → j ≢ k → f j ≡ g j) → sum n f + g k ≡ sum n g + f k
+unfolding sum
+sum-change zero k f g h e = absurd (not-suc-le-zero h)
+sum-change (suc n) k f g h e =
+    by-equal n k
+    (λ r.
+    let low : sum n f ≡ sum n g = sum-cong n f g (λ j l. e j (omega arith) (omega arith)) in
+    omega (arith, ap f r, ap g r))
+    (λ r.
+    let ih : sum n f + g k ≡ sum n g + f k = sum-change n k f g (omega arith) (λ j l. e j (omega arith)) in
+    omega (arith, e n (omega arith) r))
+
+pub sum-none : (n : ℕ) (f : ℕ → ℕ) → ((i : ℕ) → i < n → f i ≡ 0) → sum n f ≡ 0
+unfolding sum
+sum-none zero f e = refl
+sum-none (suc n) f e = omega (arith, sum-none n f (λ i h. e i (omega arith)), e n (omega arith))
