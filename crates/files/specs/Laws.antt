@@ -16,11 +16,4 @@ pub mod Present
 pub mod Left
 pub mod Zero
 pub mod History
-pub mod Bytes
 pub mod Refusals
-pub mod Give
-pub mod Entries
-pub mod Track
-pub mod Access
-pub mod Sound
-pub mod Judged
