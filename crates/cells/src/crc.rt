@@ -2,13 +2,13 @@
 ghost use mathlib.Core.Path.{_≡_};
 ghost use Prim.Native.Nat.{_+_, _*_, _<_};
 ghost use Rattle.cells.specs.Stream.{stream, from, dataByte, dataBytes};
-ghost use Rattle.cells.specs.Crc.{crc, crcBit, crcBits};
+ghost use Rattle.cells.specs.Crc.{crc, crcBit, crcBits, crcFrom};
 use crate::Side;
 use crate::stream::cells_from;
 use crate::stream::data_byte;
 
 // The register's start.
-const START: u16 = 0xFFFF;
+pub const START: u16 = 0xFFFF;
 
 // The register s after one more bit.
 fn crc_bit(s: u16, b: u16) -> u16
@@ -26,6 +26,19 @@ pub fn crc_byte(s: u16, x: u8) -> u16
     let mut v = s;
     for k in 0..8u8 {
         v = crc_bit(v, ((x >> (7 - k)) % 2) as u16);
+    }
+    v
+}
+
+// The register s after a row of bytes.
+pub fn crc_row(s: u16, row: &[u8]) -> u16
+    ensures { λ r. ⌜ r ≡ crcFrom s (now (row .entry)) ⌝ }
+{
+    let mut v = s;
+    let mut i = 0;
+    while i < row.len() {
+        v = crc_byte(v, row[i]);
+        i += 1;
     }
     v
 }

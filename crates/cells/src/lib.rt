@@ -5,10 +5,14 @@ mod mfm;
 mod stream;
 mod sync;
 
+pub use crc::START;
 pub use crc::crc_at;
 pub use crc::crc_byte;
+pub use crc::crc_row;
 pub use mfm::encode_byte;
 pub use mfm::encode_item;
+pub use mfm::item_byte;
+pub use mfm::last_bit;
 pub use stream::cell;
 pub use stream::cell_from;
 pub use stream::cells_from;

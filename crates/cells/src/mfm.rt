@@ -1,6 +1,8 @@
 // The cells of a byte or a mark as it is written.
 ghost use mathlib.Core.Path.{_≡_};
-ghost use Prim.Native.Nat.{_<_};
+ghost use Prim.Native.Nat.{_<_, _≤_};
+ghost use mathlib.Core.Bool.{cond};
+ghost use Rattle.cells.specs.Stream.{packed, packedBits};
 ghost use Rattle.cells.specs.Mfm.{bitOf, before, mfmCell, encoded};
 ghost use Rattle.cells.specs.Mfm as Mfm;
 ghost use Rattle.cells.specs.Written.{byteOf, leftOut, itemCell, itemWord};
@@ -84,6 +86,36 @@ pub fn encode_item(p: u8, item: Item) -> u16
     let mut v: u16 = 0;
     for j in 0..16usize {
         v = v * 2 + item_cell(p, item, j) as u16;
+    }
+    v
+}
+
+// The last bit of an item.
+pub fn last_bit(item: Item) -> u8
+    ensures { λ r. ⌜ r ≡ bitOf (byteOf item) 7 ⌝ }
+{
+    bit_of(byte_of(item), 7)
+}
+
+// The first or the second byte of an item that follows the bit p, as it is stored: lowest bit first.
+pub fn item_byte(p: u8, item: Item, second: bool) -> u8
+    ensures { λ r. ⌜ r ≡ packed (itemCell p item) (cond second 1 0) ⌝ }
+{
+    if second {
+        stored_byte(p, item, 8)
+    } else {
+        stored_byte(p, item, 0)
+    }
+}
+
+// The eight cells of an item from the cell `start` on, lowest bit first.
+fn stored_byte(p: u8, item: Item, start: usize) -> u8
+    requires { ⌜ start ≤ 8 ⌝ }
+    ensures { λ r. ⌜ r ≡ packedBits (itemCell p item) start 8 ⌝ }
+{
+    let mut v: u8 = 0;
+    for j in 0..8usize {
+        v = (item_cell(p, item, start + j) << j) + v;
     }
     v
 }

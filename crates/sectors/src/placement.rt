@@ -7,6 +7,7 @@ use crate::Geometry;
 use crate::ImageSector;
 use crate::Reply;
 use crate::RunningSector;
+use crate::replies::refused;
 
 // The side (0x80 marks side 1) and the place of each running sector of a track.
 const SIDE_PLACE: [u8; 18] = [
@@ -122,10 +123,5 @@ pub fn place(block: usize, sector: usize) -> Reply
             third: 0,
         };
     }
-    Reply {
-        number: 12,
-        first: 0,
-        second: 0,
-        third: 0,
-    }
+    refused(12, 0)
 }

@@ -37,8 +37,9 @@ pub const TRACK_LEN: usize = SECTORS_PER_TRACK * SECTOR_LEN;
 /// Bytes of the block image.
 pub const IMAGE_LEN: usize = SECTORS * SECTOR_LEN;
 
-/// By how many sectors each track is turned against the one before.
-pub const TRACK_TURN: usize = 5;
+/// By how many places the sectors of a track are shifted against the track
+/// before, within their side.
+pub const TRACK_SHIFT: usize = 5;
 
 /// Marks side 1 in [`SIDE_AND_PLACE`].
 pub const SIDE_1: u8 = 0x80;
@@ -66,8 +67,8 @@ pub fn image_sector(running: usize) -> usize {
     let entry = SIDE_AND_PLACE[running % SECTORS_PER_TRACK];
     let side = usize::from(entry & SIDE_1 != 0);
     let place = usize::from(entry & !SIDE_1);
-    let turned = (place + TRACK_TURN * track) % SECTORS_PER_SIDE;
-    SECTORS_PER_TRACK * track + SECTORS_PER_SIDE * side + turned
+    let shifted = (place + TRACK_SHIFT * track) % SECTORS_PER_SIDE;
+    SECTORS_PER_TRACK * track + SECTORS_PER_SIDE * side + shifted
 }
 
 /// The running sector that stands at an image sector, which is below 1,440.
@@ -75,10 +76,10 @@ pub fn running_at(image_sector: usize) -> usize {
     let track = image_sector / SECTORS_PER_TRACK;
     let on_track = image_sector % SECTORS_PER_TRACK;
     let side = on_track / SECTORS_PER_SIDE;
-    let turned = on_track % SECTORS_PER_SIDE;
-    // Turned back by adding what is missing to a multiple of nine turns.
-    let turn = TRACK_TURN * track % SECTORS_PER_SIDE;
-    let place = (turned + SECTORS_PER_SIDE - turn) % SECTORS_PER_SIDE;
+    let shifted = on_track % SECTORS_PER_SIDE;
+    // Adding nine first keeps the difference from falling below 0.
+    let shift = TRACK_SHIFT * track % SECTORS_PER_SIDE;
+    let place = (shifted + SECTORS_PER_SIDE - shift) % SECTORS_PER_SIDE;
     let remainder = REMAINDER[SECTORS_PER_SIDE * side + place];
     SECTORS_PER_TRACK * track + usize::from(remainder)
 }

@@ -62,8 +62,24 @@ pub enum Refusal {
     TableEntry(usize),
     /// The sector cannot be read; the number is 4 to 7.
     Sector(u8, SectorId),
+    /// The field at this offset of the disk header is wrong.
+    DiskHeader(usize),
+    /// The map record of this block is wrong.
+    MapRecord(usize),
+    /// The directory is not sound at this file number.
+    Directory(usize),
+    /// The free word is not that of the map.
+    FreeWord,
     /// Block, sector or name out of range.
     Argument,
+    /// The name to add is that of this slot.
+    NamePresent(usize),
+    /// No file has the name.
+    NoSuchName,
+    /// The free blocks are too few.
+    TooFewBlocks,
+    /// The lent buffer is shorter than these bytes.
+    BufferTooShort(usize),
 }
 
 impl Refusal {
@@ -78,7 +94,15 @@ impl Refusal {
                 let places = [id.track, id.side, id.r].map(usize::from);
                 Reply::new(number.into(), places)
             }
+            Refusal::DiskHeader(offset) => Reply::new(8, [offset, 0, 0]),
+            Refusal::MapRecord(block) => Reply::new(9, [block, 0, 0]),
+            Refusal::Directory(file) => Reply::new(10, [file, 0, 0]),
+            Refusal::FreeWord => Reply::new(11, [0; 3]),
             Refusal::Argument => Reply::new(12, [0; 3]),
+            Refusal::NamePresent(slot) => Reply::new(13, [slot, 0, 0]),
+            Refusal::NoSuchName => Reply::new(14, [0; 3]),
+            Refusal::TooFewBlocks => Reply::new(15, [0; 3]),
+            Refusal::BufferTooShort(needed) => Reply::new(16, [needed, 0, 0]),
         }
     }
 }

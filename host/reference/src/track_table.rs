@@ -37,7 +37,7 @@ pub fn good_entry(hfe: &[u8], track: usize) -> Option<Track> {
         start: UNIT_LEN * word_at(hfe, entry),
         len: word_at(hfe, entry + 2),
     };
-    let good = found.len != 0 && found.len % 2 == 0 && found.end() <= hfe.len();
+    let good = found.len != 0 && found.len.is_multiple_of(2) && found.end() <= hfe.len();
     good.then_some(found)
 }
 

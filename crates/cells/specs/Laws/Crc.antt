@@ -7,6 +7,8 @@ use native.Mathlib.Numerals.{add-one}
 use native.Mathlib.Omega.{arith}
 use lib.Bits.{xor-lt}
 use lib.Dec.{lit<}
+use lib.ListN.{length, take, getD}
+use lib.Seq.{take-suc}
 use Rattle.laws.specs.Tab.{tab}
 use Rattle.cells.specs.Stream.{dataByte, dataBytes}
 use Rattle.cells.specs.Crc.{crcStart, crcBit, crcBits, crcFrom, crc}
@@ -50,3 +52,17 @@ crcFrom-lt (x ∷ xs) s h = crcFrom-lt xs (crcBits s x 8) (crcBits-lt s x 8 h)
 pub crc-lt : (xs : List ℕ) → crc xs < 2 ^ 16
 unfolding crc
 crc-lt xs = crcFrom-lt xs crcStart (lit< tt)
+
+-- a row of bytes, one after the other
+pub row-none : (s : ℕ) (xs : List ℕ) → s ≡ crcFrom s (take 0 xs)
+unfolding crcFrom
+row-none s xs = refl
+
+pub row-more : (s : ℕ) (xs : List ℕ) (n : ℕ) → n < length xs → crcFrom s (take (n + 1) xs) ≡ crcBits (crcFrom s (take n xs)) (getD xs n 0) 8
+row-more s xs n h = rw (add-one, take-suc xs n 0 h) (crcFrom-snoc s (take n xs) (getD xs n 0))
+
+-- a row after a row
+pub crcFrom-append : (s : ℕ) (xs ys : List ℕ) → crcFrom s (xs ++ ys) ≡ crcFrom (crcFrom s xs) ys
+unfolding crcFrom
+crcFrom-append s [] ys = refl
+crcFrom-append s (x ∷ xs) ys = crcFrom-append (crcBits s x 8) xs ys

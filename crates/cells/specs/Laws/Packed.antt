@@ -1,12 +1,12 @@
 -- Cells that are packed into bytes are the cells of those bytes.
 -- Assumes nothing.
 use mathlib.Core.Logic.{⊎-elim}
-use mathlib.Core.Path.{_≡_, sym, ap, _∙_}
+use mathlib.Core.Path.{_≡_, refl, sym, ap, _∙_}
 use Prim.Native.Nat.{ℕ, zero, suc, _+_, _-_, _*_, _/_, _%_, _^_, _≤_, _<_}
-use native.Mathlib.Nat.{eq-or-lt-of-le, le-of-suc-le-suc, not-suc-le-zero, zero-lt-suc, pow-suc, mul-assoc, mod-eq-of-lt, mul-add-div-right, mul-add-mod-self-right, mul-le-mul-right}
+use native.Mathlib.Nat.{eq-or-lt-of-le, le-of-suc-le-suc, not-suc-le-zero, zero-lt-suc, pow-suc, mul-assoc, mod-eq-of-lt, mul-add-div-right, mul-add-mod-self-right, mul-le-mul-right, lt-of-lt-of-le}
 use native.Mathlib.Numerals.{add-one}
 use native.Mathlib.Omega.{arith}
-use lib.Pow.{high, pow-pos, pow-add}
+use lib.Pow.{high, pow-pos, pow-add, pow-mono}
 use Rattle.cells.specs.Stream.{packedBits, packed}
 
 shifted : (a n k : ℕ) → k < n → a * 2 ^ n ≡ a * 2 ^ (n - (k + 1)) * 2 * 2 ^ k
@@ -49,3 +49,19 @@ module _ (f : ℕ → ℕ) (bit : (i : ℕ) → f i < 2) where
   packed-bit i =
       let e : 8 * (i / 8) + i % 8 ≡ i = omega arith in
       packedBits-bit (8 * (i / 8)) 8 (i % 8) (omega arith) ∙ ap f e
+
+-- one more cell, as code shifts it in
+module _ (f : ℕ → ℕ) (bit : (i : ℕ) → f i < 2) (i j : ℕ) (h : j < 8) where
+  pub packed-fits : packedBits f i (j + 1) < 256
+  packed-fits = lt-of-lt-of-le (packedBits-lt f bit i (j + 1)) (pow-mono {i = j + 1} {j = 8} (omega arith))
+
+  pub packed-step : (r v : ℕ) → r ≡ f (i + j) → v ≡ packedBits f i j → r * 2 ^ j % 256 + v ≡ packedBits f i (j + 1)
+  packed-step r v er ev =
+      let s : f (i + j) * 2 ^ j < 256 = omega (arith, packed-fits, packedBits-more f i j) in
+      rw (er, ev, mod-eq-of-lt s, packedBits-more)
+
+-- cells that agree are packed alike
+pub packedBits-same : (f g : ℕ → ℕ) (i j n : ℕ) → ((k : ℕ) → k < n → f (i + k) ≡ g (j + k)) → packedBits f i n ≡ packedBits g j n
+unfolding packedBits
+packedBits-same f g i j zero e = refl
+packedBits-same f g i j (suc n) e = rw (packedBits-same f g i j n (λ k l. e k (omega arith)), e n (omega arith))

@@ -1,7 +1,7 @@
 -- Laws of a side's stream and of the cells from a place on: how many there are, and each of them.
 -- Assumes nothing.
 use mathlib.Core.List.{List}
-use mathlib.Core.Path.{_≡_, _∙_}
+use mathlib.Core.Path.{_≡_, refl, _∙_}
 use Prim.Native.Nat.{ℕ, _+_, _-_, _*_, _/_, _^_, _≤_, _<_}
 use native.Mathlib.Nat.{zero-div, zero-mod, mod-lt, zero-lt-suc, mul-le-mul-left}
 use native.Mathlib.Omega.{arith}
@@ -65,3 +65,8 @@ pub product-fits : (a b : ℕ) → a < 2 ^ 32 → b < 2 ^ 21 → a * b < 2 ^ 53
 product-fits a b ha hb =
     let x : a * b ≤ a * 2097151 = mul-le-mul-left a (omega arith) in
     omega arith
+
+-- all cells are those from place 0 on
+pub from-zero : (c : List ℕ) → from c 0 ≡ c
+unfolding from
+from-zero c = refl

@@ -75,3 +75,8 @@ module _ (c : List ℕ) (t : threeSync c ≡ true) where
   pub three-third : syncAt c 32 ≡ true
   unfolding threeSync
   three-third = and-right (syncAt c 0 && syncAt c 16) _ t
+
+-- no run where the cells are too few
+pub three-past : (c : List ℕ) → length c < 16 → threeSync c ≡ false
+unfolding threeSync
+three-past c h = rw (sync-past c 0 (omega arith))

@@ -9,7 +9,8 @@ use lib.Dec.{eqb, lit≤}
 use lib.ListN.{length, getD}
 use borrow.Author.Tests.{ne-eqb, eqb-true, eqb-false}
 use Rattle.laws.specs.Tab.{tab, tab-length, tab-in, tab-below}
-use Rattle.cells.specs.Stream.{number, dataByte}
+use Rattle.cells.specs.Laws.Packed.{packedBits-same}
+use Rattle.cells.specs.Stream.{packed, number, dataByte}
 use Rattle.cells.specs.Mfm.{bitOf, clock, before, mfmCell}
 use Rattle.cells.specs.Sync.{syncWord, syncAt}
 use Rattle.cells.specs.Written.{byteOf, leftOut, itemCell, bitBefore, writtenCell, written}
@@ -84,7 +85,7 @@ left-out items l odd e₀ e₁ e₂ = go (eqb ((l + 1) % 16) (leftOut (items ((l
         (sym (data-cell items q k (omega arith)) ∙ rw n at e₂)
         (sym (clock-cell items q k (omega arith) (λ s. eqb-false _ _ e (sym r ∙ s))) ∙ rw m at e₁))
 
-writtenCell-bit : (items : ℕ → Item) (m : ℕ) → writtenCell items m < 2
+pub writtenCell-bit : (items : ℕ → Item) (m : ℕ) → writtenCell items m < 2
 unfolding writtenCell
 writtenCell-bit items m = itemCell-bit _ _ _
 
@@ -125,3 +126,13 @@ module _ (items : ℕ → Item) (n q : ℕ) (h : q < n) where
     where
       each : (k : ℕ) → k < 16 → getD (written items n) (16 * q + 1 * k) 0 ≡ getD (tab (itemCell (bitBefore items q) Sync) 16) (0 + 1 * k) 0
       each k l = rw (one-mul, zero-add, tab-in (itemCell (bitBefore items q) Sync) 16 k l, ← e) (written-at k l)
+
+-- byte b of a row, as it is stored: a half of its item
+pub packed-item : (items : ℕ → Item) (b : ℕ) → packed (writtenCell items) b ≡ packed (itemCell (bitBefore items (b / 2)) (items (b / 2))) (b % 2)
+unfolding packed writtenCell
+packed-item items b =
+    packedBits-same (writtenCell items) (itemCell (bitBefore items (b / 2)) (items (b / 2))) (8 * b) (8 * (b % 2)) 8
+    (λ k h.
+    let q : (8 * b + k) / 16 ≡ b / 2 = omega arith in
+    let r : (8 * b + k) % 16 ≡ 8 * (b % 2) + k = omega arith in
+    rw (q, r))

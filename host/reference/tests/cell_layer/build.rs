@@ -4,17 +4,7 @@ use reference::crc::crc_of_field;
 use reference::field::SECTOR_LEN;
 use reference::header::SectorId;
 use reference::written::{item_cells, Item};
-
-/// Noise: a 32-bit linear congruential generator, its highest byte each step.
-pub fn noise(seed: u32, count: usize) -> Vec<u8> {
-    let mut x = seed;
-    let mut bytes = Vec::new();
-    for _ in 0..count {
-        x = x.wrapping_mul(1_664_525).wrapping_add(1_013_904_223);
-        bytes.push((x >> 24) as u8);
-    }
-    bytes
-}
+pub use support::noise::noise;
 
 pub fn noise_sector(seed: u32) -> [u8; SECTOR_LEN] {
     noise(seed, SECTOR_LEN).try_into().unwrap()

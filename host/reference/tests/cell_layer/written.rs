@@ -29,12 +29,6 @@ fn take_bytes(rest: &mut &[Item], bytes: &[u8]) {
 }
 
 #[test]
-fn noise_begins_as_stated() {
-    // From 0: x = 3C6EF35F hex, then 47502932 hex.
-    assert_eq!(noise(0, 2), [0x3C, 0x47]);
-}
-
-#[test]
 fn layout_of_a_side() {
     let data = side_noise(30);
     let items = side_items(79, 1, &data);

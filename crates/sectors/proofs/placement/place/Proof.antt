@@ -1,5 +1,7 @@
 -- `place` meets its contract.
 -- Assumes nothing.
+use borrow.Author.Needs.{needs}
+use mathlib.Core.Path.{_≡_, _∙_, ap}
 use Prim.Native.Nat.{_<_}
 use native.Mathlib.Omega.{arith}
 use lib.Dec.{ltb}
@@ -7,6 +9,11 @@ use borrow.Author.Tests.{ltb-true}
 use Rattle.laws.specs.Truth.{and-left, and-right}
 use Rattle.sectors.proofs.placement.place.Statement.{statement}
 use Rattle.sectors.proofs.placement.place.Tie as tie
+use Rattle.sectors.proofs.placement.place.Reads as reads
+use Rattle.sectors.proofs.placement.place.Lts as lts
+use Rattle.sectors.proofs.Geometry.place.Reads as place-reads
+use Rattle.sectors.proofs.Geometry.running.Reads as running-reads
+use Rattle.sectors.proofs.replies.refused.Reads as refused-reads
 
 block : (c : tie.Then1) → c .before .args .block < 480
 block c = ltb-true _ _ (and-left (ltb (c .before .args .block) 480) (ltb (c .before .args .sector) 3) (c .if1 .taken))
@@ -14,17 +21,26 @@ block c = ltb-true _ _ (and-left (ltb (c .before .args .block) 480) (ltb (c .bef
 sector : (c : tie.Then1) → c .before .args .sector < 3
 sector c = ltb-true _ _ (and-right (ltb (c .before .args .block) 480) (ltb (c .before .args .sector) 3) (c .if1 .taken))
 
+-- src/placement.rt:118:34
 running-requires : tie.Need-running-requires
 running-requires c κs = (block c, sector c)
 
+-- src/placement.rt:118:13
 place-requires : tie.Need-place-requires
 place-requires c κs = omega (arith, block (c .before), sector (c .before))
 
+-- src/placement.rt:119:9
 returns : tie.Need-returns
 returns c = rw (c .before .before .if1 .taken, ← c .before .running .ensures, ← c .place .ensures)
 
+-- src/placement.rt:126:5
+refused-requires : tie.Need-refused-requires
+refused-requires c κs = search needs
+
+-- src/placement.rt:114:1
 returns-2 : tie.Need-returns-2
-returns-2 c = rw (c .if1 .left)
+returns-2 c = rw (c .before .if1 .left) (c .refused .ensures)
 
 pub place-spec : {M : Type 1} → statement M
-place-spec = tie.close (tie.spec running-requires place-requires returns returns-2)
+place-spec =
+    tie.close (tie.spec running-requires place-requires returns refused-requires returns-2)

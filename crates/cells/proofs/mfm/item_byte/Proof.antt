@@ -1,0 +1,30 @@
+-- `cells::item_byte` meets its contract.
+-- Assumes nothing.
+use borrow.Author.Needs.{needs}
+use Rattle.cells.specs.Stream.{packed}
+use Rattle.cells.proofs.mfm.item_byte.Statement.{statement}
+use Rattle.cells.proofs.mfm.item_byte.Tie as tie
+use Rattle.cells.proofs.mfm.item_byte.Reads as reads
+use Rattle.cells.proofs.mfm.item_byte.Lts as lts
+use Rattle.cells.proofs.mfm.stored_byte.Reads as stored-byte-reads
+
+-- src/mfm.rt:105:9
+stored-byte-requires : tie.Need-stored-byte-requires
+stored-byte-requires c κs = search needs
+
+-- src/mfm.rt:107:9
+stored-byte-requires-2 : tie.Need-stored-byte-requires-2
+stored-byte-requires-2 c κs = search needs
+
+-- src/mfm.rt:101:1
+returns : tie.Need-returns
+unfolding packed
+returns c = rw (c .before .if1 .taken) (c .stored-byte .ensures)
+
+-- src/mfm.rt:101:1
+returns-2 : tie.Need-returns-2
+unfolding packed
+returns-2 c = rw (c .before .if1 .left) (c .stored-byte2 .ensures)
+
+pub item-byte-spec : {M : Type 1} → statement M
+item-byte-spec = tie.close (tie.spec stored-byte-requires stored-byte-requires-2 returns returns-2)

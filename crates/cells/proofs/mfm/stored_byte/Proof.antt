@@ -1,0 +1,84 @@
+-- `cells::stored_byte` meets its contract: v has the first j cells.
+-- Assumes nothing.
+use borrow.Author.Needs.{needs}
+use native.Mathlib.Omega.{arith}
+use mathlib.Core.Path.{_≡_, ap, _∙_}
+use Prim.Native.Nat.{ℕ, _+_, _-_, _*_, _%_, _^_, _≤_, _<_}
+use Rattle.cells.specs.Stream.{packedBits}
+use Rattle.cells.specs.Written.{itemCell}
+use Rattle.cells.specs.Laws.Packed.{packed-fits, packed-step}
+use Rattle.cells.specs.Laws.Mfm.{itemCell-bit}
+use Rattle.cells.proofs.mfm.stored_byte.Statement.{statement}
+use Rattle.cells.proofs.mfm.stored_byte.Tie as tie
+use Rattle.cells.proofs.mfm.stored_byte.Reads as reads
+use Rattle.cells.proofs.mfm.stored_byte.Lts as lts
+use Rattle.cells.proofs.mfm.item_cell.Reads as item-cell-reads
+
+abbrev Inv-loop : tie.InvT-loop
+Inv-loop p item start v₀ j₀ v j = (j ≤ 8) × (v ≡ packedBits (itemCell p item) start j)
+
+abbrev μ-loop : tie.MeasureT-loop
+μ-loop p item start v₀ j₀ v j = 8 - j
+
+step : (c : tie.After-item-cell Inv-loop μ-loop)
+    → c .item-cell .result * 2 ^ c .before .before .loop .j % 256 + c .before .before .loop .v
+    ≡ packedBits (itemCell (c .before .before .before .args .p) (c .before .before .before .args .item)) (c .before .before .before .args .start) (c .before .before .loop .j + 1)
+step c = packed-step _ (itemCell-bit _ _) _ _ (omega arith) _ _ (c .item-cell .ensures) (c .before .before .loop .inv .1)
+
+-- src/mfm.rt:114:5
+loop-holds : tie.Need-loop-holds Inv-loop μ-loop
+unfolding packedBits
+loop-holds c = search needs
+
+-- src/mfm.rt:115:33
+add-item-cell : tie.Need-add-item-cell Inv-loop μ-loop
+add-item-cell c = search needs
+
+-- src/mfm.rt:115:14
+item-cell-requires : tie.Need-item-cell-requires Inv-loop μ-loop
+item-cell-requires c κs = search needs
+
+-- src/mfm.rt:115:47
+cast-v : tie.Need-cast-v Inv-loop μ-loop
+cast-v c = search needs
+
+-- src/mfm.rt:115:14
+shl-v : tie.Need-shl-v Inv-loop μ-loop
+shl-v c = search needs
+
+-- src/mfm.rt:115:13
+add-v : tie.Need-add-v Inv-loop μ-loop
+add-v c = record { fits = rw (step c) (packed-fits _ (itemCell-bit _ _) _ _ (omega arith)) }
+
+-- src/mfm.rt:114:9
+add-j : tie.Need-add-j Inv-loop μ-loop
+add-j c = search needs
+
+-- src/mfm.rt:114:5
+loop-less : tie.Need-loop-less Inv-loop μ-loop
+loop-less c = search needs
+
+-- src/mfm.rt:114:5
+loop-again : tie.Need-loop-again Inv-loop μ-loop
+loop-again c = (omega arith, step c)
+
+-- src/mfm.rt:109:1
+returns : tie.Need-returns Inv-loop μ-loop
+returns c = c .before .loop .inv .1 ∙ ap (packedBits _ _) (omega arith)
+
+pub stored-byte-spec : {M : Type 1} → statement M
+stored-byte-spec =
+    tie.close
+    (tie.spec
+    Inv-loop
+    μ-loop
+    loop-holds
+    add-item-cell
+    item-cell-requires
+    cast-v
+    shl-v
+    add-v
+    add-j
+    loop-less
+    loop-again
+    returns)

@@ -1,0 +1,18 @@
+-- `wrong_at` meets its contract.
+-- Assumes nothing.
+use borrow.Author.Needs.{needs}
+use Rattle.sectors.proofs.faults.wrong_at.Statement.{statement}
+use Rattle.sectors.proofs.faults.wrong_at.Tie as tie
+use Rattle.sectors.proofs.faults.wrong_at.Reads as reads
+use Rattle.sectors.proofs.faults.wrong_at.Lts as lts
+
+-- src/faults.rt:7:1
+returns : tie.Need-returns
+returns c = search needs
+
+-- src/faults.rt:7:1
+returns-2 : tie.Need-returns-2
+returns-2 c = rw (c .if1 .left)
+
+pub wrong-at-spec : {M : Type 1} → statement M
+wrong-at-spec = tie.close (tie.spec returns returns-2)

@@ -1,0 +1,62 @@
+-- `track_part` meets its contract: the units end within the image.
+-- Assumes nothing.
+use borrow.Author.Needs.{needs}
+use mathlib.Core.Path.{_≡_, refl, sym, ap, _∙_}
+use native.Mathlib.Omega.{arith}
+use Prim.Native.Nat.{ℕ, _+_, _-_, _*_, _/_, _%_, _≤_, _<_}
+use lib.ListN.{length}
+use Rattle.sectors.specs.Hfe.{trackPart, trackStart, trackBytes}
+use Rattle.sectors.specs.Laws.Hfe.{table-good, track-within}
+use Rattle.sectors.proofs.hfe.track_part.Statement.{statement}
+use Rattle.sectors.proofs.hfe.track_part.Tie as tie
+use Rattle.sectors.proofs.hfe.track_part.Reads as reads
+use Rattle.sectors.proofs.hfe.track_part.Lts as lts
+use Rattle.sectors.proofs.hfe.track_bytes.Reads as track-bytes-reads
+use Rattle.sectors.proofs.hfe.track_start.Reads as track-start-reads
+
+within : (c : tie.After-track-bytes)
+    → trackStart (c .before .before .before .args .hfe .now) (c .before .before .before .args .t) + trackBytes (c .before .before .before .args .hfe .now) (c .before .before .before .args .t)
+    ≤ length (c .before .before .before .args .hfe .now)
+within c = track-within _ _ (table-good _ (c .before .before .before .pre .1) _ (c .before .before .before .pre .0))
+
+-- src/hfe.rt:116:9
+track-start-requires : tie.Need-track-start-requires
+track-start-requires c κs = search needs
+
+-- src/hfe.rt:117:23
+track-bytes-requires : tie.Need-track-bytes-requires
+track-bytes-requires c κs = search needs
+
+-- src/hfe.rt:117:15
+add-end : tie.Need-add-end
+add-end c = search needs
+
+-- src/hfe.rt:118:5
+sub-result : tie.Need-sub-result
+sub-result c = search needs
+
+-- src/hfe.rt:118:5
+part-result-start : tie.Need-part-result-start
+part-result-start c = omega arith
+
+-- src/hfe.rt:118:5
+part-result-end : tie.Need-part-result-end
+part-result-end c = omega (arith, within c)
+
+-- src/hfe.rt:112:1
+returns : tie.Need-returns
+unfolding trackPart
+returns c = let e : c .before .before .track-start .result + c .before .track-bytes .result - c .before .before .track-start .result ≡ c .before .track-bytes .result = omega arith in
+    rw (e, ← c .before .before .track-start .ensures .0, ← c .before .track-bytes .ensures .0)
+
+pub track-part-spec : {M : Type 1} → statement M
+track-part-spec =
+    tie.close
+    (tie.spec
+    track-start-requires
+    track-bytes-requires
+    add-end
+    sub-result
+    part-result-start
+    part-result-end
+    returns)

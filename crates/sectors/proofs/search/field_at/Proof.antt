@@ -1,0 +1,61 @@
+-- `field_at` meets its contract.
+-- Assumes nothing.
+use borrow.Author.Needs.{needs}
+use mathlib.Core.Path.{_≡_, refl, sym, ap, _∙_}
+use native.Mathlib.Omega.{arith}
+use borrow.Author.Tests.{eq-eqb, ne-eqb}
+use Rattle.sectors.specs.Laws.Search.{field-past, field-fits}
+use Rattle.sectors.proofs.search.field_at.Statement.{statement}
+use Rattle.sectors.proofs.search.field_at.Tie as tie
+use Rattle.sectors.proofs.search.field_at.Reads as reads
+use Rattle.sectors.proofs.search.field_at.Lts as lts
+use Rattle.cells.proofs.cells_from.Reads as cells-from-reads
+use Rattle.cells.proofs.data_byte.Reads as data-byte-reads
+use Rattle.sectors.proofs.search.crc_holds.Reads as crc-holds-reads
+
+-- src/search.rt:95:8
+cells-from-requires : tie.Need-cells-from-requires
+cells-from-requires c κs = search needs
+
+-- src/search.rt:96:9
+returns : tie.Need-returns
+returns c = sym (field-past _ _ (rw (← c .before .cells-from .ensures .0 _) (c .if1 .taken)))
+
+-- src/search.rt:98:8
+data-byte-requires : tie.Need-data-byte-requires
+data-byte-requires c κs = search needs
+
+-- src/search.rt:99:12
+crc-holds-requires : tie.Need-crc-holds-requires
+crc-holds-requires c κs = search needs
+
+-- src/search.rt:100:38
+add-t8 : tie.Need-add-t8
+add-t8 c = search needs
+
+-- src/search.rt:100:13
+returns-2 : tie.Need-returns-2
+returns-2 c = sym (field-fits _ _ (rw (← c .before .before .before .before .before .cells-from .ensures .0 _) (c .before .before .before .before .if1 .left))
+    ∙ rw (eq-eqb _ _ (sym (c .before .before .before .data-byte .ensures) ∙ c .before .before .if2 .taken), sym (c .before .crc-holds .ensures) ∙ c .if3 .taken))
+
+-- src/search.rt:102:9
+returns-3 : tie.Need-returns-3
+returns-3 c = sym (field-fits _ _ (rw (← c .before .before .before .before .before .cells-from .ensures .0 _) (c .before .before .before .before .if1 .left))
+    ∙ rw (eq-eqb _ _ (sym (c .before .before .before .data-byte .ensures) ∙ c .before .before .if2 .taken), sym (c .before .crc-holds .ensures) ∙ c .if3 .left))
+
+-- src/search.rt:91:1
+returns-4 : tie.Need-returns-4
+returns-4 c = sym (field-fits _ _ (rw (← c .before .before .before .cells-from .ensures .0 _) (c .before .before .if1 .left)) ∙ rw (ne-eqb _ _ (λ e. c .if2 .left (c .before .data-byte .ensures ∙ e))))
+
+pub field-at-spec : {M : Type 1} → statement M
+field-at-spec =
+    tie.close
+    (tie.spec
+    cells-from-requires
+    returns
+    data-byte-requires
+    crc-holds-requires
+    add-t8
+    returns-2
+    returns-3
+    returns-4)

@@ -1,0 +1,113 @@
+-- `field_of` meets its contract: what is left of the search gives what the whole gives.
+-- Assumes nothing.
+use borrow.Author.Needs.{needs}
+use native.Mathlib.Omega.{arith}
+use mathlib.Core.Path.{_≡_, refl, sym, ap, _∙_}
+use mathlib.Core.Bool.{true, false}
+use Prim.Native.Nat.{ℕ, _+_, _-_, _≤_, _<_, _^_}
+use lib.ListN.{length}
+use Rattle.cells.specs.Stream.{stream, from}
+use Rattle.cells.specs.Sync.{threeSync}
+use Rattle.cells.specs.Laws.Stream.{rest-length}
+use Rattle.cells.specs.Laws.Sync.{three-past}
+use Rattle.sectors.specs.declared.Sector.the-variants.{Fieldless}
+use Rattle.sectors.specs.Search.{first, fieldAt, fieldOf}
+use Rattle.sectors.specs.Laws.Search.{first-here, first-later, first-none}
+use Rattle.sectors.proofs.search.field_of.Statement.{statement}
+use Rattle.sectors.proofs.search.field_of.Tie as tie
+use Rattle.sectors.proofs.search.field_of.Reads as reads
+use Rattle.sectors.proofs.search.field_of.Lts as lts
+use Rattle.cells.proofs.three_sync.Reads as three-sync-reads
+use Rattle.sectors.proofs.search.field_at.Reads as field-at-reads
+
+abbrev Inv-loop : tie.InvT-loop
+Inv-loop part side i k₀ k = (k ≤ 689) × (i < 2 ^ 32)
+    × (fieldOf (stream part side) i ≡ first (λ (j : ℕ). threeSync (from (stream part side) j)) (fieldAt (stream part side)) Fieldless (689 - k) (i + 160 + k))
+
+abbrev μ-loop : tie.MeasureT-loop
+μ-loop part side i k₀ k = 689 - k
+
+-- src/search.rt:111:8
+cast-if1 : tie.Need-cast-if1 Inv-loop μ-loop
+cast-if1 c = search needs
+
+-- src/search.rt:112:9
+returns : tie.Need-returns Inv-loop μ-loop
+unfolding fieldOf
+returns c = sym (first-none _ _ _ _ _ (λ j h. three-past _ (rw rest-length (omega arith))))
+
+-- src/search.rt:114:5
+loop-holds : tie.Need-loop-holds Inv-loop μ-loop
+unfolding fieldOf
+loop-holds c = (omega arith, omega arith, let e : c .before .before .before .args .i + 160 + 0 ≡ c .before .before .before .args .i + 160 = omega arith in rw e)
+
+-- src/search.rt:115:42
+add-three-sync : tie.Need-add-three-sync Inv-loop μ-loop
+add-three-sync c = search needs
+
+-- src/search.rt:115:42
+add-three-sync-2 : tie.Need-add-three-sync-2 Inv-loop μ-loop
+add-three-sync-2 c = search needs
+
+-- src/search.rt:115:12
+three-sync-requires : tie.Need-three-sync-requires Inv-loop μ-loop
+three-sync-requires c κs = search needs
+
+-- src/search.rt:116:41
+add-field-at : tie.Need-add-field-at Inv-loop μ-loop
+add-field-at c = search needs
+
+-- src/search.rt:116:41
+add-field-at-2 : tie.Need-add-field-at-2 Inv-loop μ-loop
+add-field-at-2 c = search needs
+
+-- src/search.rt:116:13
+field-at-requires : tie.Need-field-at-requires Inv-loop μ-loop
+field-at-requires c κs = search needs
+
+-- src/search.rt:116:13
+returns-2 : tie.Need-returns-2 Inv-loop μ-loop
+returns-2 c = c .field-at .ensures ∙ sym (c .before .before .before .before .loop .inv .2 ∙ first-here _ _ _ 689 _ _ (omega arith) (sym (c .before .before .three-sync .ensures) ∙ c .before .if2 .taken))
+
+-- src/search.rt:114:9
+add-k : tie.Need-add-k Inv-loop μ-loop
+add-k c = search needs
+
+-- src/search.rt:114:5
+loop-less : tie.Need-loop-less Inv-loop μ-loop
+loop-less c = omega arith
+
+-- src/search.rt:114:5
+loop-again : tie.Need-loop-again Inv-loop μ-loop
+loop-again c = (
+  omega arith,
+  omega arith,
+  c .before .before .before .loop .inv .2 ∙ first-later _ _ _ 689 _ _ (omega arith) (sym (c .before .three-sync .ensures) ∙ c .if2 .left),
+)
+
+-- src/search.rt:108:1
+returns-3 : tie.Need-returns-3 Inv-loop μ-loop
+unfolding first
+returns-3 c = let e : 689 - c .before .loop .k ≡ 0 = omega arith in
+    sym (c .before .loop .inv .2 ∙ rw e)
+
+pub field-of-spec : {M : Type 1} → statement M
+field-of-spec =
+    tie.close
+    (tie.spec
+    Inv-loop
+    μ-loop
+    cast-if1
+    returns
+    loop-holds
+    add-three-sync
+    add-three-sync-2
+    three-sync-requires
+    add-field-at
+    add-field-at-2
+    field-at-requires
+    returns-2
+    add-k
+    loop-less
+    loop-again
+    returns-3)

@@ -1,0 +1,34 @@
+-- `more` meets its contract.
+-- Assumes nothing.
+use borrow.Author.Needs.{needs}
+use Rattle.sectors.proofs.search.more.Statement.{statement}
+use Rattle.sectors.proofs.search.more.Tie as tie
+use Rattle.sectors.proofs.search.more.Reads as reads
+use Rattle.sectors.proofs.search.more.Lts as lts
+
+-- src/search.rt:54:27
+enum-told : tie.Need-enum-told
+enum-told c = search needs
+
+-- src/search.rt:55:26
+enum-told-2 : tie.Need-enum-told-2
+enum-told-2 c = search needs
+
+-- src/search.rt:56:27
+enum-told-3 : tie.Need-enum-told-3
+enum-told-3 c = search needs
+
+-- src/search.rt:50:1
+returns : tie.Need-returns
+returns c = rw (c .enum-told .given .1)
+
+-- src/search.rt:50:1
+returns-2 : tie.Need-returns-2
+returns-2 c = search needs
+
+-- src/search.rt:50:1
+returns-3 : tie.Need-returns-3
+returns-3 c = search needs
+
+pub more-spec : {M : Type 1} → statement M
+more-spec = tie.close (tie.spec enum-told enum-told-2 enum-told-3 returns returns-2 returns-3)

@@ -1,0 +1,46 @@
+-- `sector_found` meets its contract.
+-- Assumes nothing.
+use borrow.Author.Needs.{needs}
+use mathlib.Core.Path.{_≡_, refl, sym, ap, _∙_}
+use Rattle.sectors.specs.Search.{sectorFound}
+use Rattle.sectors.proofs.search.sector_found.Statement.{statement}
+use Rattle.sectors.proofs.search.sector_found.Tie as tie
+use Rattle.sectors.proofs.search.sector_found.Reads as reads
+use Rattle.sectors.proofs.search.sector_found.Lts as lts
+use Rattle.sectors.proofs.search.field_of.Reads as field-of-reads
+
+-- src/search.rt:125:20
+enum-known-found : tie.Need-enum-known-found
+enum-known-found c = search needs
+
+-- src/search.rt:125:26
+field-of-requires : tie.Need-field-of-requires
+field-of-requires c κs = search needs
+
+-- src/search.rt:126:27
+enum-told : tie.Need-enum-told
+enum-told c = search needs
+
+-- src/search.rt:127:27
+enum-told-2 : tie.Need-enum-told-2
+enum-told-2 c = search needs
+
+-- src/search.rt:121:1
+returns : tie.Need-returns
+unfolding sectorFound
+returns c = c .field-of .ensures ∙ rw (c .before .before .found .given .1)
+
+-- src/search.rt:121:1
+returns-2 : tie.Need-returns-2
+unfolding sectorFound
+returns-2 c = rw (c .enum-told .given .1)
+
+-- src/search.rt:121:1
+returns-3 : tie.Need-returns-3
+unfolding sectorFound
+returns-3 c = rw (c .enum-told2 .given .1)
+
+pub sector-found-spec : {M : Type 1} → statement M
+sector-found-spec =
+    tie.close
+    (tie.spec enum-known-found field-of-requires enum-told enum-told-2 returns returns-2 returns-3)

@@ -1,0 +1,106 @@
+-- `unpack` meets its contract: each return is a reply of the definition, in its order.
+-- Assumes nothing.
+use borrow.Author.Needs.{needs}
+use mathlib.Core.Path.{_≡_, refl, sym, ap, _∙_}
+use native.Mathlib.Omega.{arith}
+use Rattle.sectors.specs.Laws.Unpacked.{short-reply, length-reply, header-reply, table-reply, sound-reply, image-after}
+use Rattle.sectors.proofs.unpacking.unpack.Statement.{statement}
+use Rattle.sectors.proofs.unpacking.unpack.Tie as tie
+use Rattle.sectors.proofs.unpacking.unpack.Reads as reads
+use Rattle.sectors.proofs.unpacking.unpack.Lts as lts
+use Rattle.sectors.proofs.hfe.header_fault.Reads as header-fault-reads
+use Rattle.sectors.proofs.hfe.table_fault.Reads as table-fault-reads
+use Rattle.sectors.proofs.replies.refused.Reads as refused-reads
+use Rattle.sectors.proofs.unpacking.unpack_sectors.Reads as unpack-sectors-reads
+
+-- src/unpacking.rt:185:9
+refused-requires : tie.Need-refused-requires
+refused-requires c κs = search needs
+
+-- src/unpacking.rt:185:9
+returns : tie.Need-returns
+returns c = let e = short-reply _ _ (c .before .if1 .taken) in (c .refused .ensures ∙ sym e, sym (image-after _ _ _ e))
+
+-- src/unpacking.rt:188:9
+refused-requires-2 : tie.Need-refused-requires-2
+refused-requires-2 c κs = search needs
+
+-- src/unpacking.rt:188:9
+returns-2 : tie.Need-returns-2
+returns-2 c = let e = length-reply _ _ (c .before .before .if1 .left) (c .before .if2 .taken) in (c .refused2 .ensures ∙ sym e, sym (image-after _ _ _ e))
+
+-- src/unpacking.rt:190:11
+header-fault-requires : tie.Need-header-fault-requires
+header-fault-requires c κs = search needs
+
+-- src/unpacking.rt:191:19
+enum-known-o : tie.Need-enum-known-o
+enum-known-o c = search needs
+
+-- src/unpacking.rt:191:25
+refused-requires-3 : tie.Need-refused-requires-3
+refused-requires-3 c κs = search needs
+
+-- src/unpacking.rt:191:25
+returns-3 : tie.Need-returns-3
+returns-3 c = let e = header-reply _ _ (c .before .before .before .before .before .before .if1 .left) (c .before .before .before .before .before .if2 .left) _ (sym (c .before .before .before .before .header-fault .ensures) ∙ c .before .before .o .given .1) in
+    (c .refused3 .ensures ∙ sym e, sym (image-after _ _ _ e))
+
+enum-told : tie.Need-enum-told
+enum-told c = search needs
+
+-- src/unpacking.rt:194:11
+table-fault-requires : tie.Need-table-fault-requires
+table-fault-requires c κs = search needs
+
+-- src/unpacking.rt:195:19
+enum-known-t : tie.Need-enum-known-t
+enum-known-t c = search needs
+
+-- src/unpacking.rt:195:25
+refused-requires-4 : tie.Need-refused-requires-4
+refused-requires-4 c κs = search needs
+
+-- src/unpacking.rt:196:45
+enum-told-2 : tie.Need-enum-told-2
+enum-told-2 c = search needs
+
+-- src/unpacking.rt:196:25
+unpack-sectors-requires : tie.Need-unpack-sectors-requires
+unpack-sectors-requires c κs = (sym (c .before .before .before .table-fault .ensures) ∙ c .before .enum-told2 .given .1, c .before .before .before .before .before .before .before .if2 .left)
+
+-- src/unpacking.rt:181:1
+returns-4 : tie.Need-returns-4
+returns-4 c = let e = table-reply _ _ (c .before .before .before .before .before .before .before .before .before .if1 .left) (c .before .before .before .before .before .before .before .before .if2 .left) (sym (c .before .before .before .before .before .before .before .header-fault .ensures) ∙ c .before .before .before .before .before .enum-told .given .1) _ (sym (c .before .before .before .before .table-fault .ensures) ∙ c .before .before .t .given .1) in
+    (c .refused4 .ensures ∙ sym e, sym (image-after _ _ _ e))
+
+-- src/unpacking.rt:181:1
+same-length : tie.Need-same-length
+same-length c = search needs
+
+-- src/unpacking.rt:181:1
+returns-5 : tie.Need-returns-5
+returns-5 c = let e = sound-reply _ _ (c .before .before .before .before .before .before .before .before .before .before .before .if1 .left) (c .before .before .before .before .before .before .before .before .before .before .if2 .left) (sym (c .before .before .before .before .before .before .before .before .before .header-fault .ensures) ∙ c .before .before .before .before .before .before .before .enum-told .given .1) (sym (c .before .before .before .before .before .before .table-fault .ensures) ∙ c .before .before .before .before .enum-told2 .given .1) in
+    (c .before .before .unpack-sectors .ensures .answer ∙ sym e, c .before .before .unpack-sectors .ensures .after ∙ sym (image-after _ _ _ e))
+
+pub unpack-spec : {M : Type 1} → statement M
+unpack-spec =
+    tie.close
+    (tie.spec
+    refused-requires
+    returns
+    refused-requires-2
+    returns-2
+    header-fault-requires
+    enum-known-o
+    refused-requires-3
+    returns-3
+    enum-told
+    table-fault-requires
+    enum-known-t
+    refused-requires-4
+    enum-told-2
+    unpack-sectors-requires
+    returns-4
+    same-length
+    returns-5)

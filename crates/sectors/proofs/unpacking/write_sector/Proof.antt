@@ -1,0 +1,77 @@
+-- `write_sector` meets its contract: the first k bytes are written.
+-- Assumes nothing.
+use borrow.Author.Needs.{needs}
+use native.Mathlib.Omega.{arith}
+use mathlib.Core.Path.{_≡_, refl, sym, ap, _∙_}
+use Prim.Native.Nat.{ℕ, _+_, _-_, _*_, _/_, _%_, _≤_, _<_}
+use lib.ListN.{length, length-set}
+use Rattle.laws.specs.Overlay.{overlay, overlay-none, overlay-more}
+use Rattle.cells.specs.Stream.{stream, from, dataByte}
+use Rattle.sectors.proofs.unpacking.write_sector.Statement.{statement}
+use Rattle.sectors.proofs.unpacking.write_sector.Tie as tie
+use Rattle.sectors.proofs.unpacking.write_sector.Reads as reads
+use Rattle.sectors.proofs.unpacking.write_sector.Lts as lts
+use Rattle.cells.proofs.data_byte.Reads as data-byte-reads
+
+abbrev Inv-loop : tie.InvT-loop
+Inv-loop part side p image₀ at k₀ image k = (k ≤ 512) × (length image ≡ length image₀) × (image ≡ overlay image₀ at k (λ (j : ℕ). dataByte (from (stream part side) p) (16 * j)))
+
+abbrev μ-loop : tie.MeasureT-loop
+μ-loop part side p image₀ at k₀ image k = 512 - k
+
+-- src/unpacking.rt:119:5
+loop-holds : tie.Need-loop-holds Inv-loop μ-loop
+loop-holds c = (omega arith, refl, overlay-none _ _ _)
+
+-- src/unpacking.rt:120:57
+mul-data-byte : tie.Need-mul-data-byte Inv-loop μ-loop
+mul-data-byte c = search needs
+
+-- src/unpacking.rt:120:25
+data-byte-requires : tie.Need-data-byte-requires Inv-loop μ-loop
+data-byte-requires c κs = search needs
+
+-- src/unpacking.rt:120:15
+add-image : tie.Need-add-image Inv-loop μ-loop
+add-image c = search needs
+
+-- src/unpacking.rt:120:9
+slice-write-image : tie.Need-slice-write-image Inv-loop μ-loop
+slice-write-image c = search needs
+
+-- src/unpacking.rt:119:9
+add-k : tie.Need-add-k Inv-loop μ-loop
+add-k c = search needs
+
+-- src/unpacking.rt:119:5
+loop-less : tie.Need-loop-less Inv-loop μ-loop
+loop-less c = omega arith
+
+-- src/unpacking.rt:119:5
+loop-again : tie.Need-loop-again Inv-loop μ-loop
+loop-again c = (omega arith, simp length-set (c .before .before .loop .inv .1), overlay-more _ _ _ _ _ _ (omega arith) (c .before .before .loop .inv .2) (c .data-byte .ensures))
+
+-- src/unpacking.rt:115:1
+same-length : tie.Need-same-length Inv-loop μ-loop
+same-length c = search needs
+
+-- src/unpacking.rt:115:1
+returns : tie.Need-returns Inv-loop μ-loop
+returns c = let e : c .before .loop .k ≡ 512 = omega arith in rw e at (c .before .loop .inv .2)
+
+pub write-sector-spec : {M : Type 1} → statement M
+write-sector-spec =
+    tie.close
+    (tie.spec
+    Inv-loop
+    μ-loop
+    loop-holds
+    mul-data-byte
+    data-byte-requires
+    add-image
+    slice-write-image
+    add-k
+    loop-less
+    loop-again
+    same-length
+    returns)

@@ -1,0 +1,81 @@
+-- Unpacking an HFE image to a block image. Document 01, "Numbered replies" 1 to 7.
+-- Assumes nothing: these are definitions.
+use mathlib.Core.Bool.{Bool, true, false, cond, not}
+use mathlib.Core.List.{List}
+use Prim.Native.Nat.{ℕ, _+_, _*_, _/_, _%_}
+use lib.Dec.{ltb, eqb}
+use lib.ListN.{length, getD}
+use Rattle.laws.specs.Tab.{tab}
+use Rattle.laws.specs.Lowest.{lowest}
+use Rattle.sectors.specs.declared.Reply.{Reply}
+use Rattle.sectors.specs.declared.Fault.{Fault}
+use Rattle.sectors.specs.declared.Fault.the-variants.{At, Sound}
+use Rattle.sectors.specs.declared.Sector.{Sector}
+use Rattle.sectors.specs.declared.Sector.the-variants.{Delivered, Missing, Repeated, Fieldless, Damaged}
+use Rattle.sectors.specs.Replies.{reply, done}
+use Rattle.sectors.specs.Geometry.{sectors, trackSectors, allSectors, sectorBytes, imageBytes}
+use Rattle.sectors.specs.Search.{sectorOf, bytesOf}
+use Rattle.sectors.specs.Hfe.{headerFault, tableFault, sideStream}
+
+-- track, side and R of an image sector: image sectors go side 0, R 1 to 9, then side 1
+abbrev pub trackOf : ℕ → ℕ
+trackOf m = m / trackSectors
+
+abbrev pub sideOf : ℕ → ℕ
+sideOf m = m % trackSectors / sectors
+
+abbrev pub rOf : ℕ → ℕ
+rOf m = m % sectors + 1
+
+-- what image sector m gives, judged alone, and its bytes
+unfoldable pub sectorAt : List ℕ → ℕ → Sector
+sectorAt h m = sectorOf (sideStream h (trackOf m) (sideOf m)) (trackOf m) (sideOf m) (rOf m)
+
+unfoldable pub sectorBytesAt : List ℕ → ℕ → List ℕ
+sectorBytesAt h m = bytesOf (sideStream h (trackOf m) (sideOf m)) (sectorAt h m)
+
+-- the number for each case: 4 no header, 5 two or more, 6 no data field, 7 data CRC wrong; with track, side and R
+abbrev pub sectorReply : ℕ → Sector → Reply
+sectorReply m (Delivered p) = done
+sectorReply m Missing = reply 4 (trackOf m) (sideOf m) (rOf m)
+sectorReply m Repeated = reply 5 (trackOf m) (sideOf m) (rOf m)
+sectorReply m Fieldless = reply 6 (trackOf m) (sideOf m) (rOf m)
+sectorReply m Damaged = reply 7 (trackOf m) (sideOf m) (rOf m)
+
+abbrev pub isBad : Sector → Bool
+isBad (Delivered p) = false
+isBad Missing = true
+isBad Repeated = true
+isBad Fieldless = true
+isBad Damaged = true
+
+-- the first bad sector by track, side, R, or 1440
+unfoldable pub firstBad : List ℕ → ℕ
+firstBad h = lowest (λ (m : ℕ). isBad (sectorAt h m)) allSectors
+
+unfoldable pub sectorsReply : List ℕ → Reply
+sectorsReply h = cond (ltb (firstBad h) allSectors) (sectorReply (firstBad h) (sectorAt h (firstBad h))) done
+
+-- a fault gives its number and place; where there is none the next test decides
+abbrev pub orReply : ℕ → Fault → Reply → Reply
+orReply n (At o) r = reply n o 0 0
+orReply n Sound r = r
+
+-- an HFE image to read has at least 1024 bytes
+abbrev pub leastHfe : ℕ
+leastHfe = 1024
+
+-- the reply for an HFE image h and a block image of n bytes: tests run from 1 upwards; 1 names which length is wrong, 1 the HFE image,
+-- 2 the block image
+unfoldable pub unpackReply : List ℕ → ℕ → Reply
+unpackReply h n =
+    cond (ltb (length h) leastHfe) (reply 1 1 0 0)
+    (cond (eqb n imageBytes) (orReply 2 (headerFault h) (orReply 3 (tableFault h) (sectorsReply h))) (reply 1 2 0 0))
+
+-- byte k of the block image: the sectors' bytes in image-sector order
+unfoldable pub unpackedByte : List ℕ → ℕ → ℕ
+unpackedByte h k = getD (sectorBytesAt h (k / sectorBytes)) (k % sectorBytes) 0
+
+-- the lent block image afterwards: unchanged on a refusal
+unfoldable pub unpackImage : List ℕ → List ℕ → List ℕ
+unpackImage h image = cond (eqb (unpackReply h (length image) .number) 0) (tab (unpackedByte h) imageBytes) image

@@ -1,0 +1,21 @@
+// What a judgement finds.
+ghost use mathlib.Core.Path.{_≡_};
+ghost use Rattle.sectors.specs.Hfe.{wrongAt, orFault};
+use crate::Fault;
+
+// The fault of a field at offset o that is right or wrong.
+pub fn wrong_at(o: usize, right: bool) -> Fault
+    ensures { λ r. ⌜ r ≡ wrongAt o right ⌝ }
+{
+    if right { Fault::Sound } else { Fault::At(o) }
+}
+
+// The first of two faults.
+pub fn or_fault(a: Fault, b: Fault) -> Fault
+    ensures { λ r. ⌜ r ≡ orFault a b ⌝ }
+{
+    match a {
+        Fault::At(o) => Fault::At(o),
+        Fault::Sound => b,
+    }
+}

@@ -1,0 +1,127 @@
+// The header and the track table of an HFE image.
+ghost use mathlib.Core.Path.{_≡_};
+ghost use mathlib.Core.Bool.{true};
+ghost use Prim.Native.Nat.{_+_, _<_, _≤_, _^_};
+ghost use lib.ListN.{length};
+ghost use Rattle.cells.specs.Stream.{hfeSide};
+ghost use Rattle.sectors.specs.Hfe.{trackPart, flagFault, formatFault, headerFault, entryPlace, trackStart, trackLength, trackBytes, trackGood, tableFault};
+use crate::Fault;
+use crate::Geometry;
+use crate::faults::or_fault;
+use crate::faults::wrong_at;
+use cells::Side;
+
+// The unit in which table and tracks are placed.
+const UNIT: usize = 512;
+
+// Revision, tracks, sides, encoding and bit rate.
+fn format_fault(hfe: &[u8]) -> Fault
+    ensures { λ r. ⌜ r ≡ formatFault (now (hfe .entry)) ⌝ }
+{
+    let rate = wrong_at(12, fields::low2(hfe, 12) == 250);
+    let encoding = wrong_at(11, fields::byte(hfe, 11, 0) == 0);
+    let sides = wrong_at(10, fields::byte(hfe, 10, 0) as usize == Geometry::SIDES);
+    let tracks = wrong_at(9, Geometry::TRACKS <= fields::byte(hfe, 9, 0) as usize);
+    let revision = wrong_at(8, fields::byte(hfe, 8, 0) == 0);
+    or_fault(
+        revision,
+        or_fault(tracks, or_fault(sides, or_fault(encoding, rate))),
+    )
+}
+
+// A byte that is FF or 00, and where it is 00 a 0 after it.
+fn flag_fault(hfe: &[u8], o: usize) -> Fault
+    requires { ⌜ o < 2 ^ 16 ⌝ }
+    ensures { λ r. ⌜ r ≡ flagFault (now (hfe .entry)) o ⌝ }
+{
+    let flag = fields::byte(hfe, o, 0);
+    let after = fields::byte(hfe, o, 1);
+    or_fault(
+        wrong_at(o, (flag == 0xFF) | (flag == 0)),
+        wrong_at(o + 1, !(flag == 0) | (after == 0)),
+    )
+}
+
+// The lowest wrong field of the header.
+pub fn header_fault(hfe: &[u8]) -> Fault
+    ensures { λ r. ⌜ r ≡ headerFault (now (hfe .entry)) ⌝ }
+{
+    let flags = or_fault(flag_fault(hfe, 22), flag_fault(hfe, 24));
+    let table = wrong_at(18, 1 <= fields::low2(hfe, 18));
+    let format = format_fault(hfe);
+    let signature = wrong_at(0, fields::stands_at(hfe, 0, b"HXCPICFE"));
+    or_fault(signature, or_fault(format, or_fault(table, flags)))
+}
+
+// Where the four bytes of a track stand.
+fn entry_place(hfe: &[u8], t: usize) -> usize
+    requires { ⌜ t < 2 ^ 16 ⌝ }
+    ensures { λ r. ⌜ (r ≡ entryPlace (now (hfe .entry)) t) × (r < 2 ^ 26) ⌝ }
+{
+    UNIT * fields::low2(hfe, 18) as usize + 4 * t
+}
+
+// Where a track begins.
+pub fn track_start(hfe: &[u8], t: usize) -> usize
+    requires { ⌜ t < 2 ^ 16 ⌝ }
+    ensures { λ r. ⌜ (r ≡ trackStart (now (hfe .entry)) t) × (r < 2 ^ 25) ⌝ }
+{
+    UNIT * fields::low2(hfe, entry_place(hfe, t)) as usize
+}
+
+// A track's length in bytes.
+pub fn track_length(hfe: &[u8], t: usize) -> u16
+    requires { ⌜ t < 2 ^ 16 ⌝ }
+    ensures { λ r. ⌜ r ≡ trackLength (now (hfe .entry)) t ⌝ }
+{
+    fields::low2(hfe, entry_place(hfe, t) + 2)
+}
+
+// The bytes of a track's units.
+pub fn track_bytes(hfe: &[u8], t: usize) -> usize
+    requires { ⌜ t < 2 ^ 16 ⌝ }
+    ensures { λ r. ⌜ (r ≡ trackBytes (now (hfe .entry)) t) × (r < 2 ^ 17) ⌝ }
+{
+    UNIT * ((track_length(hfe, t) as usize + (UNIT - 1)) / UNIT)
+}
+
+// Whether a track's table entry is good.
+fn track_good(hfe: &[u8], t: usize) -> bool
+    requires { ⌜ t < 2 ^ 16 ⌝ }
+    ensures { λ r. ⌜ r ≡ trackGood (now (hfe .entry)) t ⌝ }
+{
+    let end = track_start(hfe, t) + track_bytes(hfe, t);
+    let length = track_length(hfe, t);
+    let entry = entry_place(hfe, t);
+    (entry + 4 <= hfe.len()) & (length % 2 == 0) & (0 < length) & (end <= hfe.len())
+}
+
+// The lowest track whose entry is not good.
+pub fn table_fault(hfe: &[u8]) -> Fault
+    ensures { λ r. ⌜ r ≡ tableFault (now (hfe .entry)) ⌝ }
+{
+    for t in 0..Geometry::TRACKS {
+        if !track_good(hfe, t) {
+            return Fault::At(t);
+        }
+    }
+    Fault::Sound
+}
+
+// The part of the image that begins at the track's offset.
+pub fn track_part(hfe: &[u8], t: usize) -> &[u8]
+    requires { ⌜ (t < 80) × (tableFault (now hfe) ≡ Fault.Sound) ⌝ }
+    ensures { λ r. ⌜ now r ≡ trackPart (now (hfe .entry)) t ⌝ }
+{
+    let start = track_start(hfe, t);
+    let end = start + track_bytes(hfe, t);
+    &hfe[start..end]
+}
+
+// Where a side lies in the track's part.
+pub fn track_side(hfe: &[u8], t: usize, head: usize) -> Side
+    requires { ⌜ (t < 80) × (head < 2) ⌝ }
+    ensures { λ r. ⌜ r ≡ hfeSide head (trackLength (now (hfe .entry)) t) ⌝ }
+{
+    cells::hfe_side(head as u8, track_length(hfe, t))
+}

@@ -1,0 +1,28 @@
+// Numbered replies.
+ghost use mathlib.Core.Path.{_≡_};
+ghost use Rattle.sectors.specs.Replies as Replies;
+use crate::Reply;
+
+// Done, with no place named.
+pub fn done() -> Reply
+    ensures { λ r. ⌜ r ≡ Replies.done ⌝ }
+{
+    Reply {
+        number: 0,
+        first: 0,
+        second: 0,
+        third: 0,
+    }
+}
+
+// A refusal with its number and first place.
+pub fn refused(number: usize, first: usize) -> Reply
+    ensures { λ r. ⌜ r ≡ Replies.reply number first 0 0 ⌝ }
+{
+    Reply {
+        number,
+        first,
+        second: 0,
+        third: 0,
+    }
+}

@@ -1,0 +1,135 @@
+// Headers, the search for the nine sectors of a side, and data fields.
+ghost use mathlib.Core.Path.{_≡_};
+ghost use mathlib.Core.Bool.{cond};
+ghost use Prim.Native.Nat.{ℕ, _+_, _<_, _≤_, _^_};
+ghost use lib.ListN.{length, getD};
+ghost use Rattle.cells.specs.Stream.{stream, from};
+ghost use Rattle.sectors.specs.Search.{crcHolds, headerOf, belongs, findSector, fieldAt, fieldOf, sectorFound};
+ghost use Rattle.sectors.specs.Laws.Search.{moreFound, Indexed, Scanned};
+use crate::Found;
+use crate::Header;
+use crate::Id;
+use crate::Sector;
+use cells::Side;
+
+// Whether the CRC of the n bytes from place i on follows them.
+fn crc_holds(part: &[u8], side: Side, i: usize, n: usize) -> bool
+    requires { ⌜ n < 2 ^ 16 ⌝ }
+    ensures { λ r. ⌜ r ≡ crcHolds (from (stream (now (part .entry)) side) i) n ⌝ }
+{
+    let high = cells::data_byte(part, side, i, 16 * n) as u16;
+    let low = cells::data_byte(part, side, i, 16 * n + 16) as u16;
+    cells::crc_at(part, side, i, 0, n) == high * 256 + low
+}
+
+// The header at place i.
+pub fn header_at(part: &[u8], side: Side, i: usize) -> Header
+    ensures { λ r. ⌜ r ≡ headerOf (from (stream (now (part .entry)) side) i) ⌝ }
+{
+    if cells::cells_from(side, i) < 160 {
+        return Header::Absent;
+    }
+    if cells::three_sync(part, side, i) {
+        if cells::data_byte(part, side, i, 48) == 0xFE {
+            if crc_holds(part, side, i, 8) {
+                return Header::Is(Id {
+                    c: cells::data_byte(part, side, i, 64),
+                    h: cells::data_byte(part, side, i, 80),
+                    r: cells::data_byte(part, side, i, 96),
+                    n: cells::data_byte(part, side, i, 112),
+                });
+            }
+        }
+    }
+    Header::Absent
+}
+
+// One more place found.
+fn more(f: Found, i: usize) -> Found
+    ensures { λ r. ⌜ r ≡ moreFound f i ⌝ }
+{
+    match f {
+        Found::Nothing => Found::One(i),
+        Found::One(_) => Found::Several,
+        Found::Several => Found::Several,
+    }
+}
+
+// Which of the nine sectors of this track and side a header belongs to, from 0; 9 where to none.
+fn sector_index(header: Header, track: u8, head: u8) -> usize
+    ensures { λ r. ⌜ Indexed r header track head ⌝ }
+{
+    match header {
+        Header::Is(id) => {
+            let sector = id.r;
+            if (id.c == track) & (id.h == head) & (id.n == 2) {
+                if 1 <= sector {
+                    if sector <= 9 {
+                        return (sector - 1) as usize;
+                    }
+                }
+            }
+            9
+        }
+        Header::Absent => 9,
+    }
+}
+
+// The search's answer for each of the nine sectors of a side: each place is tried once.
+pub fn scan(part: &[u8], side: Side, track: u8, head: u8) -> [Found; 9]
+    ensures { λ r. ⌜ Scanned r (stream (now (part .entry)) side) track head ⌝ }
+{
+    let mut found = [Found::Nothing; 9];
+    let places = cells::cells_from(side, 0);
+    for i in 0..places {
+        let k = sector_index(header_at(part, side, i), track, head);
+        if k < 9 {
+            let f = found[k];
+            found[k] = more(f, i);
+        }
+    }
+    found
+}
+
+// The field whose three sync bytes begin at place j.
+fn field_at(part: &[u8], side: Side, j: usize) -> Sector
+    requires { ⌜ j < 2 ^ 33 ⌝ }
+    ensures { λ r. ⌜ r ≡ fieldAt (stream (now (part .entry)) side) j ⌝ }
+{
+    if cells::cells_from(side, j) < 8288 {
+        return Sector::Fieldless;
+    }
+    if cells::data_byte(part, side, j, 48) == 0xFB {
+        if crc_holds(part, side, j, 516) {
+            return Sector::Delivered(j + 64);
+        }
+        return Sector::Damaged;
+    }
+    Sector::Fieldless
+}
+
+// The field of the header at place i.
+fn field_of(part: &[u8], side: Side, i: usize) -> Sector
+    ensures { λ r. ⌜ r ≡ fieldOf (stream (now (part .entry)) side) i ⌝ }
+{
+    if side.cells as usize <= i {
+        return Sector::Fieldless;
+    }
+    for k in 0..689usize {
+        if cells::three_sync(part, side, i + 160 + k) {
+            return field_at(part, side, i + 160 + k);
+        }
+    }
+    Sector::Fieldless
+}
+
+// What the search's answer gives.
+pub fn sector_found(part: &[u8], side: Side, found: Found) -> Sector
+    ensures { λ r. ⌜ r ≡ sectorFound (stream (now (part .entry)) side) found ⌝ }
+{
+    match found {
+        Found::One(i) => field_of(part, side, i),
+        Found::Nothing => Sector::Missing,
+        Found::Several => Sector::Repeated,
+    }
+}

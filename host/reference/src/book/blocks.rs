@@ -1,0 +1,53 @@
+//! How the book gives lines and blocks, and counts them.
+
+use super::{Book, SLOTS_PER_BLOCK};
+use crate::geometry::{BLOCKS, BLOCK_LEN};
+use crate::layout::entry::SLOT_LEN;
+
+/// Blocks of a file with this many bytes of data.
+pub fn blocks_for(data_len: usize) -> usize {
+    (data_len + SLOT_LEN).div_ceil(BLOCK_LEN)
+}
+
+/// Demand 3's word: 3 x (479 - D - S), with D = 1 + P / 24.
+pub fn word(most_present: usize, file_blocks: usize) -> i64 {
+    let directory_blocks = 1 + most_present / SLOTS_PER_BLOCK;
+    3 * (479 - directory_blocks as i64 - file_blocks as i64)
+}
+
+impl Book {
+    /// The blocks of all files present, S.
+    pub(super) fn file_blocks(&self) -> usize {
+        self.files()
+            .map(|(_, file)| blocks_for(file.data.len()))
+            .sum()
+    }
+
+    /// The lowest empty line, else a new one; a new line whose slot begins a
+    /// block takes the lowest free block for the directory.
+    pub(super) fn open_line(&mut self) -> usize {
+        if let Some(index) = self.lines.iter().position(Option::is_none) {
+            return index + 1;
+        }
+        self.lines.push(None);
+        let line = self.lines.len();
+        if line.is_multiple_of(SLOTS_PER_BLOCK) {
+            let block = self.lowest_free(1);
+            self.directory_blocks.extend(block);
+        }
+        line
+    }
+
+    /// The lowest blocks that are neither block 0, the directory's, nor a
+    /// file's.
+    pub(super) fn lowest_free(&self, count: usize) -> Vec<usize> {
+        let mut is_free = [true; BLOCKS];
+        is_free[0] = false;
+        let of_files = self.files().flat_map(|(_, file)| &file.blocks);
+        for &block in self.directory_blocks.iter().chain(of_files) {
+            is_free[block] = false;
+        }
+        let free: Vec<usize> = (0..BLOCKS).filter(|&block| is_free[block]).collect();
+        free[..count].to_vec()
+    }
+}

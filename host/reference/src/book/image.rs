@@ -1,0 +1,71 @@
+//! The image that the book stands for.
+
+use super::{Book, SLOTS_PER_BLOCK};
+use crate::field::SECTOR_LEN;
+use crate::geometry::{running_at, BLOCKS, BLOCK_LEN, SECTORS};
+use crate::layout::entry::SLOT_LEN;
+use crate::layout::header::{Header, HEADER_LEN};
+use crate::layout::record::Record;
+
+impl Book {
+    /// The whole block image, sector by sector in image order.
+    pub fn image(&self) -> Vec<u8> {
+        let blocks = self.blocks();
+        let mut image = Vec::new();
+        for image_sector in 0..SECTORS {
+            let running = running_at(image_sector);
+            let start = SECTOR_LEN * running;
+            image.extend(&blocks[start..start + SECTOR_LEN]);
+        }
+        image
+    }
+
+    /// All blocks one after another; what nobody holds is zero.
+    fn blocks(&self) -> Vec<u8> {
+        let mut blocks = vec![0; BLOCK_LEN * BLOCKS];
+        blocks[..HEADER_LEN].copy_from_slice(&self.header().bytes());
+        let map: Vec<u8> = self.records().into_iter().flat_map(Record::bytes).collect();
+        blocks[HEADER_LEN..BLOCK_LEN].copy_from_slice(&map);
+        for (line, file) in self.files() {
+            let block = self.directory_blocks[line / SLOTS_PER_BLOCK];
+            let start = BLOCK_LEN * block + SLOT_LEN * (line % SLOTS_PER_BLOCK);
+            blocks[start..start + SLOT_LEN].copy_from_slice(&file.entry());
+
+            let bytes = [&file.entry(), &file.data[..]].concat();
+            for (block, part) in file.blocks.iter().zip(bytes.chunks(BLOCK_LEN)) {
+                let start = BLOCK_LEN * block;
+                blocks[start..start + part.len()].copy_from_slice(part);
+            }
+        }
+        blocks
+    }
+
+    /// The header; the directory has slot 0 and one slot for each line.
+    fn header(&self) -> Header {
+        Header {
+            name: self.name.clone(),
+            number: self.number,
+            updates: self.updates,
+            free: self.free_word(),
+            directory_len: SLOT_LEN * (1 + self.lines.len()),
+        }
+    }
+
+    /// The record of each block.
+    fn records(&self) -> Vec<Record> {
+        let mut records = vec![Record::Free; BLOCKS];
+        records[0] = Record::System;
+        for (sequence, &block) in self.directory_blocks.iter().enumerate() {
+            records[block] = Record::File { file: 0, sequence };
+        }
+        for (line, file) in self.files() {
+            for (sequence, &block) in file.blocks.iter().enumerate() {
+                records[block] = Record::File {
+                    file: line,
+                    sequence,
+                };
+            }
+        }
+        records
+    }
+}

@@ -1,0 +1,163 @@
+//! The book: what a history of calls must give, told from the arguments of
+//! format and calls alone. It never looks at an image.
+//!
+//! Rules: document 01, "The book of demand 3". It shares no decision with
+//! the calls on images, only the layout of header, entry and record, and
+//! the numbers and the placement of the disk.
+
+mod blocks;
+mod image;
+
+use crate::geometry::BLOCK_LEN;
+use crate::layout::entry::{Entry, SLOT_LEN};
+use crate::reply::Reply;
+use blocks::{blocks_for, word};
+
+/// Slots of the directory in a block.
+const SLOTS_PER_BLOCK: usize = BLOCK_LEN / SLOT_LEN;
+
+/// A file that is present.
+#[derive(Clone, Debug, PartialEq, Eq)]
+pub struct File {
+    /// Its name.
+    pub name: Vec<u8>,
+    /// Its date.
+    pub date: u32,
+    /// Its data, without the entry before them.
+    pub data: Vec<u8>,
+    /// Its blocks in sequence.
+    pub blocks: Vec<usize>,
+}
+
+impl File {
+    fn entry(&self) -> [u8; SLOT_LEN] {
+        Entry::new(&self.name, self.date, self.data.len()).bytes()
+    }
+}
+
+/// The state after a format and some calls.
+#[derive(Clone, Debug, PartialEq, Eq)]
+pub struct Book {
+    name: Vec<u8>,
+    number: u16,
+    /// Line 1 first; an empty line is `None`.
+    lines: Vec<Option<File>>,
+    directory_blocks: Vec<usize>,
+    /// The greatest number of files present at once, P.
+    most_present: usize,
+    /// Accepted adds and removes, modulo 2^32.
+    updates: u32,
+}
+
+fn refused(number: usize, place: usize) -> Reply {
+    Reply::new(number, [place, 0, 0])
+}
+
+/// Lays a result over the start of a buffer, or answers 16.
+fn hand_out(result: &[u8], buffer: &mut [u8]) -> Reply {
+    match buffer.get_mut(..result.len()) {
+        Some(start) => {
+            start.copy_from_slice(result);
+            Reply::new(0, [result.len(), 0, 0])
+        }
+        None => refused(16, result.len()),
+    }
+}
+
+impl Book {
+    /// The book of an accepted format, or nothing for a name over 10 bytes.
+    pub fn format(name: &[u8], number: u16) -> Option<Book> {
+        (name.len() <= 10).then(|| Book {
+            name: name.to_vec(),
+            number,
+            lines: Vec::new(),
+            directory_blocks: vec![1],
+            most_present: 0,
+            updates: 0,
+        })
+    }
+
+    /// The files present with their line numbers, in line order.
+    pub fn files(&self) -> impl Iterator<Item = (usize, &File)> {
+        let lines = self.lines.iter().enumerate();
+        lines.filter_map(|(index, line)| line.as_ref().map(|file| (index + 1, file)))
+    }
+
+    /// The free word by demand 3.
+    pub fn free_word(&self) -> usize {
+        let word = word(self.most_present, self.file_blocks());
+        usize::try_from(word).expect("never below zero")
+    }
+
+    /// Adds a file.
+    pub fn add(&mut self, name: &[u8], date: u32, data: &[u8]) -> Reply {
+        if name.is_empty() || name.len() > 36 {
+            return refused(12, 0);
+        }
+        if let Some(line) = self.line_of(name) {
+            return refused(13, line);
+        }
+        let present = self.files().count() + 1;
+        let most_present = self.most_present.max(present);
+        let count = blocks_for(data.len());
+        if word(most_present, self.file_blocks() + count) < 0 {
+            return refused(15, 0);
+        }
+        let line = self.open_line();
+        let blocks = self.lowest_free(count);
+        self.lines[line - 1] = Some(File {
+            name: name.to_vec(),
+            date,
+            data: data.to_vec(),
+            blocks,
+        });
+        self.most_present = most_present;
+        self.updates = self.updates.wrapping_add(1);
+        Reply::DONE
+    }
+
+    /// Removes a file.
+    pub fn remove(&mut self, name: &[u8]) -> Reply {
+        match self.line_to_use(name) {
+            Ok(line) => {
+                self.lines[line - 1] = None;
+                self.updates = self.updates.wrapping_add(1);
+                Reply::DONE
+            }
+            Err(reply) => reply,
+        }
+    }
+
+    /// Reads a file.
+    pub fn read(&self, name: &[u8], buffer: &mut [u8]) -> Reply {
+        match self.line_to_use(name) {
+            Ok(line) => {
+                let file = self.lines[line - 1].as_ref();
+                hand_out(&file.expect("a filled line").data, buffer)
+            }
+            Err(reply) => reply,
+        }
+    }
+
+    /// Lists the files present.
+    pub fn list(&self, buffer: &mut [u8]) -> Reply {
+        let entries: Vec<u8> = self.files().flat_map(|(_, file)| file.entry()).collect();
+        hand_out(&entries, buffer)
+    }
+
+    /// The line of the file of this name.
+    fn line_of(&self, name: &[u8]) -> Option<usize> {
+        let mut files = self.files();
+        files
+            .find(|(_, file)| file.name == name)
+            .map(|(line, _)| line)
+    }
+
+    /// The same for a read or remove, which answer 12 or 14 without it.
+    fn line_to_use(&self, name: &[u8]) -> Result<usize, Reply> {
+        if name.is_empty() || name.len() > 36 {
+            return Err(refused(12, 0));
+        }
+        self.line_of(name).ok_or(refused(14, 0))
+    }
+}

@@ -1,0 +1,12 @@
+//! The call `check`.
+
+use crate::reply::Reply;
+use crate::volume::Volume;
+
+/// Judges the image: 1 and 8 to 11.
+pub fn check(image: &[u8]) -> Reply {
+    match Volume::of_image(image) {
+        Ok(_) => Reply::DONE,
+        Err(refusal) => refusal.reply(),
+    }
+}

@@ -1,0 +1,43 @@
+//! Judging the disk header.
+//!
+//! Rules: document 01, "Header, map, directory" and "Numbered replies", 8.
+
+use crate::geometry::BLOCK_LEN;
+use crate::layout::entry::SLOT_LEN;
+use crate::layout::header::{DIRECTORY_LEN, FIXED_WORDS, SHIFT, SHIFT_WORD, SIGNATURE, TABLES};
+use crate::layout::word_at;
+use crate::reply::Refusal;
+
+/// The directory's length in bytes.
+pub fn directory_len(block_0: &[u8]) -> usize {
+    BLOCK_LEN * word_at(block_0, DIRECTORY_LEN) + word_at(block_0, DIRECTORY_LEN + 2)
+}
+
+/// Judges the fields in order; refusal 8 at the first wrong one.
+///
+/// Name, number, update count and the bytes after the tables may be
+/// anything; the free word is judged with the map.
+pub fn judge_disk_header(block_0: &[u8]) -> Result<(), Refusal> {
+    let mut fields = vec![(0, block_0[0..4] == SIGNATURE)];
+    for (offset, word) in FIXED_WORDS {
+        fields.push((offset, word_at(block_0, offset) == word));
+    }
+    fields.push((DIRECTORY_LEN, is_directory_len_good(block_0)));
+    fields.push((SHIFT, word_at(block_0, SHIFT) == SHIFT_WORD));
+    for (offset, table) in TABLES {
+        fields.push((offset, block_0[offset..offset + table.len()] == table));
+    }
+    for (offset, good) in fields {
+        if !good {
+            return Err(Refusal::DiskHeader(offset));
+        }
+    }
+    Ok(())
+}
+
+/// At least one whole slot, only whole slots, and less than a block over.
+fn is_directory_len_good(block_0: &[u8]) -> bool {
+    let len = directory_len(block_0);
+    let over = word_at(block_0, DIRECTORY_LEN + 2);
+    len >= SLOT_LEN && len.is_multiple_of(SLOT_LEN) && over < BLOCK_LEN
+}

@@ -1,0 +1,57 @@
+//! A map record: 12 bits file, 12 bits sequence, highest first.
+
+/// Bytes of a map record.
+pub const RECORD_LEN: usize = 3;
+
+/// First bytes from this on belong to no file.
+pub const FIRST_NO_FILE: u8 = 0xF8;
+
+/// File numbers that a record can bear are below this.
+pub const FILE_NUMBERS: usize = (FIRST_NO_FILE as usize) << 4;
+
+/// What a map record says of its block.
+#[derive(Clone, Copy, Debug, PartialEq, Eq)]
+pub enum Record {
+    /// The block is free.
+    Free,
+    /// The block holds header and map.
+    System,
+    /// The block is the one with this sequence number in the file.
+    File {
+        /// File number.
+        file: usize,
+        /// Sequence number.
+        sequence: usize,
+    },
+}
+
+impl Record {
+    /// The record in these three bytes, if they are one.
+    pub fn read(bytes: [u8; RECORD_LEN]) -> Option<Record> {
+        match bytes {
+            [0xFD, 0xFF, 0xFF] => Some(Record::Free),
+            [0xF8, 0x00, 0x00] => Some(Record::System),
+            [FIRST_NO_FILE..=0xFF, _, _] => None,
+            [first, second, third] => {
+                let [first, second, third] = [first, second, third].map(usize::from);
+                Some(Record::File {
+                    file: first << 4 | second >> 4,
+                    sequence: (second & 0x0F) << 8 | third,
+                })
+            }
+        }
+    }
+
+    /// Its bytes; file and sequence numbers have 12 bits each.
+    pub fn bytes(self) -> [u8; RECORD_LEN] {
+        match self {
+            Record::Free => [0xFD, 0xFF, 0xFF],
+            Record::System => [0xF8, 0x00, 0x00],
+            Record::File { file, sequence } => [
+                (file >> 4) as u8,
+                ((file & 0x0F) << 4 | sequence >> 8) as u8,
+                (sequence & 0xFF) as u8,
+            ],
+        }
+    }
+}

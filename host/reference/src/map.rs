@@ -1,0 +1,55 @@
+//! The map: a record for each block.
+//!
+//! Rules: document 01, "Header, map, directory" and "Numbered replies", 9
+//! and 11.
+
+use crate::geometry::{BLOCKS, SECTORS_PER_BLOCK};
+use crate::layout::header::{FREE, HEADER_LEN};
+use crate::layout::record::{Record, RECORD_LEN};
+use crate::layout::word_at;
+use crate::reply::Refusal;
+
+/// Where the record of a block stands in block 0.
+fn record_place(block: usize) -> usize {
+    HEADER_LEN + RECORD_LEN * block
+}
+
+/// The record of a block, if its bytes are one.
+pub fn record_of(block_0: &[u8], block: usize) -> Option<Record> {
+    let place = record_place(block);
+    Record::read([block_0[place], block_0[place + 1], block_0[place + 2]])
+}
+
+/// Sets the record of a block.
+pub fn set_record(block_0: &mut [u8], block: usize, record: Record) {
+    let place = record_place(block);
+    block_0[place..place + RECORD_LEN].copy_from_slice(&record.bytes());
+}
+
+/// The records of all blocks; refusal 9 at the first block whose record is
+/// none, or is system without being that of block 0, or the other way round.
+pub fn judge_map(block_0: &[u8]) -> Result<Vec<Record>, Refusal> {
+    let mut records = Vec::new();
+    for block in 0..BLOCKS {
+        match record_of(block_0, block) {
+            Some(record) if (record == Record::System) == (block == 0) => records.push(record),
+            _ => return Err(Refusal::MapRecord(block)),
+        }
+    }
+    Ok(records)
+}
+
+/// Sectors in the free blocks.
+pub fn free_sectors(records: &[Record]) -> usize {
+    let free = records.iter().filter(|&&record| record == Record::Free);
+    SECTORS_PER_BLOCK * free.count()
+}
+
+/// Refusal 11 if the free word does not fit the map.
+pub fn judge_free_word(block_0: &[u8], records: &[Record]) -> Result<(), Refusal> {
+    if word_at(block_0, FREE) == free_sectors(records) {
+        Ok(())
+    } else {
+        Err(Refusal::FreeWord)
+    }
+}

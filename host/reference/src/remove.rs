@@ -1,0 +1,33 @@
+//! The call `remove`.
+//!
+//! Rules: document 01, "Header, map, directory", the paragraph on format.
+
+use crate::layout::entry::SLOT_LEN;
+use crate::layout::record::Record;
+use crate::reply::{Refusal, Reply};
+use crate::volume::Volume;
+
+/// Removes the named file, with all bytes of its blocks and its slot. The
+/// directory keeps its length.
+pub fn remove(image: &mut [u8], name: &[u8]) -> Reply {
+    match without_file(image, name) {
+        Ok(volume) => {
+            volume.disk.write_to(image);
+            Reply::DONE
+        }
+        Err(refusal) => refusal.reply(),
+    }
+}
+
+/// The volume without the file, or the refusal.
+fn without_file(image: &[u8], name: &[u8]) -> Result<Volume, Refusal> {
+    let mut volume = Volume::of_image(image)?;
+    let file = volume.named_file(name)?;
+    for block in volume.blocks_of(file) {
+        volume.disk.block_mut(block).fill(0);
+        volume.set_record(block, Record::Free);
+    }
+    volume.write_slot(file, &[0; SLOT_LEN]);
+    volume.count_update();
+    Ok(volume)
+}

@@ -1,0 +1,90 @@
+//! Calls of a history, on an image and in the book.
+
+use reference::book::Book;
+use reference::{add, list, read, remove, Reply};
+use support::hex::from_hex;
+use support::json::Value;
+use support::noise::noise;
+
+/// A call with its arguments; a result buffer as it is lent.
+#[derive(Clone, Debug)]
+pub enum Call {
+    Add {
+        name: Vec<u8>,
+        date: u32,
+        data: Vec<u8>,
+    },
+    Remove {
+        name: Vec<u8>,
+    },
+    Read {
+        name: Vec<u8>,
+        buffer: Vec<u8>,
+    },
+    List {
+        buffer: Vec<u8>,
+    },
+}
+
+/// Reply and, for list and read, the whole buffer afterwards.
+pub type Answer = (Reply, Option<Vec<u8>>);
+
+impl Call {
+    pub fn from_json(call: &Value) -> Call {
+        let name = || from_hex(call.get("name").text());
+        let pair = |member: &str| {
+            let pair = call.get(member).list();
+            (pair[0].number(), pair[1].size())
+        };
+        let buffer = || {
+            let (fill, len) = pair("buffer");
+            vec![u8::try_from(fill).unwrap(); len]
+        };
+        match call.get("op").text() {
+            "add" => {
+                let (seed, len) = pair("data");
+                Call::Add {
+                    name: name(),
+                    date: u32::try_from(call.get("date").number()).unwrap(),
+                    data: noise(u32::try_from(seed).unwrap(), len),
+                }
+            }
+            "remove" => Call::Remove { name: name() },
+            "read" => Call::Read {
+                name: name(),
+                buffer: buffer(),
+            },
+            "list" => Call::List { buffer: buffer() },
+            op => panic!("call {op}"),
+        }
+    }
+
+    pub fn on_image(&self, image: &mut [u8]) -> Answer {
+        match self {
+            Call::Add { name, date, data } => (add(image, name, *date, data), None),
+            Call::Remove { name } => (remove(image, name), None),
+            Call::Read { name, buffer } => with_buffer(buffer, |out| read(image, name, out)),
+            Call::List { buffer } => with_buffer(buffer, |out| list(image, out)),
+        }
+    }
+
+    pub fn in_book(&self, book: &mut Book) -> Answer {
+        match self {
+            Call::Add { name, date, data } => (book.add(name, *date, data), None),
+            Call::Remove { name } => (book.remove(name), None),
+            Call::Read { name, buffer } => with_buffer(buffer, |out| book.read(name, out)),
+            Call::List { buffer } => with_buffer(buffer, |out| book.list(out)),
+        }
+    }
+}
+
+fn with_buffer(lent: &[u8], call: impl FnOnce(&mut [u8]) -> Reply) -> Answer {
+    let mut buffer = lent.to_vec();
+    let reply = call(&mut buffer);
+    (reply, Some(buffer))
+}
+
+/// A reply of the data.
+pub fn expected_reply(value: &Value) -> Vec<usize> {
+    value.list().iter().map(Value::size).collect()
+}

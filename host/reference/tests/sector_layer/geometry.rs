@@ -1,0 +1,77 @@
+use reference::geometry::{
+    image_sector, running_at, running_sector, REMAINDER, SECTORS, SIDE_AND_PLACE,
+};
+use reference::place;
+
+#[test]
+fn stated_placements() {
+    for (block, sector, expected) in [
+        (0, 0, 0),
+        (2, 0, 1),
+        (1, 0, 9),
+        (1, 1, 12),
+        (1, 2, 15),
+        (6, 0, 23),
+        (6, 1, 26),
+        (6, 2, 20),
+        (7, 0, 32),
+        (474, 0, 1430),
+        (479, 2, 1438),
+    ] {
+        assert_eq!(place(block, sector).parts(), [0, expected, 0, 0]);
+    }
+}
+
+#[test]
+fn block_and_sector_out_of_range() {
+    for (block, sector) in [
+        (480, 0),
+        (0, 3),
+        (479, 3),
+        (480, 3),
+        (usize::MAX, 0),
+        (0, usize::MAX),
+        (usize::MAX, usize::MAX),
+    ] {
+        assert_eq!(place(block, sector).parts(), [12, 0, 0, 0]);
+    }
+}
+
+#[test]
+fn place_is_that_of_the_running_sector() {
+    for running in 0..SECTORS {
+        let reply = place(running / 3, running % 3);
+        assert_eq!(reply.parts(), [0, image_sector(running), 0, 0]);
+        assert_eq!(running_sector(running / 3, running % 3), running);
+    }
+}
+
+#[test]
+fn placement_and_its_inverse() {
+    let mut taken = vec![false; SECTORS];
+    for running in 0..SECTORS {
+        let image = image_sector(running);
+        assert!(!taken[image], "image sector {image} twice");
+        taken[image] = true;
+        assert_eq!(running_at(image), running);
+    }
+    for image in 0..SECTORS {
+        assert_eq!(image_sector(running_at(image)), image);
+    }
+}
+
+#[test]
+fn tables_are_inverse() {
+    for (remainder, entry) in SIDE_AND_PLACE.iter().enumerate() {
+        let on_track = 9 * (entry >> 7) + (entry & 0x7F);
+        assert_eq!(usize::from(REMAINDER[usize::from(on_track)]), remainder);
+    }
+}
+
+#[test]
+fn every_ninth_track_is_placed_as_track_0() {
+    for track in 0..80 {
+        let same = (0..18).all(|l| image_sector(18 * track + l) == 18 * track + image_sector(l));
+        assert_eq!(same, track % 9 == 0, "track {track}");
+    }
+}

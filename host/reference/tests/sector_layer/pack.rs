@@ -1,0 +1,53 @@
+use crate::build::{assert_unpacks, disk, packed, packed_image};
+use reference::cells::side_cells;
+use reference::geometry::IMAGE_LEN;
+use reference::written::written_side_cells;
+
+#[test]
+fn header_and_table_byte_by_byte() {
+    let hfe = packed();
+    assert_eq!(hfe.len(), 2_008_064);
+    let mut start = b"HXCPICFE".to_vec();
+    start.extend([0, 80, 2, 0, 250, 0, 0x2C, 0x01, 0x07, 0xFF, 1, 0]);
+    start.resize(512, 0xFF);
+    for track in 0..80u16 {
+        start.extend((2 + 49 * track).to_le_bytes());
+        start.extend([0xA8, 0x61]);
+    }
+    start.resize(1024, 0xFF);
+    assert_eq!(hfe[..1024], start);
+}
+
+#[test]
+fn sides_and_unused_ends() {
+    let hfe = packed();
+    for (track, part) in hfe[1024..].chunks(512 * 49).enumerate() {
+        for side in [0, 1] {
+            let start = 512 * (18 * track + 9 * side);
+            let data = disk()[start..start + 4608].try_into().unwrap();
+            let cells = written_side_cells(track as u8, side as u8, data);
+            assert!(side_cells(part, 25_000, side) == cells, "track {track}");
+        }
+        // In the last unit 212 bytes of each half are used.
+        let last = &part[512 * 48..];
+        assert!(last[212..256].iter().all(|&byte| byte == 0xFF));
+        assert!(last[256 + 212..].iter().all(|&byte| byte == 0xFF));
+    }
+}
+
+#[test]
+fn round_trip() {
+    assert_unpacks(&packed(), disk());
+    for byte in [0x00, 0xFF, 0xA1, 0x4E, 0xE5] {
+        let image = vec![byte; IMAGE_LEN];
+        assert_unpacks(&packed_image(&image), &image);
+    }
+}
+
+#[test]
+fn every_byte_is_written() {
+    // The buffer is lent full of 55; a second one full of 00 gives the same.
+    let mut hfe = vec![0; packed().len()];
+    reference::pack(disk(), &mut hfe);
+    assert!(hfe == packed());
+}
