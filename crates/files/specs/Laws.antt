@@ -1,5 +1,6 @@
 -- Laws of the definitions: what proofs cite. A reader need not read them.
 pub mod Disk
+pub mod Blocks
 pub mod Names
 pub mod Whole
 pub mod Inner

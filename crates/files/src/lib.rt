@@ -1,4 +1,6 @@
 // Layer 3: the header, the map, the directory and the files of a disk, on its block image.
+mod blocks;
+
 use sectors::BlockNumber;
 use sectors::Reply;
 
