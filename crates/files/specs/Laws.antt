@@ -16,4 +16,5 @@ pub mod Agree
 pub mod Present
 pub mod Left
 pub mod Zero
+pub mod Stored
 pub mod History
