@@ -17,4 +17,5 @@ pub mod Present
 pub mod Left
 pub mod Zero
 pub mod Stored
+pub mod Steps
 pub mod History
