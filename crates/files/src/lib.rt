@@ -1,5 +1,7 @@
 // Layer 3: the header, the map, the directory and the files of a disk, on its block image.
 mod blocks;
+mod header;
+mod map;
 
 use sectors::BlockNumber;
 use sectors::Reply;
@@ -35,4 +37,10 @@ pub struct FirstTrack {
     pub free: usize,
     pub good: usize,
     pub held: usize,
+}
+
+// What the judgements 8 to 11 say: all passed, or the refusal.
+pub enum Verdict {
+    Passed,
+    Refused(Reply),
 }
