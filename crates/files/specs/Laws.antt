@@ -1,6 +1,9 @@
 -- Laws of the definitions: what proofs cite. A reader need not read them.
 pub mod Disk
 pub mod Blocks
+pub mod Verdict
+pub mod Loops
+pub mod Loaded
 pub mod Names
 pub mod Whole
 pub mod Inner
@@ -18,4 +21,6 @@ pub mod Left
 pub mod Zero
 pub mod Stored
 pub mod Steps
+pub mod Given
+pub mod Fresh
 pub mod History

@@ -1,8 +1,12 @@
 // Layer 3: the header, the map, the directory and the files of a disk, on its block image.
 mod blocks;
+mod formatting;
+mod header;
+mod map;
 mod steps;
 mod store;
 
+pub use formatting::format;
 use sectors::BlockNumber;
 use sectors::Reply;
 
@@ -37,4 +41,10 @@ pub struct FirstTrack {
     pub free: usize,
     pub good: usize,
     pub held: usize,
+}
+
+// What the judgements 8 to 11 say: all passed, or the refusal.
+pub enum Verdict {
+    Passed,
+    Refused(Reply),
 }
