@@ -4,6 +4,7 @@ pub mod Blocks
 pub mod Verdict
 pub mod Loops
 pub mod Loaded
+pub mod Slots
 pub mod Names
 pub mod Whole
 pub mod Inner

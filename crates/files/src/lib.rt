@@ -1,5 +1,6 @@
 // Layer 3: the header, the map, the directory and the files of a disk, on its block image.
 mod blocks;
+mod directory;
 mod formatting;
 mod header;
 mod map;
