@@ -23,5 +23,6 @@ pub mod Zero
 pub mod Stored
 pub mod Steps
 pub mod Given
+pub mod Changed
 pub mod Fresh
 pub mod History

@@ -1,9 +1,11 @@
 // Layer 3: the header, the map, the directory and the files of a disk, on its block image.
+mod adding;
 mod blocks;
 mod directory;
 mod formatting;
 mod header;
 mod map;
+mod removing;
 mod steps;
 mod store;
 

@@ -1,29 +1,30 @@
 -- Blocks given and freed one by one: the lowest free blocks in one walk of the map, and the steps on disks that agree inside their blocks.
 -- Assumes nothing.
 use mathlib.Core.Path.{_≡_, refl, sym, ap, ap₂, _∙_, fun-ext}
-use mathlib.Core.Bool.{Bool, true, false, cond}
+use mathlib.Core.Bool.{Bool, true, false, not, cond, _&&_}
 use mathlib.Core.List.{List, [], _∷_, _++_}
 use Prim.Native.Nat.{ℕ, zero, suc, _+_, _-_, _*_, _/_, _%_, _≤_, _<_}
 use native.Mathlib.Nat.{add-zero, add-suc, suc-add, zero-add}
 use native.Mathlib.Numerals.{add-one}
 use native.Mathlib.Omega.{arith}
+use lib.Dec.{ltb}
 use lib.ListN.{length, getD}
 use Rattle.laws.specs.Change.{upd, patch, upd₂-same, upd₂-other}
 use Rattle.laws.specs.Firsts.{firstsFrom, firsts, firsts-cong}
 use Rattle.laws.specs.Order.{by-order}
 use Rattle.laws.specs.Search.{lowest-cong}
-use Rattle.laws.specs.Tests.{lt-true, lt-false, by-equal, cond-true, cond-false}
-use Rattle.laws.specs.Truth.{by-test}
+use Rattle.laws.specs.Tests.{lt-true, lt-false, true-lt, by-equal, cond-true, cond-false, and-not}
+use Rattle.laws.specs.Truth.{and-left, and-right, by-test}
 use Rattle.sectors.specs.Geometry.{blocks, imageBytes}
 use Rattle.files.specs.declared.Record.{Record}
 use Rattle.files.specs.declared.Record.the-variants.{Free, System, File, Other}
 use Rattle.files.specs.Disk.{Disk, diskOf, imageOf}
 use Rattle.files.specs.Laws.Disk.{image-disk, image-cong}
-use Rattle.files.specs.Laws.Steps.{near-patched, near-record, storedRow}
+use Rattle.files.specs.Laws.Steps.{near-patched, near-record, near-free, near-update, storedRow}
 use Rattle.files.specs.Laws.Stored.{Near, near-image, near-step, patched}
 use Rattle.files.specs.Map.{encode, recordAt, isFree, bears, isPart, freeAt, partBlock}
 use Rattle.files.specs.Sizes.{blockBytes, slotBytes, blockSlots, mapStart, recordBytes}
-use Rattle.files.specs.Written.{part, zeros, setBlock, setRecord, setSlot, giveBlocks, freeBlock, freeBlocks}
+use Rattle.files.specs.Written.{part, zeros, setBlock, setRecord, setSlot, setFree, stepUpdate, giveBlocks, freeBlock, freeBlocks}
 
 -- ---- the steps, of disks that agree
 
@@ -61,6 +62,10 @@ given-written l₀ l₁ l₂ b g r p q =
     near-step (λ (d : Disk). setRecord d b r) (λ d e n. near-set d e n b r) l₁ l₂ (setBlock (diskOf l₀) b g) p q
 
 -- ---- freed
+
+pub not-was-not : (b : Bool) → not b ≡ false → b ≡ true
+not-was-not true e = refl
+not-was-not false e = sym e
 
 pub freed-not : (l : List ℕ) (f b : ℕ) → length l ≡ imageBytes → bears f (recordAt (diskOf l) b) ≡ false → l ≡ imageOf (freeBlock (diskOf l) f b)
 unfolding freeBlock
@@ -259,7 +264,36 @@ module _ (d : Disk) (f : ℕ) (c : ℕ → ℕ) (s n : ℕ) where
     image = sym (image-disk l h) ∙ ap imageOf (sym e) ∙ ap (λ (bs : List ℕ). imageOf (giveBlocks d f c s bs)) (sym (firsts-zero (freeAt d) n));
   }
 
+-- what the walk asks of a block: whether there are not enough, and whether it is free
+module _ (d : Disk) (f : ℕ) (c : ℕ → ℕ) (s n b t : ℕ) (l : List ℕ) (w : Walked d f c s n b t l) (y : Bool) (e : y ≡ isFree (recordAt d b)) where
+  pub walked-asked : (ltb t n && y) ≡ false → Walked d f c s n (b + 1) t l
+  unfolding freeAt
+  walked-asked q =
+      by-order t n
+      (λ h. walked-not d f c s n b t l w (sym e ∙ and-not (ltb t n) y (lt-true h) q))
+      (λ h. walked-full d f c s n b t l w h)
+
+  pub walked-given : (m : List ℕ) → (ltb t n && y) ≡ true → m ≡ imageOf (given (diskOf l) b (part c (s + t)) (File f (s + t))) → Walked d f c s n (b + 1) (t + 1) m
+  unfolding freeAt
+  walked-given m q z = walked-more d f c s n b t l w m (sym e ∙ and-right (ltb t n) y q) (true-lt (and-left (ltb t n) y q)) z
+
+pub asked-below : (t n : ℕ) (y : Bool) → (ltb t n && y) ≡ true → t < n
+asked-below t n y q = true-lt (and-left (ltb t n) y q)
+
 -- a file of nothing but zeros
 pub stored-zeros : storedRow [] [] ≡ zeros
 unfolding storedRow zeros
 stored-zeros = fun-ext (λ (i : ℕ). by-order i slotBytes (λ h. cond-true _ _ (lt-true h)) (λ h. cond-false _ _ (lt-false h)))
+
+-- ---- a slot, and the end of add and remove
+
+pub slot-written : (l m : List ℕ) (k b : ℕ) (g : ℕ → ℕ) → b ≡ partBlock (diskOf l) 0 (k / blockSlots)
+    → m ≡ imageOf (patched (diskOf l) b (k % blockSlots * slotBytes) slotBytes g) → m ≡ imageOf (setSlot (diskOf l) k g)
+unfolding setSlot
+slot-written l m k b g e q = q ∙ ap (λ (x : ℕ). imageOf (patched (diskOf l) x (k % blockSlots * slotBytes) slotBytes g)) e
+
+pub settled-written : (l₀ l₁ l₂ : List ℕ) → l₁ ≡ imageOf (setFree (diskOf l₀)) → l₂ ≡ imageOf (stepUpdate (diskOf l₁)) → l₂ ≡ imageOf (stepUpdate (setFree (diskOf l₀)))
+settled-written l₀ l₁ l₂ p q = near-step stepUpdate near-update l₁ l₂ (setFree (diskOf l₀)) p q
+
+pub near-settled : (d e : Disk) → Near d e → Near (stepUpdate (setFree d)) (stepUpdate (setFree e))
+near-settled d e near = near-update (setFree d) (setFree e) (near-free d e near)
