@@ -24,5 +24,6 @@ pub mod Stored
 pub mod Steps
 pub mod Given
 pub mod Changed
+pub mod Judged
 pub mod Fresh
 pub mod History
