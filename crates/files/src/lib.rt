@@ -1,9 +1,11 @@
 // Layer 3: the header, the map, the directory and the files of a disk, on its block image.
 mod blocks;
+mod checking;
 mod directory;
 mod header;
 mod map;
 
+pub use checking::check;
 use sectors::BlockNumber;
 use sectors::Reply;
 
