@@ -5,6 +5,7 @@ pub mod Verdict
 pub mod Loops
 pub mod Loaded
 pub mod Slots
+pub mod Sound
 pub mod Names
 pub mod Whole
 pub mod Inner

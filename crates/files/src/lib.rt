@@ -1,6 +1,7 @@
 // Layer 3: the header, the map, the directory and the files of a disk, on its block image.
 mod adding;
 mod blocks;
+mod checking;
 mod directory;
 mod formatting;
 mod header;
@@ -9,6 +10,7 @@ mod removing;
 mod steps;
 mod store;
 
+pub use checking::check;
 pub use formatting::format;
 use sectors::BlockNumber;
 use sectors::Reply;

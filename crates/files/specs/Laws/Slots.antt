@@ -93,7 +93,7 @@ module _ (image dir : List ℕ) (k : ℕ) (long : length image ≡ imageBytes) (
 
 -- ---- what is read of a slot is read of its row
 
-all-cong : (p q : ℕ → Bool) (n : ℕ) → ((i : ℕ) → i < n → p i ≡ q i) → all p n ≡ all q n
+pub all-cong : (p q : ℕ → Bool) (n : ℕ) → ((i : ℕ) → i < n → p i ≡ q i) → all p n ≡ all q n
 unfolding all
 all-cong p q zero e = refl
 all-cong p q (suc n) e = ap₂ (λ (x y : Bool). x && y) (e n (omega arith)) (all-cong p q n (λ i h. e i (omega arith)))
