@@ -10,8 +10,10 @@ mod removing;
 mod steps;
 mod store;
 
+pub use adding::add;
 pub use checking::check;
 pub use formatting::format;
+pub use removing::remove;
 use sectors::BlockNumber;
 use sectors::Reply;
 

@@ -316,3 +316,7 @@ wrote-refused image w r q e h = (h ∙ sym (ap (λ (x : Written). x .answer) e),
 pub wrote-gave : (w : Written) (c : Changed) (r : Reply) (l : List ℕ) → w ≡ imaged c → Gave c r l → (r ≡ w .answer) × (l ≡ w .image)
 unfolding imaged
 wrote-gave w c r l e g = (g .answer ∙ sym (ap (λ (x : Written). x .answer) e), g .image ∙ sym (ap (λ (x : Written). x .image) e))
+
+pub name-most : (name : List ℕ) → nameRight name ≡ true → length name ≤ nameMost
+unfolding nameRight
+name-most name e = true-le (and-right (leb 1 (length name)) (leb (length name) nameMost) e)
