@@ -1,5 +1,11 @@
 -- Laws of the definitions: what proofs cite. A reader need not read them.
 pub mod Disk
+pub mod Blocks
+pub mod Verdict
+pub mod Loops
+pub mod Loaded
+pub mod Slots
+pub mod Sound
 pub mod Names
 pub mod Whole
 pub mod Inner
@@ -15,5 +21,11 @@ pub mod Agree
 pub mod Present
 pub mod Left
 pub mod Zero
+pub mod Stored
+pub mod Steps
+pub mod Given
+pub mod Changed
+pub mod Judged
+pub mod Fresh
 pub mod History
 pub mod Refusals

@@ -1,4 +1,19 @@
 // Layer 3: the header, the map, the directory and the files of a disk, on its block image.
+mod adding;
+mod blocks;
+mod checking;
+mod directory;
+mod formatting;
+mod header;
+mod map;
+mod removing;
+mod steps;
+mod store;
+
+pub use adding::add;
+pub use checking::check;
+pub use formatting::format;
+pub use removing::remove;
 use sectors::BlockNumber;
 use sectors::Reply;
 
@@ -33,4 +48,10 @@ pub struct FirstTrack {
     pub free: usize,
     pub good: usize,
     pub held: usize,
+}
+
+// What the judgements 8 to 11 say: all passed, or the refusal.
+pub enum Verdict {
+    Passed,
+    Refused(Reply),
 }

@@ -1,0 +1,22 @@
+-- `blocks_of` meets its contract.
+-- Assumes nothing.
+use mathlib.Core.Path.{refl}
+use Prim.Native.Nat.{_-_}
+use native.Mathlib.Omega.{arith}
+use borrow.Author.Needs.{needs}
+use Rattle.laws.specs.Numbers.{up}
+use Rattle.files.proofs.checking.blocks_of.Statement.{statement}
+use Rattle.files.proofs.checking.blocks_of.Tie as tie
+
+sub-result : tie.Need-sub-result
+sub-result c = search needs
+
+add-result : tie.Need-add-result
+add-result c = search needs
+
+returns : tie.Need-returns
+unfolding up
+returns c = (refl, omega arith)
+
+pub blocks-of-spec : {M : Type 1} → statement M
+blocks-of-spec = tie.close (tie.spec sub-result add-result returns)

@@ -1,0 +1,45 @@
+-- `check` meets its contract.
+-- Assumes nothing.
+use mathlib.Core.Path.{sym, _∙_}
+use Prim.Native.Nat.{_-_}
+use borrow.Author.Needs.{needs}
+use Rattle.files.specs.Laws.Sound.{check-length, check-refused, check-passed}
+use Rattle.files.proofs.checking.check.Statement.{statement}
+use Rattle.files.proofs.checking.check.Tie as tie
+
+refused-requires : tie.Need-refused-requires
+refused-requires c κs = search needs
+
+returns : tie.Need-returns
+returns c = c .refused .ensures ∙ check-length _ (c .before .if1 .taken)
+
+judge-requires : tie.Need-judge-requires
+judge-requires c κs = search needs
+
+enum-known-r : tie.Need-enum-known-r
+enum-known-r c = search needs
+
+enum-told : tie.Need-enum-told
+enum-told c = search needs
+
+done-requires : tie.Need-done-requires
+done-requires c κs = search needs
+
+returns-2 : tie.Need-returns-2
+returns-2 c = check-refused _ (c .before .before .before .before .if1 .left) _ (sym (c .before .r .given .1) ∙ c .before .before .before .judge .ensures)
+
+returns-3 : tie.Need-returns-3
+returns-3 c = c .done .ensures ∙ check-passed _ (c .before .before .before .before .if1 .left) (sym (c .before .enum-told .given .1) ∙ c .before .before .before .judge .ensures)
+
+pub check-spec : {M : Type 1} → statement M
+check-spec =
+    tie.close
+    (tie.spec
+    refused-requires
+    returns
+    judge-requires
+    enum-known-r
+    enum-told
+    done-requires
+    returns-2
+    returns-3)

@@ -1,0 +1,62 @@
+-- `entry_right` meets its contract.
+-- Assumes nothing.
+use mathlib.Core.Path.{sym, ap, _∙_}
+use Prim.Native.Nat.{ℕ, _-_}
+use borrow.Author.Needs.{needs}
+use Rattle.laws.specs.Tab.{elementAt}
+use Rattle.files.specs.Laws.Sound.{sizes-name, parts-mapped, entry-sizes-wrong, entry-name-wrong, entry-parts}
+use Rattle.files.specs.Disk.{diskOf}
+use Rattle.files.specs.Laws.Slots.{entry-row}
+use Rattle.files.specs.Directory.{entryOf}
+use Rattle.files.specs.Check.{partsRight}
+use Rattle.files.proofs.checking.entry_right.Statement.{statement}
+use Rattle.files.proofs.checking.entry_right.Tie as tie
+
+slot-place-requires : tie.Need-slot-place-requires
+slot-place-requires c κs = search needs
+
+read-entry-requires : tie.Need-read-entry-requires
+read-entry-requires c κs = search needs
+
+cast-length : tie.Need-cast-length
+cast-length c = search needs
+
+cast-named : tie.Need-cast-named
+cast-named c = search needs
+
+slice-aggregate-new-first : tie.Need-slice-aggregate-new-first
+slice-aggregate-new-first c = search needs
+
+new-first-requires : tie.Need-new-first-requires
+new-first-requires c κs = (c .before .before .before .before .before .before .before .before .pre .0, c .before .before .before .before .before .before .before .before .pre .1, c .before .before .before .before .before .before .before .before .pre .2, sizes-name _ _ (c .before .before .before .before .before .read-entry .ensures) (c .before .if1 .taken))
+
+blocks-of-requires : tie.Need-blocks-of-requires
+blocks-of-requires c κs = search needs
+
+parts-right-requires : tie.Need-parts-right-requires
+parts-right-requires c κs = search needs
+
+returns : tie.Need-returns
+returns c = entry-parts _ _ (c .before .before .before .before .before .before .before .before .before .read-entry .result) (c .before .before .before .before .before .before .before .before .before .read-entry .ensures ∙ ap (λ (x : ℕ). entryOf (elementAt (c .before .before .before .before .before .before .before .before .before .before .before .before .args .image .now) x)) (c .before .before .before .before .before .before .before .before .before .before .slot-place .ensures .0) ∙ sym (entry-row _ _ _ (c .before .before .before .before .before .before .before .before .before .before .before .before .pre .0) (c .before .before .before .before .before .before .before .before .before .before .before .before .pre .1) (c .before .before .before .before .before .before .before .before .before .before .before .before .pre .2))) (c .before .before .before .before .before .if1 .taken) (sym (c .before .before .before .new-first .ensures) ∙ c .before .before .if2 .taken) _ (c .parts-right .ensures ∙ parts-mapped _ _ (c .before .before .before .before .before .before .before .before .before .before .before .before .pre .3) _ _ ∙ ap (partsRight (diskOf (c .before .before .before .before .before .before .before .before .before .before .before .before .args .image .now)) (c .before .before .before .before .before .before .before .before .before .before .before .before .args .k)) (c .before .blocks-of .ensures .0))
+
+returns-2 : tie.Need-returns-2
+returns-2 c = entry-name-wrong _ _ (c .before .before .before .before .before .before .before .read-entry .result) (c .before .before .before .before .before .before .before .read-entry .ensures ∙ ap (λ (x : ℕ). entryOf (elementAt (c .before .before .before .before .before .before .before .before .before .before .args .image .now) x)) (c .before .before .before .before .before .before .before .before .slot-place .ensures .0) ∙ sym (entry-row _ _ _ (c .before .before .before .before .before .before .before .before .before .before .pre .0) (c .before .before .before .before .before .before .before .before .before .before .pre .1) (c .before .before .before .before .before .before .before .before .before .before .pre .2))) (c .before .before .before .if1 .taken) (sym (c .before .new-first .ensures) ∙ c .if2 .left)
+
+returns-3 : tie.Need-returns-3
+returns-3 c = entry-sizes-wrong _ _ (c .before .before .before .before .read-entry .result) (c .before .before .before .before .read-entry .ensures ∙ ap (λ (x : ℕ). entryOf (elementAt (c .before .before .before .before .before .before .before .args .image .now) x)) (c .before .before .before .before .before .slot-place .ensures .0) ∙ sym (entry-row _ _ _ (c .before .before .before .before .before .before .before .pre .0) (c .before .before .before .before .before .before .before .pre .1) (c .before .before .before .before .before .before .before .pre .2))) (c .if1 .left)
+
+pub entry-right-spec : {M : Type 1} → statement M
+entry-right-spec =
+    tie.close
+    (tie.spec
+    slot-place-requires
+    read-entry-requires
+    cast-length
+    cast-named
+    slice-aggregate-new-first
+    new-first-requires
+    blocks-of-requires
+    parts-right-requires
+    returns
+    returns-2
+    returns-3)

@@ -1,0 +1,67 @@
+-- `part_count` meets its contract: n of the records below b are the part.
+-- Assumes nothing.
+use mathlib.Core.Path.{_≡_, refl, sym, ap, _∙_}
+use mathlib.Core.Logic.{⊎-elim}
+use Prim.Native.Nat.{ℕ, _-_, _≤_}
+use native.Mathlib.Omega.{arith}
+use borrow.Author.Needs.{needs}
+use Rattle.laws.specs.Count.{count}
+use Rattle.files.specs.Map.{isPart}
+use Rattle.files.specs.Laws.Loaded.{recordIn}
+use Rattle.files.specs.declared.MapRecord.{MapRecord}
+use Rattle.files.specs.Laws.Loops.{counted-yes, counted-no}
+use Rattle.files.proofs.checking.part_count.Statement.{statement}
+use Rattle.files.proofs.checking.part_count.Tie as tie
+
+abbrev Inv-loop : tie.InvT-loop
+Inv-loop map f s n₀ b₀ n b = (b ≤ 480) × (n ≤ b) × (n ≡ count b (λ (j : ℕ). isPart f s (recordIn map j)))
+
+abbrev μ-loop : tie.MeasureT-loop
+μ-loop map f s n₀ b₀ n b = 480 - b
+
+loop-holds : tie.Need-loop-holds Inv-loop μ-loop
+unfolding count
+loop-holds c = (omega arith, omega arith, refl)
+
+map-record-requires : tie.Need-map-record-requires Inv-loop μ-loop
+map-record-requires c κs = search needs
+
+is-part-requires : tie.Need-is-part-requires Inv-loop μ-loop
+is-part-requires c κs = search needs
+
+add-n : tie.Need-add-n Inv-loop μ-loop
+add-n c = search needs
+
+add-b : tie.Need-add-b Inv-loop μ-loop
+add-b c = search needs
+
+loop-less : tie.Need-loop-less Inv-loop μ-loop
+loop-less c = omega arith
+
+loop-again : tie.Need-loop-again Inv-loop μ-loop
+loop-again c = (
+  omega arith,
+  ⊎-elim (λ w. omega (arith, w .1)) (λ w. omega (arith, w .1)) (c .if1 .came),
+  ⊎-elim
+      (λ w. w .1 ∙ counted-yes (λ (j : ℕ). isPart (c .before .before .before .before .before .args .f) (c .before .before .before .before .before .args .s) (recordIn (c .before .before .before .before .before .args .map .now) j)) _ _ (c .before .before .before .before .loop .inv .2) (sym (ap (λ (m : MapRecord). isPart (c .before .before .before .before .before .args .f) (c .before .before .before .before .before .args .s) (m .«record»)) (c .before .before .map-record .ensures)) ∙ sym (c .before .is-part .ensures) ∙ w .0 .taken))
+      (λ w. w .1 ∙ counted-no (λ (j : ℕ). isPart (c .before .before .before .before .before .args .f) (c .before .before .before .before .before .args .s) (recordIn (c .before .before .before .before .before .args .map .now) j)) _ _ (c .before .before .before .before .loop .inv .2) (sym (ap (λ (m : MapRecord). isPart (c .before .before .before .before .before .args .f) (c .before .before .before .before .before .args .s) (m .«record»)) (c .before .before .map-record .ensures)) ∙ sym (c .before .is-part .ensures) ∙ w .0 .left))
+      (c .if1 .came),
+)
+
+returns : tie.Need-returns Inv-loop μ-loop
+returns c = let e : c .before .loop .b ≡ 480 = omega arith in rw e at (c .before .loop .inv .2)
+
+pub part-count-spec : {M : Type 1} → statement M
+part-count-spec =
+    tie.close
+    (tie.spec
+    Inv-loop
+    μ-loop
+    loop-holds
+    map-record-requires
+    is-part-requires
+    add-n
+    add-b
+    loop-less
+    loop-again
+    returns)

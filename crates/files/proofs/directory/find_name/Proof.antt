@@ -1,0 +1,62 @@
+-- `find_name` meets its contract: no slot below k is held and has the name.
+-- Assumes nothing.
+use mathlib.Core.Path.{_≡_, sym, _∙_}
+use mathlib.Core.Bool.{false, _&&_}
+use Prim.Native.Nat.{ℕ, _-_, _≤_, _<_}
+use native.Mathlib.Omega.{arith}
+use borrow.Author.Needs.{needs}
+use borrow.Author.Count.{below-none, below-more}
+use Rattle.files.specs.Disk.{diskOf}
+use Rattle.files.specs.Laws.Slots.{found-at, found-none}
+use Rattle.files.specs.Directory.{nameEq, held, slotName}
+use Rattle.files.proofs.directory.find_name.Statement.{statement}
+use Rattle.files.proofs.directory.find_name.Tie as tie
+
+abbrev Inv-loop : tie.InvT-loop
+Inv-loop image name dir end k₀ k = (k ≤ end) × ((j : ℕ) → j < k → (held (diskOf image) j && nameEq (slotName (diskOf image) j) name) ≡ false)
+
+abbrev μ-loop : tie.MeasureT-loop
+μ-loop image name dir end k₀ k = end - k
+
+load-dir-requires : tie.Need-load-dir-requires Inv-loop μ-loop
+load-dir-requires c κs = search needs
+
+dir-end-requires : tie.Need-dir-end-requires Inv-loop μ-loop
+dir-end-requires c κs = search needs
+
+loop-holds : tie.Need-loop-holds Inv-loop μ-loop
+loop-holds c = (omega arith, below-none _)
+
+held-so-requires : tie.Need-held-so-requires Inv-loop μ-loop
+held-so-requires c κs = search needs
+
+returns : tie.Need-returns Inv-loop μ-loop
+returns c = found-at _ _ (c .before .before .before .before .before .dir-end .ensures .0) _ _ (omega arith) (c .before .before .before .before .loop .inv .1) (sym (c .before .held-so .ensures) ∙ c .if1 .taken)
+
+add-k : tie.Need-add-k Inv-loop μ-loop
+add-k c = search needs
+
+loop-less : tie.Need-loop-less Inv-loop μ-loop
+loop-less c = omega arith
+
+loop-again : tie.Need-loop-again Inv-loop μ-loop
+loop-again c = (omega arith, below-more _ _ (c .before .before .before .before .loop .inv .1) (sym (c .before .held-so .ensures) ∙ c .if1 .left))
+
+returns-2 : tie.Need-returns-2 Inv-loop μ-loop
+returns-2 c = found-none _ _ (c .before .before .dir-end .ensures .0) _ (λ j h. c .before .loop .inv .1 j (omega arith))
+
+pub find-name-spec : {M : Type 1} → statement M
+find-name-spec =
+    tie.close
+    (tie.spec
+    Inv-loop
+    μ-loop
+    load-dir-requires
+    dir-end-requires
+    loop-holds
+    held-so-requires
+    returns
+    add-k
+    loop-less
+    loop-again
+    returns-2)

@@ -1,0 +1,71 @@
+-- `named_so` meets its contract: the first i bytes are equal.
+-- Assumes nothing.
+use mathlib.Core.Path.{_≡_, sym, _∙_}
+use Prim.Native.Nat.{ℕ, _+_, _-_, _≤_, _<_}
+use native.Mathlib.Omega.{arith}
+use lib.ListN.{length, getD}
+use borrow.Author.Needs.{needs}
+use borrow.Author.Count.{below-none, below-more}
+use Rattle.laws.specs.Tab.{elementAt}
+use Rattle.files.specs.Laws.Slots.{name-other-length, name-other, name-equal}
+use Rattle.files.proofs.directory.named_so.Statement.{statement}
+use Rattle.files.proofs.directory.named_so.Tie as tie
+
+abbrev Inv-loop : tie.InvT-loop
+Inv-loop image at name i₀ i-end i = (i ≤ length name) × ((j : ℕ) → j < i → elementAt image (at + 16) j ≡ getD name j 0)
+
+abbrev μ-loop : tie.MeasureT-loop
+μ-loop image at name i₀ i-end i = length name - i
+
+name-length-requires : tie.Need-name-length-requires Inv-loop μ-loop
+name-length-requires c κs = search needs
+
+returns : tie.Need-returns Inv-loop μ-loop
+returns c = name-other-length _ _ _ (λ e. c .if1 .taken (c .before .name-length .ensures ∙ e))
+
+loop-holds : tie.Need-loop-holds Inv-loop μ-loop
+loop-holds c = (omega arith, below-none _)
+
+add-byte : tie.Need-add-byte Inv-loop μ-loop
+add-byte c = search needs
+
+byte-requires : tie.Need-byte-requires Inv-loop μ-loop
+byte-requires c κs = search needs
+
+shared-slice-read-if2 : tie.Need-shared-slice-read-if2 Inv-loop μ-loop
+shared-slice-read-if2 c = search needs
+
+returns-2 : tie.Need-returns-2 Inv-loop μ-loop
+unfolding elementAt
+returns-2 c = name-other (c .before .before .before .before .before .before .before .before .before .args .image .now) (c .before .before .before .before .before .before .before .before .before .args .at) (c .before .before .before .before .before .before .before .before .before .args .name .now) (sym (c .before .before .before .before .before .before .name-length .ensures) ∙ c .before .before .before .before .before .if1 .left) (c .before .before .before .before .loop .i) (omega arith) (λ e. c .if2 .taken (c .before .before .byte .ensures ∙ e))
+
+add-i : tie.Need-add-i Inv-loop μ-loop
+add-i c = search needs
+
+loop-less : tie.Need-loop-less Inv-loop μ-loop
+loop-less c = omega arith
+
+loop-again : tie.Need-loop-again Inv-loop μ-loop
+unfolding elementAt
+loop-again c = (omega arith, below-more _ _ (c .before .before .before .before .loop .inv .1) (sym (c .before .before .byte .ensures) ∙ c .if2 .left))
+
+returns-3 : tie.Need-returns-3 Inv-loop μ-loop
+returns-3 c = name-equal _ _ _ (sym (c .before .before .before .name-length .ensures) ∙ c .before .before .if1 .left) (λ k h. c .before .loop .inv .1 k (omega arith))
+
+pub named-so-spec : {M : Type 1} → statement M
+named-so-spec =
+    tie.close
+    (tie.spec
+    Inv-loop
+    μ-loop
+    name-length-requires
+    returns
+    loop-holds
+    add-byte
+    byte-requires
+    shared-slice-read-if2
+    returns-2
+    add-i
+    loop-less
+    loop-again
+    returns-3)

@@ -1,0 +1,43 @@
+-- `header_bytes` meets its contract.
+-- Assumes nothing.
+use mathlib.Core.Path.{refl}
+use Prim.Native.Nat.{_-_}
+use borrow.Author.Needs.{needs}
+use Rattle.laws.specs.Tab.{tab}
+use Rattle.files.specs.Laws.Fresh.{header-row}
+use Rattle.files.proofs.formatting.header_bytes.Statement.{statement}
+use Rattle.files.proofs.formatting.header_bytes.Tie as tie
+
+slice-aggregate-put-title : tie.Need-slice-aggregate-put-title
+slice-aggregate-put-title c = search needs
+
+put-title-requires : tie.Need-put-title-requires
+put-title-requires c κs = search needs
+
+slice-aggregate-put-sizes : tie.Need-slice-aggregate-put-sizes
+slice-aggregate-put-sizes c = search needs
+
+put-sizes-requires : tie.Need-put-sizes-requires
+put-sizes-requires c κs = search needs
+
+slice-aggregate-put-start : tie.Need-slice-aggregate-put-start
+slice-aggregate-put-start c = search needs
+
+put-start-requires : tie.Need-put-start-requires
+put-start-requires c κs = search needs
+
+returns : tie.Need-returns
+unfolding tab
+returns c = header-row _ _ _ _ _ _ refl (c .before .before .before .before .before .before .before .put-title .ensures) (c .before .before .before .before .put-sizes .ensures) (c .before .put-start .ensures)
+
+pub header-bytes-spec : {M : Type 1} → statement M
+header-bytes-spec =
+    tie.close
+    (tie.spec
+    slice-aggregate-put-title
+    put-title-requires
+    slice-aggregate-put-sizes
+    put-sizes-requires
+    slice-aggregate-put-start
+    put-start-requires
+    returns)

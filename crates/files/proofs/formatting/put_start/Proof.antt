@@ -1,0 +1,66 @@
+-- `put_start` meets its contract.
+-- Assumes nothing.
+use Prim.Native.Nat.{_-_}
+use borrow.Author.Needs.{needs}
+use Rattle.sectors.specs.Geometry.{sidePlace, backward}
+use Rattle.files.specs.Laws.Fresh.{started-is}
+use Rattle.files.proofs.formatting.put_start.Statement.{statement}
+use Rattle.files.proofs.formatting.put_start.Tie as tie
+
+slice-aggregate-copy-into : tie.Need-slice-aggregate-copy-into
+slice-aggregate-copy-into c = search needs
+
+copy-into-requires : tie.Need-copy-into-requires
+copy-into-requires c κs = search needs
+
+slice-aggregate-copy-into-2 : tie.Need-slice-aggregate-copy-into-2
+slice-aggregate-copy-into-2 c = search needs
+
+copy-into-requires-2 : tie.Need-copy-into-requires-2
+copy-into-requires-2 c κs = search needs
+
+put-high4-requires : tie.Need-put-high4-requires
+put-high4-requires c κs = search needs
+
+sub-put-high2 : tie.Need-sub-put-high2
+sub-put-high2 c = search needs
+
+mul-put-high2 : tie.Need-mul-put-high2
+mul-put-high2 c = search needs
+
+cast-put-high2 : tie.Need-cast-put-high2
+cast-put-high2 c = search needs
+
+put-high2-requires : tie.Need-put-high2-requires
+put-high2-requires c κs = search needs
+
+put-high2-requires-2 : tie.Need-put-high2-requires-2
+put-high2-requires-2 c κs = search needs
+
+put-high2-requires-3 : tie.Need-put-high2-requires-3
+put-high2-requires-3 c κs = search needs
+
+same-length : tie.Need-same-length
+same-length c = search needs
+
+returns : tie.Need-returns
+unfolding sidePlace backward
+returns c = started-is _ _ _ _ _ _ _ (c .before .before .before .before .before .before .before .before .before .before .before .before .before .before .before .before .before .before .before .before .before .before .before .copy-into .ensures) (c .before .before .before .before .before .before .before .before .before .before .before .before .before .before .before .before .before .before .copy-into2 .ensures) (c .before .before .before .before .before .before .before .before .before .before .before .before .before .before .put-high4 .ensures) (c .before .before .before .before .before .before .before .before .before .before .put-high2 .ensures) (c .before .before .before .before .before .before .put-high22 .ensures) (c .before .before .put-high23 .ensures)
+
+pub put-start-spec : {M : Type 1} → statement M
+put-start-spec =
+    tie.close
+    (tie.spec
+    slice-aggregate-copy-into
+    copy-into-requires
+    slice-aggregate-copy-into-2
+    copy-into-requires-2
+    put-high4-requires
+    sub-put-high2
+    mul-put-high2
+    cast-put-high2
+    put-high2-requires
+    put-high2-requires-2
+    put-high2-requires-3
+    same-length
+    returns)

@@ -1,0 +1,58 @@
+-- `write_map` meets its contract: the records below b are written.
+-- Assumes nothing.
+use mathlib.Core.Path.{_≡_, sym, _∙_, subst}
+use Prim.Native.Nat.{_-_, _≤_}
+use native.Mathlib.Omega.{arith}
+use lib.ListN.{length}
+use borrow.Author.Needs.{needs}
+use Rattle.files.specs.Disk.{diskOf, imageOf}
+use Rattle.files.specs.Calls.{freshOwner}
+use Rattle.files.specs.Laws.Steps.{Packs}
+use Rattle.files.specs.Laws.Fresh.{mapped, mapped-none, mapped-more, fresh-packs}
+use Rattle.files.proofs.formatting.write_map.Statement.{statement}
+use Rattle.files.proofs.formatting.write_map.Tie as tie
+
+abbrev Inv-loop : tie.InvT-loop
+Inv-loop image₀ b₀ image b = (b ≤ 480) × (length image ≡ 737280) × (image ≡ imageOf (mapped (diskOf image₀) freshOwner b))
+
+abbrev μ-loop : tie.MeasureT-loop
+μ-loop image₀ b₀ image b = 480 - b
+
+loop-holds : tie.Need-loop-holds Inv-loop μ-loop
+loop-holds c = (omega arith, c .before .pre, mapped-none _ _ (c .before .pre))
+
+fresh-record-requires : tie.Need-fresh-record-requires Inv-loop μ-loop
+fresh-record-requires c κs = search needs
+
+set-record-requires : tie.Need-set-record-requires Inv-loop μ-loop
+set-record-requires c κs = (c .before .before .before .loop .inv .1, omega arith, subst Packs (sym (c .fresh-record .ensures)) (fresh-packs _))
+
+add-b : tie.Need-add-b Inv-loop μ-loop
+add-b c = search needs
+
+loop-less : tie.Need-loop-less Inv-loop μ-loop
+loop-less c = search needs
+
+loop-again : tie.Need-loop-again Inv-loop μ-loop
+loop-again c = (omega arith, c .before .before .set-record .kept .0 ∙ c .before .before .before .before .before .before .loop .inv .1, mapped-more _ _ _ _ _ _ (c .before .before .before .before .before .before .loop .inv .2) (c .before .before .set-record .ensures) (c .before .before .before .fresh-record .ensures))
+
+same-length : tie.Need-same-length Inv-loop μ-loop
+same-length c = search needs
+
+returns : tie.Need-returns Inv-loop μ-loop
+returns c = let e : c .before .loop .b ≡ 480 = omega arith in rw e at (c .before .loop .inv .2)
+
+pub write-map-spec : {M : Type 1} → statement M
+write-map-spec =
+    tie.close
+    (tie.spec
+    Inv-loop
+    μ-loop
+    loop-holds
+    fresh-record-requires
+    set-record-requires
+    add-b
+    loop-less
+    loop-again
+    same-length
+    returns)

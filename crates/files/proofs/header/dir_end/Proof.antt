@@ -1,0 +1,17 @@
+-- `dir_end` meets its contract.
+-- Assumes nothing.
+use native.Mathlib.Omega.{arith}
+use borrow.Author.Needs.{needs}
+use Rattle.files.specs.Directory.{dirEnd}
+use Rattle.files.proofs.header.dir_end.Statement.{statement}
+use Rattle.files.proofs.header.dir_end.Tie as tie
+
+dir-bytes-requires : tie.Need-dir-bytes-requires
+dir-bytes-requires c κs = search needs
+
+returns : tie.Need-returns
+unfolding dirEnd
+returns c = (rw (c .dir-bytes .ensures .0), omega arith)
+
+pub dir-end-spec : {M : Type 1} → statement M
+dir-end-spec = tie.close (tie.spec dir-bytes-requires returns)

@@ -1,0 +1,92 @@
+-- `header_fault` meets its contract.
+-- Assumes nothing.
+use mathlib.Core.Path.{sym, _∙_}
+use native.Mathlib.Omega.{arith}
+use borrow.Author.Needs.{needs}
+use Rattle.sectors.specs.Geometry.{sidePlace, backward}
+use Rattle.files.specs.Check.{signature}
+use Rattle.files.specs.Laws.Verdict.{header-faults, bytes-stand}
+use Rattle.files.proofs.header.header_fault.Statement.{statement}
+use Rattle.files.proofs.header.header_fault.Tie as tie
+
+slice-aggregate-stands-at : tie.Need-slice-aggregate-stands-at
+slice-aggregate-stands-at c = search needs
+
+stands-at-requires : tie.Need-stands-at-requires
+stands-at-requires c κs = search needs
+
+wrong-at-requires : tie.Need-wrong-at-requires
+wrong-at-requires c κs = search needs
+
+slice-aggregate-stands-at-2 : tie.Need-slice-aggregate-stands-at-2
+slice-aggregate-stands-at-2 c = search needs
+
+stands-at-requires-2 : tie.Need-stands-at-requires-2
+stands-at-requires-2 c κs = search needs
+
+wrong-at-requires-2 : tie.Need-wrong-at-requires-2
+wrong-at-requires-2 c κs = search needs
+
+word-fault-requires : tie.Need-word-fault-requires
+word-fault-requires c κs = search needs
+
+length-right-requires : tie.Need-length-right-requires
+length-right-requires c κs = search needs
+
+wrong-at-requires-3 : tie.Need-wrong-at-requires-3
+wrong-at-requires-3 c κs = search needs
+
+slice-aggregate-stands-at-3 : tie.Need-slice-aggregate-stands-at-3
+slice-aggregate-stands-at-3 c = search needs
+
+stands-at-requires-3 : tie.Need-stands-at-requires-3
+stands-at-requires-3 c κs = search needs
+
+wrong-at-requires-4 : tie.Need-wrong-at-requires-4
+wrong-at-requires-4 c κs = search needs
+
+or-fault-requires : tie.Need-or-fault-requires
+or-fault-requires c κs = search needs
+
+or-fault-requires-2 : tie.Need-or-fault-requires-2
+or-fault-requires-2 c κs = search needs
+
+or-fault-requires-3 : tie.Need-or-fault-requires-3
+or-fault-requires-3 c κs = search needs
+
+sizes-fault-requires : tie.Need-sizes-fault-requires
+sizes-fault-requires c κs = search needs
+
+or-fault-requires-4 : tie.Need-or-fault-requires-4
+or-fault-requires-4 c κs = search needs
+
+or-fault-requires-5 : tie.Need-or-fault-requires-5
+or-fault-requires-5 c κs = search needs
+
+returns : tie.Need-returns
+unfolding signature sidePlace backward
+returns c = c .or-fault5 .ensures ∙ rw (c .before .or-fault4 .ensures, c .before .before .before .or-fault3 .ensures, c .before .before .before .before .or-fault2 .ensures, c .before .before .before .before .before .or-fault .ensures, c .before .before .before .before .before .before .before .before .before .before .before .before .before .before .before .wrong-at .ensures, c .before .before .before .before .before .before .before .before .before .before .before .before .wrong-at2 .ensures, c .before .before .before .before .before .before .before .before .before .wrong-at3 .ensures, c .before .before .before .before .before .before .wrong-at4 .ensures, c .before .before .before .before .before .before .before .before .before .before .before .word-fault .ensures, c .before .before .before .before .before .before .before .before .before .before .length-right .ensures, c .before .before .sizes-fault .ensures, c .before .before .before .before .before .before .before .before .before .before .before .before .before .before .before .before .stands-at .ensures, c .before .before .before .before .before .before .before .before .before .before .before .before .before .stands-at2 .ensures, c .before .before .before .before .before .before .before .stands-at3 .ensures, bytes-stand _ 58 backward (c .before .before .before .before .before .before .before .before .before .before .before .before .before .before .before .before .before .before .before .pre) (omega arith), bytes-stand _ 40 sidePlace (c .before .before .before .before .before .before .before .before .before .before .before .before .before .before .before .before .before .before .before .pre) (omega arith), bytes-stand _ 0 signature (c .before .before .before .before .before .before .before .before .before .before .before .before .before .before .before .before .before .before .before .pre) (omega arith)) (sym (header-faults _))
+
+pub header-fault-spec : {M : Type 1} → statement M
+header-fault-spec =
+    tie.close
+    (tie.spec
+    slice-aggregate-stands-at
+    stands-at-requires
+    wrong-at-requires
+    slice-aggregate-stands-at-2
+    stands-at-requires-2
+    wrong-at-requires-2
+    word-fault-requires
+    length-right-requires
+    wrong-at-requires-3
+    slice-aggregate-stands-at-3
+    stands-at-requires-3
+    wrong-at-requires-4
+    or-fault-requires
+    or-fault-requires-2
+    or-fault-requires-3
+    sizes-fault-requires
+    or-fault-requires-4
+    or-fault-requires-5
+    returns)

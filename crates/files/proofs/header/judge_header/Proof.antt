@@ -1,0 +1,30 @@
+-- `judge_header` meets its contract.
+-- Assumes nothing.
+use mathlib.Core.Path.{sym, _∙_}
+use borrow.Author.Needs.{needs}
+use Rattle.files.specs.Laws.Verdict.{refused-header, passed-header}
+use Rattle.files.proofs.header.judge_header.Statement.{statement}
+use Rattle.files.proofs.header.judge_header.Tie as tie
+
+header-fault-requires : tie.Need-header-fault-requires
+header-fault-requires c κs = search needs
+
+enum-known-o : tie.Need-enum-known-o
+enum-known-o c = search needs
+
+refused-requires : tie.Need-refused-requires
+refused-requires c κs = search needs
+
+enum-told : tie.Need-enum-told
+enum-told c = search needs
+
+returns : tie.Need-returns
+returns c = rw (c .refused .ensures) (refused-header _ _ (sym (c .before .before .o .given .1) ∙ c .before .before .before .before .header-fault .ensures))
+
+returns-2 : tie.Need-returns-2
+returns-2 c = passed-header _ (sym (c .enum-told .given .1) ∙ c .before .before .header-fault .ensures)
+
+pub judge-header-spec : {M : Type 1} → statement M
+judge-header-spec =
+    tie.close
+    (tie.spec header-fault-requires enum-known-o refused-requires enum-told returns returns-2)

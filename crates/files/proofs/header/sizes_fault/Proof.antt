@@ -1,0 +1,61 @@
+-- `sizes_fault` meets its contract.
+-- Assumes nothing.
+use mathlib.Core.Path.{_∙_}
+use borrow.Author.Needs.{needs}
+use Rattle.files.specs.Laws.Verdict.{sizesFault}
+use Rattle.files.proofs.header.sizes_fault.Statement.{statement}
+use Rattle.files.proofs.header.sizes_fault.Tie as tie
+
+word-fault-requires : tie.Need-word-fault-requires
+word-fault-requires c κs = search needs
+
+word-fault-requires-2 : tie.Need-word-fault-requires-2
+word-fault-requires-2 c κs = search needs
+
+word-fault-requires-3 : tie.Need-word-fault-requires-3
+word-fault-requires-3 c κs = search needs
+
+word-fault-requires-4 : tie.Need-word-fault-requires-4
+word-fault-requires-4 c κs = search needs
+
+word-fault-requires-5 : tie.Need-word-fault-requires-5
+word-fault-requires-5 c κs = search needs
+
+word-fault-requires-6 : tie.Need-word-fault-requires-6
+word-fault-requires-6 c κs = search needs
+
+or-fault-requires : tie.Need-or-fault-requires
+or-fault-requires c κs = search needs
+
+or-fault-requires-2 : tie.Need-or-fault-requires-2
+or-fault-requires-2 c κs = search needs
+
+or-fault-requires-3 : tie.Need-or-fault-requires-3
+or-fault-requires-3 c κs = search needs
+
+or-fault-requires-4 : tie.Need-or-fault-requires-4
+or-fault-requires-4 c κs = search needs
+
+or-fault-requires-5 : tie.Need-or-fault-requires-5
+or-fault-requires-5 c κs = search needs
+
+returns : tie.Need-returns
+unfolding sizesFault
+returns c = c .or-fault5 .ensures ∙ rw (c .before .or-fault4 .ensures, c .before .before .or-fault3 .ensures, c .before .before .before .or-fault2 .ensures, c .before .before .before .before .or-fault .ensures, c .before .before .before .before .before .before .before .before .before .before .word-fault .ensures, c .before .before .before .before .before .before .before .before .before .word-fault2 .ensures, c .before .before .before .before .before .before .before .before .word-fault3 .ensures, c .before .before .before .before .before .before .before .word-fault4 .ensures, c .before .before .before .before .before .before .word-fault5 .ensures, c .before .before .before .before .before .word-fault6 .ensures)
+
+pub sizes-fault-spec : {M : Type 1} → statement M
+sizes-fault-spec =
+    tie.close
+    (tie.spec
+    word-fault-requires
+    word-fault-requires-2
+    word-fault-requires-3
+    word-fault-requires-4
+    word-fault-requires-5
+    word-fault-requires-6
+    or-fault-requires
+    or-fault-requires-2
+    or-fault-requires-3
+    or-fault-requires-4
+    or-fault-requires-5
+    returns)

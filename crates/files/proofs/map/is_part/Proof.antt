@@ -1,0 +1,55 @@
+-- `is_part` meets its contract.
+-- Assumes nothing.
+use borrow.Author.Needs.{needs}
+use Rattle.files.specs.Map.{isPart}
+use Rattle.files.proofs.map.is_part.Statement.{statement}
+use Rattle.files.proofs.map.is_part.Tie as tie
+
+enum-told : tie.Need-enum-told
+enum-told c = search needs
+
+enum-told-2 : tie.Need-enum-told-2
+enum-told-2 c = search needs
+
+enum-known-r : tie.Need-enum-known-r
+enum-known-r c = search needs
+
+cast-result : tie.Need-cast-result
+cast-result c = search needs
+
+cast-result-2 : tie.Need-cast-result-2
+cast-result-2 c = search needs
+
+enum-told-3 : tie.Need-enum-told-3
+enum-told-3 c = search needs
+
+returns : tie.Need-returns
+unfolding isPart
+returns c = rw (c .enum-told .given .1)
+
+returns-2 : tie.Need-returns-2
+unfolding isPart
+returns-2 c = rw (c .enum-told2 .given .1)
+
+returns-3 : tie.Need-returns-3
+unfolding isPart
+returns-3 c = rw (c .before .r .given .1)
+
+returns-4 : tie.Need-returns-4
+unfolding isPart
+returns-4 c = rw (c .enum-told3 .given .1)
+
+pub is-part-spec : {M : Type 1} → statement M
+is-part-spec =
+    tie.close
+    (tie.spec
+    enum-told
+    enum-told-2
+    enum-known-r
+    cast-result
+    cast-result-2
+    enum-told-3
+    returns
+    returns-2
+    returns-3
+    returns-4)

@@ -1,0 +1,59 @@
+-- `map_fault` meets its contract: no record below b passes.
+-- Assumes nothing.
+use mathlib.Core.Path.{_≡_, sym, ap, _∙_}
+use mathlib.Core.Bool.{false}
+use Prim.Native.Nat.{ℕ, _-_, _≤_, _<_}
+use native.Mathlib.Omega.{arith}
+use borrow.Author.Needs.{needs}
+use borrow.Author.Count.{below-none, below-more}
+use Rattle.laws.specs.Lowest.{lowest-some, lowest-none}
+use Rattle.files.specs.declared.MapRecord.{MapRecord}
+use Rattle.files.specs.Check.{recordFault}
+use Rattle.files.specs.Laws.Loaded.{recordIn}
+use Rattle.files.proofs.map.map_fault.Statement.{statement}
+use Rattle.files.proofs.map.map_fault.Tie as tie
+
+abbrev Inv-loop : tie.InvT-loop
+Inv-loop map b₀ b = (b ≤ 480) × ((j : ℕ) → j < b → recordFault j (recordIn map j) ≡ false)
+
+abbrev μ-loop : tie.MeasureT-loop
+μ-loop map b₀ b = 480 - b
+
+loop-holds : tie.Need-loop-holds Inv-loop μ-loop
+loop-holds c = (omega arith, below-none _)
+
+map-record-requires : tie.Need-map-record-requires Inv-loop μ-loop
+map-record-requires c κs = search needs
+
+record-fault-requires : tie.Need-record-fault-requires Inv-loop μ-loop
+record-fault-requires c κs = search needs
+
+returns : tie.Need-returns Inv-loop μ-loop
+returns c = (sym (lowest-some _ _ _ (omega arith) (c .before .before .before .before .loop .inv .1) (sym (ap (λ (m : MapRecord). recordFault (m .block .0) (m .«record»)) (c .before .before .map-record .ensures)) ∙ sym (c .before .record-fault .ensures) ∙ c .if1 .taken)), omega arith)
+
+add-b : tie.Need-add-b Inv-loop μ-loop
+add-b c = search needs
+
+loop-less : tie.Need-loop-less Inv-loop μ-loop
+loop-less c = omega arith
+
+loop-again : tie.Need-loop-again Inv-loop μ-loop
+loop-again c = (omega arith, below-more _ _ (c .before .before .before .before .loop .inv .1) (sym (ap (λ (m : MapRecord). recordFault (m .block .0) (m .«record»)) (c .before .before .map-record .ensures)) ∙ sym (c .before .record-fault .ensures) ∙ c .if1 .left))
+
+returns-2 : tie.Need-returns-2 Inv-loop μ-loop
+returns-2 c = (sym (lowest-none _ _ (λ k h. c .before .loop .inv .1 k (omega arith))), omega arith)
+
+pub map-fault-spec : {M : Type 1} → statement M
+map-fault-spec =
+    tie.close
+    (tie.spec
+    Inv-loop
+    μ-loop
+    loop-holds
+    map-record-requires
+    record-fault-requires
+    returns
+    add-b
+    loop-less
+    loop-again
+    returns-2)

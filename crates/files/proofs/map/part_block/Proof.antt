@@ -1,0 +1,59 @@
+-- `part_block` meets its contract: no record below b passes.
+-- Assumes nothing.
+use mathlib.Core.Path.{_≡_, sym, ap, _∙_}
+use mathlib.Core.Bool.{false}
+use Prim.Native.Nat.{ℕ, _-_, _≤_, _<_}
+use native.Mathlib.Omega.{arith}
+use borrow.Author.Needs.{needs}
+use borrow.Author.Count.{below-none, below-more}
+use Rattle.laws.specs.Lowest.{lowest-some, lowest-none}
+use Rattle.files.specs.declared.MapRecord.{MapRecord}
+use Rattle.files.specs.Map.{isPart}
+use Rattle.files.specs.Laws.Loaded.{recordIn}
+use Rattle.files.proofs.map.part_block.Statement.{statement}
+use Rattle.files.proofs.map.part_block.Tie as tie
+
+abbrev Inv-loop : tie.InvT-loop
+Inv-loop map f s b₀ b = (b ≤ 480) × ((j : ℕ) → j < b → isPart f s (recordIn map j) ≡ false)
+
+abbrev μ-loop : tie.MeasureT-loop
+μ-loop map f s b₀ b = 480 - b
+
+loop-holds : tie.Need-loop-holds Inv-loop μ-loop
+loop-holds c = (omega arith, below-none _)
+
+map-record-requires : tie.Need-map-record-requires Inv-loop μ-loop
+map-record-requires c κs = search needs
+
+is-part-requires : tie.Need-is-part-requires Inv-loop μ-loop
+is-part-requires c κs = search needs
+
+returns : tie.Need-returns Inv-loop μ-loop
+returns c = (sym (lowest-some _ _ _ (omega arith) (c .before .before .before .before .loop .inv .1) (sym (ap (λ (m : MapRecord). isPart (c .before .before .before .before .before .args .f) (c .before .before .before .before .before .args .s) (m .«record»)) (c .before .before .map-record .ensures)) ∙ sym (c .before .is-part .ensures) ∙ c .if1 .taken)), omega arith)
+
+add-b : tie.Need-add-b Inv-loop μ-loop
+add-b c = search needs
+
+loop-less : tie.Need-loop-less Inv-loop μ-loop
+loop-less c = omega arith
+
+loop-again : tie.Need-loop-again Inv-loop μ-loop
+loop-again c = (omega arith, below-more _ _ (c .before .before .before .before .loop .inv .1) (sym (ap (λ (m : MapRecord). isPart (c .before .before .before .before .before .args .f) (c .before .before .before .before .before .args .s) (m .«record»)) (c .before .before .map-record .ensures)) ∙ sym (c .before .is-part .ensures) ∙ c .if1 .left))
+
+returns-2 : tie.Need-returns-2 Inv-loop μ-loop
+returns-2 c = (sym (lowest-none _ _ (λ k h. c .before .loop .inv .1 k (omega arith))), omega arith)
+
+pub part-block-spec : {M : Type 1} → statement M
+part-block-spec =
+    tie.close
+    (tie.spec
+    Inv-loop
+    μ-loop
+    loop-holds
+    map-record-requires
+    is-part-requires
+    returns
+    add-b
+    loop-less
+    loop-again
+    returns-2)

@@ -1,0 +1,32 @@
+-- `record_of` meets its contract.
+-- Assumes nothing.
+use borrow.Author.Needs.{needs}
+use borrow.Author.Tests.{lt-ltb, le-ltb, ne-eqb}
+use Rattle.files.specs.Laws.Loaded.{recordOf}
+use Rattle.files.proofs.map.record_of.Statement.{statement}
+use Rattle.files.proofs.map.record_of.Tie as tie
+
+cast-t4 : tie.Need-cast-t4
+cast-t4 c = search needs
+
+cast-t6 : tie.Need-cast-t6
+cast-t6 c = search needs
+
+returns : tie.Need-returns
+unfolding recordOf
+returns c = simp (lt-ltb _ _ (c .if1 .taken))
+
+returns-2 : tie.Need-returns-2
+unfolding recordOf
+returns-2 c = simp (c .if2 .taken)
+
+returns-3 : tie.Need-returns-3
+unfolding recordOf
+returns-3 c = simp (c .if3 .taken)
+
+returns-4 : tie.Need-returns-4
+unfolding recordOf
+returns-4 c = simp (le-ltb _ _ (c .before .before .if1 .left), ne-eqb _ _ (c .before .if2 .left), ne-eqb _ _ (c .if3 .left))
+
+pub record-of-spec : {M : Type 1} → statement M
+record-of-spec = tie.close (tie.spec cast-t4 cast-t6 returns returns-2 returns-3 returns-4)

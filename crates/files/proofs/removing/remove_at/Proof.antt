@@ -1,0 +1,27 @@
+-- `remove_at` meets its contract.
+-- Assumes nothing.
+use Prim.Native.Nat.{_-_}
+use borrow.Author.Needs.{needs}
+use Rattle.files.specs.Laws.Changed.{remove-written}
+use Rattle.files.proofs.removing.remove_at.Statement.{statement}
+use Rattle.files.proofs.removing.remove_at.Tie as tie
+
+free-blocks-requires : tie.Need-free-blocks-requires
+free-blocks-requires c κs = search needs
+
+zero-slot-requires : tie.Need-zero-slot-requires
+zero-slot-requires c κs = search needs
+
+settle-requires : tie.Need-settle-requires
+settle-requires c κs = search needs
+
+same-length : tie.Need-same-length
+same-length c = search needs
+
+returns : tie.Need-returns
+returns c = remove-written _ _ _ _ _ (c .before .before .before .before .before .before .before .before .before .before .free-blocks .ensures) (c .before .before .before .before .before .before .zero-slot .ensures) (c .before .before .settle .ensures)
+
+pub remove-at-spec : {M : Type 1} → statement M
+remove-at-spec =
+    tie.close
+    (tie.spec free-blocks-requires zero-slot-requires settle-requires same-length returns)

@@ -1,0 +1,58 @@
+-- `entry_bytes` meets its contract: the fields are written in the order of the definition.
+-- Assumes nothing.
+use mathlib.Core.Path.{_≡_, refl}
+use lib.ListN.{length}
+use borrow.Author.Needs.{needs}
+use Rattle.laws.specs.Tab.{tab}
+use Rattle.files.specs.Laws.Steps.{entry-row}
+use Rattle.files.proofs.steps.entry_bytes.Statement.{statement}
+use Rattle.files.proofs.steps.entry_bytes.Tie as tie
+
+name-long : (c : tie.Start) → length (c .args .e .name) ≡ 36
+name-long c = search needs
+
+slice-aggregate-put-high4 : tie.Need-slice-aggregate-put-high4
+slice-aggregate-put-high4 c = search needs
+
+put-high4-requires : tie.Need-put-high4-requires
+put-high4-requires c κs = search needs
+
+slice-aggregate-put-high2 : tie.Need-slice-aggregate-put-high2
+slice-aggregate-put-high2 c = search needs
+
+put-high2-requires : tie.Need-put-high2-requires
+put-high2-requires c κs = search needs
+
+slice-aggregate-copy-into : tie.Need-slice-aggregate-copy-into
+slice-aggregate-copy-into c = search needs
+
+slice-aggregate-copy-into-2 : tie.Need-slice-aggregate-copy-into-2
+slice-aggregate-copy-into-2 c = search needs
+
+copy-into-requires : tie.Need-copy-into-requires
+copy-into-requires c κs = search needs
+
+slice-aggregate-put-high4-2 : tie.Need-slice-aggregate-put-high4-2
+slice-aggregate-put-high4-2 c = search needs
+
+put-high4-requires-2 : tie.Need-put-high4-requires-2
+put-high4-requires-2 c κs = search needs
+
+returns : tie.Need-returns
+unfolding tab
+returns c = entry-row (c .before .before .before .before .before .before .before .before .before .before .before .before .before .before .args .e) (name-long (c .before .before .before .before .before .before .before .before .before .before .before .before .before .before)) _ _ _ _ _ refl (c .before .before .before .before .before .before .before .before .before .before .before .put-high4 .ensures) (c .before .before .before .before .before .before .before .before .put-high2 .ensures) (c .before .before .before .before .copy-into .ensures) (c .before .put-high42 .ensures)
+
+pub entry-bytes-spec : {M : Type 1} → statement M
+entry-bytes-spec =
+    tie.close
+    (tie.spec
+    slice-aggregate-put-high4
+    put-high4-requires
+    slice-aggregate-put-high2
+    put-high2-requires
+    slice-aggregate-copy-into
+    slice-aggregate-copy-into-2
+    copy-into-requires
+    slice-aggregate-put-high4-2
+    put-high4-requires-2
+    returns)

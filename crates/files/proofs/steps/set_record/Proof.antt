@@ -1,0 +1,43 @@
+-- `set_record` meets its contract.
+-- Assumes nothing.
+use mathlib.Core.Path.{_∙_}
+use borrow.Author.Needs.{needs}
+use Rattle.files.specs.Laws.Stored.{patched-row}
+use Rattle.files.specs.Map.{encode}
+use Rattle.files.specs.Written.{setRecord}
+use Rattle.files.proofs.steps.set_record.Statement.{statement}
+use Rattle.files.proofs.steps.set_record.Tie as tie
+
+record-bytes-requires : tie.Need-record-bytes-requires
+record-bytes-requires c κs = search needs
+
+mul-put-bytes : tie.Need-mul-put-bytes
+mul-put-bytes c = search needs
+
+add-put-bytes : tie.Need-add-put-bytes
+add-put-bytes c = search needs
+
+slice-aggregate-put-bytes : tie.Need-slice-aggregate-put-bytes
+slice-aggregate-put-bytes c = search needs
+
+put-bytes-requires : tie.Need-put-bytes-requires
+put-bytes-requires c κs = search needs
+
+same-length : tie.Need-same-length
+same-length c = search needs
+
+returns : tie.Need-returns
+unfolding setRecord
+returns c = c .before .before .put-bytes .ensures ∙ patched-row _ _ _ _ 3 (encode (c .before .before .before .before .before .before .before .args .r)) (c .before .before .before .before .before .record-bytes .ensures)
+
+pub set-record-spec : {M : Type 1} → statement M
+set-record-spec =
+    tie.close
+    (tie.spec
+    record-bytes-requires
+    mul-put-bytes
+    add-put-bytes
+    slice-aggregate-put-bytes
+    put-bytes-requires
+    same-length
+    returns)

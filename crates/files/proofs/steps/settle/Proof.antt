@@ -1,0 +1,22 @@
+-- `settle` meets its contract.
+-- Assumes nothing.
+use Prim.Native.Nat.{_-_}
+use borrow.Author.Needs.{needs}
+use Rattle.files.specs.Laws.Given.{settled-written}
+use Rattle.files.proofs.steps.settle.Statement.{statement}
+use Rattle.files.proofs.steps.settle.Tie as tie
+
+set-free-requires : tie.Need-set-free-requires
+set-free-requires c κs = search needs
+
+step-update-requires : tie.Need-step-update-requires
+step-update-requires c κs = search needs
+
+same-length : tie.Need-same-length
+same-length c = search needs
+
+returns : tie.Need-returns
+returns c = settled-written _ _ _ (c .before .before .before .before .before .before .set-free .ensures) (c .before .before .step-update .ensures)
+
+pub settle-spec : {M : Type 1} → statement M
+settle-spec = tie.close (tie.spec set-free-requires step-update-requires same-length returns)

@@ -1,0 +1,60 @@
+-- `put_bytes` meets its contract: the first i bytes are written.
+-- Assumes nothing.
+use mathlib.Core.Path.{_≡_, refl, _∙_}
+use Prim.Native.Nat.{ℕ, _-_, _≤_}
+use native.Mathlib.Omega.{arith}
+use lib.ListN.{length, getD}
+use borrow.Author.Needs.{needs}
+use Rattle.files.specs.Laws.Stored.{patched, patched-none, patched-more}
+use Rattle.files.specs.Disk.{diskOf, imageOf}
+use Rattle.files.proofs.store.put_bytes.Statement.{statement}
+use Rattle.files.proofs.store.put_bytes.Tie as tie
+
+abbrev Inv-loop : tie.InvT-loop
+Inv-loop image₀ b o src i₀ i-end image i = (i ≤ length src) × (length image ≡ 737280) × (image ≡ imageOf (patched (diskOf image₀) b o i (λ (k : ℕ). getD src k 0)))
+
+abbrev μ-loop : tie.MeasureT-loop
+μ-loop image₀ b o src i₀ i-end image i = length src - i
+
+loop-holds : tie.Need-loop-holds Inv-loop μ-loop
+loop-holds c = (omega arith, c .before .before .pre .0, patched-none _ _ _ _ (c .before .before .pre .0))
+
+add-set-byte : tie.Need-add-set-byte Inv-loop μ-loop
+add-set-byte c = search needs
+
+shared-slice-read-set-byte : tie.Need-shared-slice-read-set-byte Inv-loop μ-loop
+shared-slice-read-set-byte c = search needs
+
+set-byte-requires : tie.Need-set-byte-requires Inv-loop μ-loop
+set-byte-requires c κs = search needs
+
+add-i : tie.Need-add-i Inv-loop μ-loop
+add-i c = search needs
+
+loop-less : tie.Need-loop-less Inv-loop μ-loop
+loop-less c = search needs
+
+loop-again : tie.Need-loop-again Inv-loop μ-loop
+loop-again c = (omega arith, c .before .before .set-byte .kept .0 ∙ c .before .before .before .before .before .before .loop .inv .1, patched-more _ _ _ _ _ _ _ _ (c .before .before .before .before .before .before .loop .inv .2) (c .before .before .set-byte .ensures) refl)
+
+same-length : tie.Need-same-length Inv-loop μ-loop
+same-length c = search needs
+
+returns : tie.Need-returns Inv-loop μ-loop
+returns c = let e : c .before .loop .i ≡ length (c .before .before .before .before .args .src .now) = omega arith in rw e at (c .before .loop .inv .2)
+
+pub put-bytes-spec : {M : Type 1} → statement M
+put-bytes-spec =
+    tie.close
+    (tie.spec
+    Inv-loop
+    μ-loop
+    loop-holds
+    add-set-byte
+    shared-slice-read-set-byte
+    set-byte-requires
+    add-i
+    loop-less
+    loop-again
+    same-length
+    returns)

@@ -1,0 +1,31 @@
+-- `put_word2` meets its contract.
+-- Assumes nothing.
+use mathlib.Core.Path.{_∙_}
+use borrow.Author.Needs.{needs}
+use Rattle.laws.specs.Words.{highByte, high-row2}
+use Rattle.files.specs.Laws.Stored.{patched-row}
+use Rattle.files.proofs.store.put_word2.Statement.{statement}
+use Rattle.files.proofs.store.put_word2.Tie as tie
+
+cast-t8 : tie.Need-cast-t8
+cast-t8 c = search needs
+
+cast-t10 : tie.Need-cast-t10
+cast-t10 c = search needs
+
+slice-aggregate-put-bytes : tie.Need-slice-aggregate-put-bytes
+slice-aggregate-put-bytes c = search needs
+
+put-bytes-requires : tie.Need-put-bytes-requires
+put-bytes-requires c κs = search needs
+
+same-length : tie.Need-same-length
+same-length c = search needs
+
+returns : tie.Need-returns
+returns c = c .before .before .put-bytes .ensures ∙ patched-row _ _ _ _ 2 (highByte 2 (c .before .before .before .before .before .before .args .v)) (high-row2 (c .before .before .before .before .before .before .args .v))
+
+pub put-word2-spec : {M : Type 1} → statement M
+put-word2-spec =
+    tie.close
+    (tie.spec cast-t8 cast-t10 slice-aggregate-put-bytes put-bytes-requires same-length returns)

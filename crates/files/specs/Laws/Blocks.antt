@@ -1,0 +1,24 @@
+-- Laws of the disk's bytes as they are read from an image: inside the blocks a byte of the image, outside 0.
+-- Assumes nothing.
+use mathlib.Core.Path.{_≡_}
+use mathlib.Core.List.{List}
+use Prim.Native.Nat.{ℕ, _≤_, _<_}
+use lib.Dec.{ltb}
+use lib.ListN.{getD}
+use Rattle.laws.specs.Tests.{lt-true, lt-false, cond-true, cond-false, and-true, and-false-left, and-false-right}
+use Rattle.sectors.specs.Geometry.{blocks}
+use Rattle.files.specs.Sizes.{blockBytes}
+use Rattle.files.specs.Disk.{byteOf, diskOf}
+
+module _ (l : List ℕ) (b o : ℕ) where
+  pub disk-in : b < blocks → o < blockBytes → diskOf l b o ≡ getD l (byteOf b o) 0
+  unfolding diskOf
+  disk-in hb ho = cond-true (getD l (byteOf b o) 0) 0 (and-true (lt-true hb) (lt-true ho))
+
+  pub disk-far : blocks ≤ b → diskOf l b o ≡ 0
+  unfolding diskOf
+  disk-far h = cond-false (getD l (byteOf b o) 0) 0 (and-false-left (ltb o blockBytes) (lt-false h))
+
+  pub disk-past : blockBytes ≤ o → diskOf l b o ≡ 0
+  unfolding diskOf
+  disk-past h = cond-false (getD l (byteOf b o) 0) 0 (and-false-right (ltb b blocks) (lt-false h))

@@ -1,0 +1,158 @@
+// Add: a file's blocks and slot are written, and the directory grows where its end is taken.
+ghost use mathlib.Core.Path.{_≡_};
+ghost use mathlib.Core.Option.{none};
+ghost use Prim.Native.Nat.{_<_, _≤_, _^_};
+ghost use lib.Dec.{leb};
+ghost use lib.ListN.{length};
+ghost use Rattle.sectors.specs.Geometry.{imageBytes};
+ghost use Rattle.files.specs.Disk.{diskOf, imageOf};
+ghost use Rattle.files.specs.Map.{freeCount};
+ghost use Rattle.files.specs.Directory.{entryFor, dirEnd};
+ghost use Rattle.files.specs.Check.{judged};
+ghost use Rattle.files.specs.Written.{blocksFor};
+ghost use Rattle.files.specs.Calls as Calls;
+ghost use Rattle.files.specs.Calls.{opensBlock, growDir, endAfter, addAt, addDisk};
+ghost use Rattle.files.specs.Laws.Judged.{Gave, taken};
+use crate::Entry;
+use crate::Verdict;
+use crate::checking::judge;
+use crate::directory::find_name;
+use crate::directory::vacant_slot;
+use crate::header::dir_end;
+use crate::map::free_count;
+use crate::removing::name_right;
+use crate::steps::entry_bytes;
+use crate::steps::give_blocks;
+use crate::steps::set_end;
+use crate::steps::settle;
+use crate::steps::write_entry;
+use sectors::Geometry;
+use sectors::Reply;
+use sectors::done;
+use sectors::refused;
+
+// The bytes of a block and of a slot, and the slots of a block.
+const BLOCK_BYTES: usize = Geometry::BLOCK_SECTORS * Geometry::SECTOR_BYTES;
+
+const SLOT_BYTES: usize = 64;
+
+const BLOCK_SLOTS: usize = BLOCK_BYTES / SLOT_BYTES;
+
+// The blocks of a file with so many bytes of data: its first 64 bytes are counted too.
+fn blocks_for(size: usize) -> usize
+    requires { ⌜ size ≤ imageBytes ⌝ }
+    ensures { λ r. ⌜ (r ≡ blocksFor size) × (r ≤ 481) ⌝ }
+{
+    (SLOT_BYTES + size + (BLOCK_BYTES - 1)) / BLOCK_BYTES
+}
+
+// A slot at the directory's end that begins a block takes the lowest free block for the directory.
+fn grow_dir(image: &mut [u8], k: usize, end: usize)
+    requires { ⌜ (length (now image) ≡ imageBytes) × (k < 4096) × (end ≡ dirEnd (diskOf (now image))) ⌝ }
+    ensures { λ _. ⌜ now (image .exit) ≡ imageOf (growDir (diskOf (now (image .entry))) k) ⌝ }
+{
+    if k != end {
+        return;
+    }
+    if k % BLOCK_SLOTS != 0 {
+        return;
+    }
+    give_blocks(image, 0, k / BLOCK_SLOTS, 1, b"", b"");
+}
+
+// The directory grows by a slot where k was its end.
+fn end_after(image: &mut [u8], k: usize, end: usize)
+    requires { ⌜ (length (now image) ≡ imageBytes) × (k < 4096) ⌝ }
+    ensures { λ _. ⌜ now (image .exit) ≡ imageOf (endAfter k end (diskOf (now (image .entry)))) ⌝ }
+{
+    if k != end {
+        return;
+    }
+    set_end(image, k + 1);
+}
+
+// A file is added in slot k: the directory's block, the file's blocks, the slot, then the header.
+fn add_at(image: &mut [u8], k: usize, e: Entry, content: &[u8])
+    requires { ⌜ (length (now image) ≡ imageBytes) × (k < 4096) × (length (now content) ≤ imageBytes) ⌝ }
+    ensures { λ _. ⌜ now (image .exit) ≡ imageOf (addAt (diskOf (now (image .entry))) k e (now (content .entry))) ⌝ }
+{
+    let end = dir_end(image);
+    let head = entry_bytes(e);
+    grow_dir(image, k, end);
+    give_blocks(image, k, 0, blocks_for(content.len()), &head, content);
+    write_entry(image, k, e);
+    end_after(image, k, end);
+    settle(image);
+}
+
+// The entry of a new file.
+fn entry_for(name: &[u8], date: u32, size: usize) -> Entry
+    requires { ⌜ (length (now name) ≤ 36) × (size ≤ imageBytes) ⌝ }
+    ensures { λ r. ⌜ r ≡ entryFor (now (name .entry)) date size ⌝ }
+{
+    let mut row = [0u8; 36];
+    fields::copy_into(&mut row, 0, name);
+    Entry {
+        name: row,
+        length: (SLOT_BYTES + size) as u32,
+        named: name.len() as u16,
+        date,
+    }
+}
+
+// Whether slot k begins a new block of the directory: it is at the end, and the end falls on one.
+fn opens_block(image: &[u8], k: usize) -> bool
+    ensures { λ r. ⌜ r ≡ opensBlock (diskOf (now (image .entry))) k ⌝ }
+{
+    (k == dir_end(image)) & (k % BLOCK_SLOTS == 0)
+}
+
+// Whether there are blocks enough for a file of so many bytes in slot k. More bytes than the disk has never fit;
+// that is asked first, since 64 more than the size could wrap.
+fn has_room(image: &[u8], k: usize, size: usize) -> bool
+    ensures { λ r. ⌜ r ≡ leb (taken (diskOf (now (image .entry))) k size) (freeCount (diskOf (now (image .entry)))) ⌝ }
+{
+    if Geometry::IMAGE_BYTES < size {
+        return false;
+    }
+    let free = free_count(image);
+    let wanted = blocks_for(size);
+    if opens_block(image, k) {
+        return wanted + 1 <= free;
+    }
+    wanted <= free
+}
+
+// Adds a file to a disk that passed the judgement.
+fn add_judged(image: &mut [u8], name: &[u8], date: u32, content: &[u8]) -> Reply
+    requires { ⌜ (length (now image) ≡ imageBytes) × (judged (diskOf (now image)) ≡ none) ⌝ }
+    ensures { λ r. ⌜ Gave (addDisk (diskOf (now (image .entry))) (now (name .entry)) date (now (content .entry))) r (now (image .exit)) ⌝ }
+{
+    if !name_right(name) {
+        return refused(12, 0);
+    }
+    let found = find_name(image, name);
+    if found < dir_end(image) {
+        return refused(13, found);
+    }
+    let k = vacant_slot(image);
+    if !has_room(image, k, content.len()) {
+        return refused(15, 0);
+    }
+    let e = entry_for(name, date, content.len());
+    add_at(image, k, e, content);
+    done()
+}
+
+// Adds a file. A refusal leaves the image as it was.
+pub fn add(image: &mut [u8], name: &[u8], date: u32, content: &[u8]) -> Reply
+    ensures { λ r. ⌜ (r ≡ Calls.add (now (image .entry)) (now (name .entry)) date (now (content .entry)) .answer) × (now (image .exit) ≡ Calls.add (now (image .entry)) (now (name .entry)) date (now (content .entry)) .image) ⌝ }
+{
+    if image.len() != Geometry::IMAGE_BYTES {
+        return refused(1, 2);
+    }
+    match judge(image) {
+        Verdict::Refused(r) => r,
+        Verdict::Passed => add_judged(image, name, date, content),
+    }
+}

@@ -1,0 +1,57 @@
+// Bytes and numbers of the disk in block order, read from the block image through the placement.
+ghost use mathlib.Core.Path.{_≡_};
+ghost use Prim.Native.Nat.{_+_, _<_, _^_};
+ghost use Rattle.laws.specs.Numbers.{at16, at32};
+ghost use Rattle.files.specs.Disk.{byteOf, diskOf};
+use sectors::BlockNumber;
+use sectors::Geometry;
+
+// The bytes of a block.
+const BLOCK_BYTES: usize = Geometry::BLOCK_SECTORS * Geometry::SECTOR_BYTES;
+
+// Where byte o of block b stands in the image.
+pub fn byte_place(b: usize, o: usize) -> usize
+    requires { ⌜ (b < 480) × (o < 1536) ⌝ }
+    ensures { λ r. ⌜ (r ≡ byteOf b o) × (r < 737280) ⌝ }
+{
+    let sector = Geometry::running(BlockNumber(b), o / Geometry::SECTOR_BYTES);
+    let at = Geometry::place(sector);
+    at.0 * Geometry::SECTOR_BYTES + o % Geometry::SECTOR_BYTES
+}
+
+// Byte o of block b, 0 where there is none.
+pub fn block_byte(image: &[u8], b: usize, o: usize) -> u8
+    ensures { λ r. ⌜ r ≡ diskOf (now (image .entry)) b o ⌝ }
+{
+    if Geometry::BLOCKS <= b {
+        return 0;
+    }
+    if BLOCK_BYTES <= o {
+        return 0;
+    }
+    fields::byte(image, byte_place(b, o), 0)
+}
+
+// A byte of a block as a wider number.
+fn wide(image: &[u8], b: usize, o: usize) -> u32
+    ensures { λ r. ⌜ (r ≡ diskOf (now (image .entry)) b o) × (r < 256) ⌝ }
+{
+    block_byte(image, b, o) as u32
+}
+
+// The number in two bytes of a block, highest first.
+pub fn block_word2(image: &[u8], b: usize, o: usize) -> u16
+    requires { ⌜ o < 2 ^ 16 ⌝ }
+    ensures { λ r. ⌜ r ≡ at16 (diskOf (now (image .entry)) b) o ⌝ }
+{
+    (wide(image, b, o) * 256 + wide(image, b, o + 1)) as u16
+}
+
+// The number in four bytes of a block, highest first.
+pub fn block_word4(image: &[u8], b: usize, o: usize) -> u32
+    requires { ⌜ o < 2 ^ 16 ⌝ }
+    ensures { λ r. ⌜ r ≡ at32 (diskOf (now (image .entry)) b) o ⌝ }
+{
+    let high = wide(image, b, o) * 256 + wide(image, b, o + 1);
+    (high * 256 + wide(image, b, o + 2)) * 256 + wide(image, b, o + 3)
+}

@@ -1,0 +1,320 @@
+// Whether the disk is sound: the judgements 8 to 11 that check, list, read, add and remove make first.
+ghost use mathlib.Core.Path.{_≡_};
+ghost use mathlib.Core.Bool.{not, _&&_};
+ghost use Prim.Native.Nat.{ℕ, _+_, _≤_, _<_, _^_};
+ghost use lib.Dec.{ltb, eqb};
+ghost use lib.ListN.{length, take};
+ghost use Rattle.laws.specs.Below.{all};
+ghost use Rattle.laws.specs.Count.{count};
+ghost use Rattle.laws.specs.Numbers.{up};
+ghost use Rattle.sectors.specs.Geometry.{imageBytes};
+ghost use Rattle.files.specs.Disk.{diskOf};
+ghost use Rattle.files.specs.Map.{isPart, within, bears};
+ghost use Rattle.files.specs.Directory.{nameEq, slotName, held, dirEnd};
+ghost use Rattle.files.specs.Check.{entryRight, fileRight, fileFault, refusal9, refusal10, refusal11, judged};
+ghost use Rattle.files.specs.Calls as Calls;
+ghost use Rattle.files.specs.Laws.Verdict.{verdictOf};
+ghost use Rattle.files.specs.Laws.Loaded.{recordIn, Mapped};
+ghost use Rattle.files.specs.Laws.Slots.{Located};
+ghost use Rattle.files.specs.Laws.Sound.{partsIn, unmarked, Bearer, Marked};
+use crate::Record;
+use crate::Verdict;
+use crate::directory::dir_blocks;
+use crate::directory::held_slot;
+use crate::directory::held_so;
+use crate::directory::read_entry;
+use crate::directory::slot_place;
+use crate::header::dir_bytes;
+use crate::header::dir_end;
+use crate::header::head_word;
+use crate::header::judge_header;
+use crate::map::free_count;
+use crate::map::is_part;
+use crate::map::load_map;
+use crate::map::map_fault;
+use crate::map::map_record;
+use sectors::BlockNumber;
+use sectors::Geometry;
+use sectors::Reply;
+use sectors::done;
+use sectors::refused;
+
+const BLOCK_BYTES: usize = Geometry::BLOCK_SECTORS * Geometry::SECTOR_BYTES;
+
+const SLOT_BYTES: usize = 64;
+
+const NAME_MOST: usize = 36;
+
+// The slots of a directory that has every block.
+const SLOT_COUNT: usize = Geometry::BLOCKS * (BLOCK_BYTES / SLOT_BYTES);
+
+// The blocks that so many bytes take.
+fn blocks_of(bytes: usize) -> usize
+    requires { ⌜ bytes < 2 ^ 33 ⌝ }
+    ensures { λ r. ⌜ (r ≡ up bytes 1536) × (r < 2 ^ 33) ⌝ }
+{
+    (bytes + (BLOCK_BYTES - 1)) / BLOCK_BYTES
+}
+
+// Whether a record, if it bears file f, has a sequence below n.
+fn is_within(r: Record, f: usize, n: usize) -> bool
+    ensures { λ a. ⌜ a ≡ within f n r ⌝ }
+{
+    match r {
+        Record::Free => true,
+        Record::System => true,
+        Record::File(g, t) => {
+            if g as usize == f {
+                (t as usize) < n
+            } else {
+                true
+            }
+        }
+        Record::Other => true,
+    }
+}
+
+fn all_within(map: &[u32; 480], f: usize, n: usize) -> bool
+    ensures { λ r. ⌜ r ≡ all (λ (b : ℕ). within f n (recordIn (now (map .entry)) b)) 480 ⌝ }
+{
+    for b in 0..Geometry::BLOCKS {
+        let m = map_record(map, BlockNumber(b));
+        let record = m.record;
+        if !is_within(record, f, n) {
+            return false;
+        }
+    }
+    true
+}
+
+// How many records are sequence s of file f.
+fn part_count(map: &[u32; 480], f: usize, s: usize) -> usize
+    ensures { λ r. ⌜ r ≡ count 480 (λ (b : ℕ). isPart f s (recordIn (now (map .entry)) b)) ⌝ }
+{
+    let mut n = 0;
+    for b in 0..Geometry::BLOCKS {
+        let m = map_record(map, BlockNumber(b));
+        let record = m.record;
+        if is_part(record, f, s) {
+            n += 1;
+        }
+    }
+    n
+}
+
+// Whether each sequence of file f below n stands once.
+fn parts_once(map: &[u32; 480], f: usize, n: usize) -> bool
+    ensures { λ r. ⌜ r ≡ all (λ (s : ℕ). eqb (count 480 (λ (b : ℕ). isPart f s (recordIn (now (map .entry)) b))) 1) n ⌝ }
+{
+    for s in 0..n {
+        if part_count(map, f, s) != 1 {
+            return false;
+        }
+    }
+    true
+}
+
+// Whether file f's sequences are 0 up to n less 1, each once.
+fn parts_right(map: &[u32; 480], f: usize, n: usize) -> bool
+    ensures { λ r. ⌜ r ≡ partsIn (now (map .entry)) f n ⌝ }
+{
+    if all_within(map, f, n) {
+        return parts_once(map, f, n);
+    }
+    false
+}
+
+// The file that a record bears; 4096, which is none, where it bears none.
+fn bearer(r: Record) -> usize
+    ensures { λ g. ⌜ Bearer g r ⌝ }
+{
+    match r {
+        Record::Free => 4096,
+        Record::System => 4096,
+        Record::File(g, _) => {
+            if (g as usize) < 4096 {
+                g as usize
+            } else {
+                4096
+            }
+        }
+        Record::Other => 4096,
+    }
+}
+
+// Marks with 1 the files that are borne by a record.
+fn mark_files(map: &[u32; 480]) -> [u8; 4097]
+    ensures { λ r. ⌜ Marked r (now (map .entry)) 480 ⌝ }
+{
+    let mut marks = [0u8; 4097];
+    for b in 0..Geometry::BLOCKS {
+        let m = map_record(map, BlockNumber(b));
+        let record = m.record;
+        let f = bearer(record);
+        marks[f] = 1;
+    }
+    marks
+}
+
+// Whether no record bears file f, by the marks.
+fn is_unborne(marks: &[u8; 4097], f: usize) -> bool
+    ensures { λ r. ⌜ r ≡ unmarked (now (marks .entry)) f ⌝ }
+{
+    if f < 4096 {
+        return marks[f] == 0;
+    }
+    true
+}
+
+// Whether no slot below k is held and has this name.
+fn new_name(image: &[u8], dir: &[usize; 480], k: usize, name: &[u8]) -> bool
+    requires { ⌜ (length (now image) ≡ 737280) × (k < 11520) × Located (now dir) (diskOf (now image)) ⌝ }
+    ensures { λ r. ⌜ r ≡ all (λ (j : ℕ). not (held (diskOf (now (image .entry))) j && nameEq (slotName (diskOf (now (image .entry))) j) (now (name .entry)))) k ⌝ }
+{
+    for j in 0..k {
+        if held_so(image, dir, j, name) {
+            return false;
+        }
+    }
+    true
+}
+
+// The same for the first n bytes of a name.
+fn new_first(image: &[u8], dir: &[usize; 480], k: usize, name: &[u8], n: usize) -> bool
+    requires { ⌜ (length (now image) ≡ 737280) × (k < 11520) × Located (now dir) (diskOf (now image)) × (n ≤ length (now name)) ⌝ }
+    ensures { λ r. ⌜ r ≡ all (λ (j : ℕ). not (held (diskOf (now (image .entry))) j && nameEq (slotName (diskOf (now (image .entry))) j) (take n (now (name .entry))))) k ⌝ }
+{
+    new_name(image, dir, k, &name[0..n])
+}
+
+// Whether a held slot is sound: its length, its name, and its blocks.
+fn entry_right(image: &[u8], map: &[u32; 480], dir: &[usize; 480], k: usize) -> bool
+    requires { ⌜ (length (now image) ≡ 737280) × (k < 11520) × Located (now dir) (diskOf (now image)) × Mapped (now map) (diskOf (now image)) ⌝ }
+    ensures { λ r. ⌜ r ≡ entryRight (diskOf (now (image .entry))) k ⌝ }
+{
+    let e = read_entry(image, slot_place(dir, k));
+    let length = e.length as usize;
+    let named = e.named as usize;
+    let name = e.name;
+    if (SLOT_BYTES <= length) & ((1 <= named) & (named <= NAME_MOST)) {
+        if new_first(image, dir, k, &name, named) {
+            return parts_right(map, k, blocks_of(length));
+        }
+    }
+    false
+}
+
+// Whether slot f is below the directory's end and held.
+fn is_listed(image: &[u8], dir: &[usize; 480], end: usize, f: usize) -> bool
+    requires { ⌜ (length (now image) ≡ 737280) × (f < 11520) × Located (now dir) (diskOf (now image)) ⌝ }
+    ensures { λ r. ⌜ r ≡ (ltb f end && held (diskOf (now (image .entry))) f) ⌝ }
+{
+    if f < end {
+        return held_slot(image, dir, f);
+    }
+    false
+}
+
+// Whether file f is sound: the directory, a held slot, or a number that no record may bear.
+fn file_right(
+    image: &[u8],
+    map: &[u32; 480],
+    dir: &[usize; 480],
+    marks: &[u8; 4097],
+    end: usize,
+    f: usize,
+) -> bool
+    requires { ⌜ (length (now image) ≡ 737280) × (f < 11520) × Located (now dir) (diskOf (now image)) × Mapped (now map) (diskOf (now image)) × Marked (now marks) (now map) 480 × (end ≡ dirEnd (diskOf (now image))) ⌝ }
+    ensures { λ r. ⌜ r ≡ fileRight (diskOf (now (image .entry))) f ⌝ }
+{
+    if f == 0 {
+        return parts_right(map, 0, blocks_of(dir_bytes(image)));
+    }
+    if is_listed(image, dir, end, f) {
+        return entry_right(image, map, dir, f);
+    }
+    is_unborne(marks, f)
+}
+
+// The lowest file that is not sound, or the number of slots. Map and directory are read once.
+fn file_fault(image: &[u8]) -> usize
+    requires { ⌜ length (now image) ≡ 737280 ⌝ }
+    ensures { λ r. ⌜ (r ≡ fileFault (diskOf (now (image .entry)))) × (r ≤ 11520) ⌝ }
+{
+    let map = load_map(image);
+    let dir = dir_blocks(&map);
+    let marks = mark_files(&map);
+    let end = dir_end(image);
+    for f in 0..SLOT_COUNT {
+        if !file_right(image, &map, &dir, &marks, end, f) {
+            return f;
+        }
+    }
+    SLOT_COUNT
+}
+
+// Refusal 9: the map.
+pub fn judge_map(image: &[u8]) -> Verdict
+    ensures { λ r. ⌜ r ≡ verdictOf (refusal9 (diskOf (now (image .entry)))) ⌝ }
+{
+    let map = load_map(image);
+    let b = map_fault(&map);
+    if b < Geometry::BLOCKS {
+        return Verdict::Refused(refused(9, b));
+    }
+    Verdict::Passed
+}
+
+// Refusal 10: the directory.
+fn judge_files(image: &[u8]) -> Verdict
+    requires { ⌜ length (now image) ≡ 737280 ⌝ }
+    ensures { λ r. ⌜ r ≡ verdictOf (refusal10 (diskOf (now (image .entry)))) ⌝ }
+{
+    let f = file_fault(image);
+    if f < SLOT_COUNT {
+        return Verdict::Refused(refused(10, f));
+    }
+    Verdict::Passed
+}
+
+// Refusal 11: the free word.
+pub fn judge_free(image: &[u8]) -> Verdict
+    ensures { λ r. ⌜ r ≡ verdictOf (refusal11 (diskOf (now (image .entry)))) ⌝ }
+{
+    if head_word(image, 20) == Geometry::BLOCK_SECTORS * free_count(image) {
+        return Verdict::Passed;
+    }
+    Verdict::Refused(refused(11, 0))
+}
+
+// The judgements 8 to 11, in order.
+pub fn judge(image: &[u8]) -> Verdict
+    requires { ⌜ length (now image) ≡ 737280 ⌝ }
+    ensures { λ r. ⌜ r ≡ verdictOf (judged (diskOf (now (image .entry)))) ⌝ }
+{
+    match judge_header(image) {
+        Verdict::Refused(r) => return Verdict::Refused(r),
+        Verdict::Passed => {}
+    }
+    match judge_map(image) {
+        Verdict::Refused(r) => return Verdict::Refused(r),
+        Verdict::Passed => {}
+    }
+    match judge_files(image) {
+        Verdict::Refused(r) => Verdict::Refused(r),
+        Verdict::Passed => judge_free(image),
+    }
+}
+
+// Checks a block image: 0, or the first refusal of 1 and 8 to 11.
+pub fn check(image: &[u8]) -> Reply
+    ensures { λ r. ⌜ r ≡ Calls.check (now (image .entry)) ⌝ }
+{
+    if image.len() != Geometry::IMAGE_BYTES {
+        return refused(1, 2);
+    }
+    match judge(image) {
+        Verdict::Refused(r) => r,
+        Verdict::Passed => done(),
+    }
+}

@@ -1,0 +1,170 @@
+// The directory: where its slots stand in the image, what they hold, and the search for a name.
+ghost use mathlib.Core.Path.{_≡_};
+ghost use mathlib.Core.Bool.{not, _&&_};
+ghost use Prim.Native.Nat.{ℕ, _+_, _≤_, _<_, min};
+ghost use lib.Dec.{eqb};
+ghost use lib.ListN.{length};
+ghost use Rattle.laws.specs.Below.{all};
+ghost use Rattle.laws.specs.Tab.{tab, elementAt};
+ghost use Rattle.laws.specs.Numbers.{at16};
+ghost use Rattle.files.specs.Disk.{diskOf};
+ghost use Rattle.files.specs.Directory.{nameEq, entryOf, nameOf, slotName, held, dirEnd, findName, vacantSlot};
+ghost use Rattle.files.specs.Laws.Slots.{slotPlace, LocatedIn, Located};
+use crate::Entry;
+use crate::blocks::byte_place;
+use crate::header::dir_end;
+use crate::map::load_map;
+use crate::map::part_block;
+use sectors::Geometry;
+
+// The bytes of a slot, the slots of a block, and the bytes that a name has room for.
+const SLOT_BYTES: usize = 64;
+
+const BLOCK_SLOTS: usize = Geometry::BLOCK_SECTORS * Geometry::SECTOR_BYTES / SLOT_BYTES;
+
+const NAME_MOST: usize = 36;
+
+// The directory's blocks in sequence; the number of blocks where there is none.
+pub fn dir_blocks(map: &[u32; 480]) -> [usize; 480]
+    ensures { λ r. ⌜ LocatedIn r (now (map .entry)) ⌝ }
+{
+    let mut dir = [0usize; 480];
+    for s in 0..Geometry::BLOCKS {
+        dir[s] = part_block(map, 0, s);
+    }
+    dir
+}
+
+// The same of an image.
+pub fn load_dir(image: &[u8]) -> [usize; 480]
+    ensures { λ r. ⌜ Located r (diskOf (now (image .entry))) ⌝ }
+{
+    let map = load_map(image);
+    dir_blocks(&map)
+}
+
+// Where slot k stands in the image; its end, where the slot has no block. A slot lies in one sector.
+pub fn slot_place(dir: &[usize; 480], k: usize) -> usize
+    requires { ⌜ k < 11520 ⌝ }
+    ensures { λ r. ⌜ (r ≡ slotPlace (now (dir .entry)) k) × (r ≤ 737280) ⌝ }
+{
+    let b = dir[k / BLOCK_SLOTS];
+    if b < Geometry::BLOCKS {
+        return byte_place(b, k % BLOCK_SLOTS * SLOT_BYTES);
+    }
+    Geometry::IMAGE_BYTES
+}
+
+// Whether the 64 bytes at a place are zero.
+fn vacant_at(image: &[u8], at: usize) -> bool
+    ensures { λ r. ⌜ r ≡ all (λ (i : ℕ). eqb (elementAt (now (image .entry)) at i) 0) 64 ⌝ }
+{
+    for i in 0..SLOT_BYTES {
+        if fields::byte(image, at, i) != 0 {
+            return false;
+        }
+    }
+    true
+}
+
+// Whether slot k is held; slot 0 never is.
+pub fn held_slot(image: &[u8], dir: &[usize; 480], k: usize) -> bool
+    requires { ⌜ (length (now image) ≡ 737280) × (k < 11520) × Located (now dir) (diskOf (now image)) ⌝ }
+    ensures { λ r. ⌜ r ≡ held (diskOf (now (image .entry))) k ⌝ }
+{
+    if k == 0 {
+        return false;
+    }
+    !vacant_at(image, slot_place(dir, k))
+}
+
+// The 36 bytes from a place on.
+fn name_at(image: &[u8], at: usize) -> [u8; 36]
+    ensures { λ r. ⌜ r ≡ tab (elementAt (now (image .entry)) at) 36 ⌝ }
+{
+    let mut name = [0u8; 36];
+    for i in 0..NAME_MOST {
+        name[i] = fields::byte(image, at, i);
+    }
+    name
+}
+
+// The entry in the 64 bytes at a place.
+pub fn read_entry(image: &[u8], at: usize) -> Entry
+    requires { ⌜ at ≤ 737280 ⌝ }
+    ensures { λ r. ⌜ r ≡ entryOf (elementAt (now (image .entry)) at) ⌝ }
+{
+    let name = name_at(image, at + 16);
+    Entry {
+        name,
+        length: fields::high4(image, at),
+        named: fields::high2(image, at + 14),
+        date: fields::high4(image, at + 52),
+    }
+}
+
+// How many bytes the name in the slot at a place has.
+fn name_length(image: &[u8], at: usize) -> usize
+    requires { ⌜ at ≤ 737280 ⌝ }
+    ensures { λ r. ⌜ r ≡ min (at16 (elementAt (now (image .entry)) at) 14) 36 ⌝ }
+{
+    let named = fields::high2(image, at + 14) as usize;
+    if named < NAME_MOST { named } else { NAME_MOST }
+}
+
+// Whether the slot at a place has this name.
+fn named_so(image: &[u8], at: usize, name: &[u8]) -> bool
+    requires { ⌜ at ≤ 737280 ⌝ }
+    ensures { λ r. ⌜ r ≡ nameEq (nameOf (entryOf (elementAt (now (image .entry)) at))) (now (name .entry)) ⌝ }
+{
+    if name_length(image, at) != name.len() {
+        return false;
+    }
+    for i in 0..name.len() {
+        if fields::byte(image, at + 16, i) != name[i] {
+            return false;
+        }
+    }
+    true
+}
+
+// Whether slot k is held and has this name; the name is looked at first, since it seldom fits.
+pub fn held_so(image: &[u8], dir: &[usize; 480], k: usize, name: &[u8]) -> bool
+    requires { ⌜ (length (now image) ≡ 737280) × (k < 11520) × Located (now dir) (diskOf (now image)) ⌝ }
+    ensures { λ r. ⌜ r ≡ (held (diskOf (now (image .entry))) k && nameEq (slotName (diskOf (now (image .entry))) k) (now (name .entry))) ⌝ }
+{
+    if named_so(image, slot_place(dir, k), name) {
+        return held_slot(image, dir, k);
+    }
+    false
+}
+
+// The held slot of this name, or the directory's end.
+pub fn find_name(image: &[u8], name: &[u8]) -> usize
+    requires { ⌜ (length (now image) ≡ 737280) × (dirEnd (diskOf (now image)) ≤ 11520) ⌝ }
+    ensures { λ r. ⌜ r ≡ findName (diskOf (now (image .entry))) (now (name .entry)) ⌝ }
+{
+    let dir = load_dir(image);
+    let end = dir_end(image);
+    for k in 0..end {
+        if held_so(image, &dir, k, name) {
+            return k;
+        }
+    }
+    end
+}
+
+// The lowest vacant slot, or the directory's end.
+pub fn vacant_slot(image: &[u8]) -> usize
+    requires { ⌜ (length (now image) ≡ 737280) × (dirEnd (diskOf (now image)) ≤ 11520) ⌝ }
+    ensures { λ r. ⌜ r ≡ vacantSlot (diskOf (now (image .entry))) ⌝ }
+{
+    let dir = load_dir(image);
+    let end = dir_end(image);
+    for k in 0..end {
+        if (0 < k) & !held_slot(image, &dir, k) {
+            return k;
+        }
+    }
+    end
+}

@@ -1,0 +1,126 @@
+// Format: a fresh disk, whatever the image held.
+ghost use mathlib.Core.Path.{_≡_};
+ghost use Prim.Native.Nat.{_≤_};
+ghost use lib.ListN.{length};
+ghost use Rattle.laws.specs.Tab.{tab};
+ghost use Rattle.sectors.specs.Geometry.{blocks, imageBytes};
+ghost use Rattle.files.specs.Sizes.{mapStart, titleMost};
+ghost use Rattle.files.specs.Disk.{diskOf, imageOf};
+ghost use Rattle.files.specs.Calls as Calls;
+ghost use Rattle.files.specs.Calls.{freshOwner, formatDisk};
+ghost use Rattle.files.specs.Laws.Fresh.{titled, sized, started, freshHeader, mapped};
+use crate::Record;
+use crate::steps::set_record;
+use crate::store::put_bytes;
+use sectors::BACKWARD;
+use sectors::Geometry;
+use sectors::Reply;
+use sectors::SIDE_PLACE;
+use sectors::done;
+use sectors::refused;
+
+// The most bytes of a disk's name.
+const TITLE_MOST: usize = 10;
+
+// What pads the name.
+const SPACE: u8 = 32;
+
+// The signature, the name padded with spaces, and the number.
+fn put_title(head: &mut [u8], name: &[u8], number: u16)
+    requires { ⌜ length (now name) ≤ titleMost ⌝ }
+    ensures { λ _. ⌜ now (head .exit) ≡ titled (now (head .entry)) (now (name .entry)) number ⌝ }
+{
+    fields::copy_into(head, 0, b"QL5A");
+    fields::fill(head, 4, TITLE_MOST, SPACE);
+    fields::copy_into(head, 4, name);
+    fields::put_high2(head, 14, number);
+}
+
+// The sizes of the disk kind, and its turn.
+fn put_sizes(head: &mut [u8])
+    ensures { λ _. ⌜ now (head .exit) ≡ sized (now (head .entry)) ⌝ }
+{
+    fields::put_high2(head, 22, Geometry::ALL_SECTORS as u16);
+    fields::put_high2(head, 24, Geometry::ALL_SECTORS as u16);
+    fields::put_high2(head, 26, Geometry::SECTORS as u16);
+    fields::put_high2(head, 28, Geometry::TRACK_SECTORS as u16);
+    fields::put_high2(head, 30, Geometry::TRACKS as u16);
+    fields::put_high2(head, 32, Geometry::BLOCK_SECTORS as u16);
+    fields::put_high2(head, 38, Geometry::TURN as u16);
+}
+
+// The two tables, no update yet, all sectors free but those of two blocks, and a directory of one slot.
+fn put_start(head: &mut [u8])
+    ensures { λ _. ⌜ now (head .exit) ≡ started (now (head .entry)) ⌝ }
+{
+    fields::copy_into(head, 40, &SIDE_PLACE);
+    fields::copy_into(head, 58, &BACKWARD);
+    fields::put_high4(head, 16, 0);
+    fields::put_high2(
+        head,
+        20,
+        (Geometry::BLOCK_SECTORS * (Geometry::BLOCKS - 2)) as u16,
+    );
+    fields::put_high2(head, 34, 0);
+    fields::put_high2(head, 36, 64);
+}
+
+// The header of a fresh disk.
+fn header_bytes(name: &[u8], number: u16) -> [u8; 96]
+    requires { ⌜ length (now name) ≤ titleMost ⌝ }
+    ensures { λ r. ⌜ r ≡ tab (freshHeader (now (name .entry)) number) mapStart ⌝ }
+{
+    let mut head = [0xFFu8; 96];
+    put_title(&mut head, name, number);
+    put_sizes(&mut head);
+    put_start(&mut head);
+    head
+}
+
+// The record of block b of a fresh disk: block 1 is the directory's first.
+fn fresh_record(b: usize) -> Record
+    ensures { λ r. ⌜ r ≡ freshOwner b ⌝ }
+{
+    if b == 0 {
+        return Record::System;
+    }
+    if b == 1 {
+        return Record::File(0, 0);
+    }
+    Record::Free
+}
+
+// The map of a fresh disk.
+fn write_map(image: &mut [u8])
+    requires { ⌜ length (now image) ≡ imageBytes ⌝ }
+    ensures { λ _. ⌜ now (image .exit) ≡ imageOf (mapped (diskOf (now (image .entry))) freshOwner blocks) ⌝ }
+{
+    for b in 0..Geometry::BLOCKS {
+        set_record(image, b, fresh_record(b));
+    }
+}
+
+// All zero but the header and the map.
+fn write_fresh(image: &mut [u8], name: &[u8], number: u16)
+    requires { ⌜ (length (now image) ≡ imageBytes) × (length (now name) ≤ titleMost) ⌝ }
+    ensures { λ _. ⌜ now (image .exit) ≡ imageOf (formatDisk (now (name .entry)) number) ⌝ }
+{
+    let head = header_bytes(name, number);
+    fields::fill(image, 0, Geometry::IMAGE_BYTES, 0);
+    put_bytes(image, 0, 0, &head);
+    write_map(image);
+}
+
+// Formats an image. A refusal leaves it as it was.
+pub fn format(image: &mut [u8], name: &[u8], number: u16) -> Reply
+    ensures { λ r. ⌜ (r ≡ Calls.format (now (image .entry)) (now (name .entry)) number .answer) × (now (image .exit) ≡ Calls.format (now (image .entry)) (now (name .entry)) number .image) ⌝ }
+{
+    if image.len() != Geometry::IMAGE_BYTES {
+        return refused(1, 2);
+    }
+    if name.len() > TITLE_MOST {
+        return refused(12, 0);
+    }
+    write_fresh(image, name, number);
+    done()
+}

@@ -1,0 +1,104 @@
+// The header of the disk, and refusal 8.
+ghost use mathlib.Core.Path.{_≡_};
+ghost use mathlib.Core.Bool.{_&&_};
+ghost use Prim.Native.Nat.{_≤_, _<_, _^_};
+ghost use lib.Dec.{eqb};
+ghost use lib.ListN.{length};
+ghost use Rattle.laws.specs.Numbers.{at16};
+ghost use Rattle.sectors.specs.Hfe.{wrongAt};
+ghost use Rattle.files.specs.Disk.{diskOf};
+ghost use Rattle.files.specs.Directory.{dirBytes, dirEnd};
+ghost use Rattle.files.specs.Check.{lengthRight, headerFault, refusal8};
+ghost use Rattle.files.specs.Laws.Verdict.{faultOf, sizesFault, verdictOf};
+use crate::Verdict;
+use crate::blocks::block_word2;
+use sectors::BACKWARD;
+use sectors::Fault;
+use sectors::Geometry;
+use sectors::SIDE_PLACE;
+use sectors::or_fault;
+use sectors::refused;
+use sectors::wrong_at;
+
+// The bytes of a block, and of a directory slot.
+const BLOCK_BYTES: usize = Geometry::BLOCK_SECTORS * Geometry::SECTOR_BYTES;
+
+const SLOT_BYTES: usize = 64;
+
+// The number in two bytes of block 0.
+pub fn head_word(image: &[u8], o: usize) -> usize
+    requires { ⌜ o < 2 ^ 16 ⌝ }
+    ensures { λ r. ⌜ (r ≡ at16 (diskOf (now (image .entry)) 0) o) × (r < 65536) ⌝ }
+{
+    block_word2(image, 0, o) as usize
+}
+
+// The directory's length in bytes.
+pub fn dir_bytes(image: &[u8]) -> usize
+    ensures { λ r. ⌜ (r ≡ dirBytes (diskOf (now (image .entry)))) × (r < 2 ^ 27) ⌝ }
+{
+    head_word(image, 34) * BLOCK_BYTES + head_word(image, 36)
+}
+
+// The directory's end: the first slot past it.
+pub fn dir_end(image: &[u8]) -> usize
+    ensures { λ r. ⌜ (r ≡ dirEnd (diskOf (now (image .entry)))) × (r < 2 ^ 21) ⌝ }
+{
+    dir_bytes(image) / SLOT_BYTES
+}
+
+// The directory's length: a multiple of 64, at least 64, and bytes over below a block.
+fn length_right(image: &[u8]) -> bool
+    ensures { λ r. ⌜ r ≡ lengthRight (diskOf (now (image .entry))) ⌝ }
+{
+    let bytes = dir_bytes(image);
+    let over = head_word(image, 36);
+    (over < BLOCK_BYTES) & ((bytes % SLOT_BYTES == 0) & (SLOT_BYTES <= bytes))
+}
+
+// The fault of a word of block 0 that is not as wanted.
+fn word_fault(image: &[u8], o: usize, wanted: usize) -> Fault
+    requires { ⌜ o < 2 ^ 16 ⌝ }
+    ensures { λ r. ⌜ r ≡ wrongAt o (eqb (at16 (diskOf (now (image .entry)) 0) o) wanted) ⌝ }
+{
+    wrong_at(o, head_word(image, o) == wanted)
+}
+
+// The words that say the disk's sizes.
+fn sizes_fault(image: &[u8]) -> Fault
+    ensures { λ r. ⌜ r ≡ sizesFault (diskOf (now (image .entry))) ⌝ }
+{
+    let block = word_fault(image, 32, Geometry::BLOCK_SECTORS);
+    let tracks = word_fault(image, 30, Geometry::TRACKS);
+    let cylinder = word_fault(image, 28, Geometry::TRACK_SECTORS);
+    let track = word_fault(image, 26, Geometry::SECTORS);
+    let total = word_fault(image, 24, Geometry::ALL_SECTORS);
+    let good = word_fault(image, 22, Geometry::ALL_SECTORS);
+    let rest = or_fault(track, or_fault(cylinder, or_fault(tracks, block)));
+    or_fault(good, or_fault(total, rest))
+}
+
+// The lowest wrong field of the header; its fields stand in the first sector of block 0, which is the image's first.
+pub fn header_fault(image: &[u8]) -> Fault
+    requires { ⌜ 512 ≤ length (now image) ⌝ }
+    ensures { λ r. ⌜ r ≡ faultOf (headerFault (diskOf (now (image .entry)))) ⌝ }
+{
+    let backward = wrong_at(58, fields::stands_at(image, 58, &BACKWARD));
+    let table = wrong_at(40, fields::stands_at(image, 40, &SIDE_PLACE));
+    let turn = word_fault(image, 38, Geometry::TURN);
+    let directory = wrong_at(34, length_right(image));
+    let signature = wrong_at(0, fields::stands_at(image, 0, b"QL5A"));
+    let rest = or_fault(directory, or_fault(turn, or_fault(table, backward)));
+    or_fault(signature, or_fault(sizes_fault(image), rest))
+}
+
+// Refusal 8.
+pub fn judge_header(image: &[u8]) -> Verdict
+    requires { ⌜ 512 ≤ length (now image) ⌝ }
+    ensures { λ r. ⌜ r ≡ verdictOf (refusal8 (diskOf (now (image .entry)))) ⌝ }
+{
+    match header_fault(image) {
+        Fault::At(o) => Verdict::Refused(refused(8, o)),
+        Fault::Sound => Verdict::Passed,
+    }
+}

@@ -1,0 +1,161 @@
+// The map of the disk: its records, what they are asked, and refusal 9.
+ghost use mathlib.Core.Path.{_≡_};
+ghost use Prim.Native.Nat.{ℕ, _≤_, _<_};
+ghost use lib.ListN.{length};
+ghost use Rattle.laws.specs.Lowest.{lowest};
+ghost use Rattle.laws.specs.Count.{count};
+ghost use Rattle.files.specs.Disk.{diskOf};
+ghost use Rattle.files.specs.Map.{recordAt, isFree, isPart, freeCount};
+ghost use Rattle.files.specs.Check.{recordFault};
+ghost use Rattle.files.specs.Laws.Loaded.{recordOf, recordIn, mapRecordIn, Mapped};
+use crate::MapRecord;
+use crate::Record;
+use crate::blocks::block_byte;
+use sectors::BlockNumber;
+use sectors::Geometry;
+
+// Where the map begins in block 0, and the bytes of a record.
+const MAP_START: usize = 96;
+
+const RECORD_BYTES: usize = 3;
+
+fn wide(x: u8) -> u32
+    ensures { λ r. ⌜ (r ≡ x) × (r < 256) ⌝ }
+{
+    x as u32
+}
+
+// A record from its three bytes as one number: 12 bits of file, 12 of sequence.
+pub fn record_of(n: u32) -> Record
+    ensures { λ r. ⌜ r ≡ recordOf n ⌝ }
+{
+    if n < 0xF8_0000 {
+        return Record::File((n / 4096) as u16, (n % 4096) as u16);
+    }
+    if n == 0xFD_FFFF {
+        return Record::Free;
+    }
+    if n == 0xF8_0000 {
+        return Record::System;
+    }
+    Record::Other
+}
+
+// The three bytes of block b's record as one number.
+pub fn load_record(image: &[u8], b: usize) -> u32
+    requires { ⌜ b < 480 ⌝ }
+    ensures { λ r. ⌜ recordOf r ≡ recordAt (diskOf (now (image .entry))) b ⌝ }
+{
+    let at = MAP_START + RECORD_BYTES * b;
+    let x = wide(block_byte(image, 0, at));
+    let y = wide(block_byte(image, 0, at + 1));
+    let z = wide(block_byte(image, 0, at + 2));
+    x * 65536 + y * 256 + z
+}
+
+// The map's records as numbers: each byte of the map is read from the image once.
+pub fn load_map(image: &[u8]) -> [u32; 480]
+    ensures { λ r. ⌜ Mapped r (diskOf (now (image .entry))) ⌝ }
+{
+    let mut map = [0u32; 480];
+    for b in 0..Geometry::BLOCKS {
+        map[b] = load_record(image, b);
+    }
+    map
+}
+
+// A block's record beside its number.
+pub fn map_record(map: &[u32; 480], block: BlockNumber) -> MapRecord
+    requires { ⌜ block .0 < 480 ⌝ }
+    ensures { λ r. ⌜ r ≡ mapRecordIn (now (map .entry)) block ⌝ }
+{
+    let b = block.0;
+    let record = record_of(map[b]);
+    MapRecord { block, record }
+}
+
+pub fn is_free(r: Record) -> bool
+    ensures { λ a. ⌜ a ≡ isFree r ⌝ }
+{
+    match r {
+        Record::Free => true,
+        Record::System => false,
+        Record::File(_, _) => false,
+        Record::Other => false,
+    }
+}
+
+// Whether a record is sequence s of file f.
+pub fn is_part(r: Record, f: usize, s: usize) -> bool
+    ensures { λ a. ⌜ a ≡ isPart f s r ⌝ }
+{
+    match r {
+        Record::Free => false,
+        Record::System => false,
+        Record::File(g, t) => (g as usize == f) & (t as usize == s),
+        Record::Other => false,
+    }
+}
+
+// Whether a record may not stand at its block: block 0 is system, and no other is.
+fn record_fault(m: MapRecord) -> bool
+    ensures { λ r. ⌜ r ≡ recordFault (m .block .0) (m .«record») ⌝ }
+{
+    let b = m.block.0;
+    let k = m.record;
+    match k {
+        Record::Free => b == 0,
+        Record::System => b != 0,
+        Record::File(_, _) => b == 0,
+        Record::Other => true,
+    }
+}
+
+// The lowest block whose record may not stand there, or the number of blocks.
+pub fn map_fault(map: &[u32; 480]) -> usize
+    ensures { λ r. ⌜ (r ≡ lowest (λ (b : ℕ). recordFault b (recordIn (now (map .entry)) b)) 480) × (r ≤ 480) ⌝ }
+{
+    for b in 0..Geometry::BLOCKS {
+        if record_fault(map_record(map, BlockNumber(b))) {
+            return b;
+        }
+    }
+    Geometry::BLOCKS
+}
+
+// How many records are free.
+pub fn count_free(map: &[u32; 480]) -> usize
+    ensures { λ r. ⌜ (r ≡ count 480 (λ (b : ℕ). isFree (recordIn (now (map .entry)) b))) × (r ≤ 480) ⌝ }
+{
+    let mut n = 0;
+    for b in 0..Geometry::BLOCKS {
+        let m = map_record(map, BlockNumber(b));
+        let record = m.record;
+        if is_free(record) {
+            n += 1;
+        }
+    }
+    n
+}
+
+// The free records of an image.
+pub fn free_count(image: &[u8]) -> usize
+    ensures { λ r. ⌜ (r ≡ freeCount (diskOf (now (image .entry)))) × (r ≤ 480) ⌝ }
+{
+    let map = load_map(image);
+    count_free(&map)
+}
+
+// The block that is sequence s of file f, the lowest if there are several; the number of blocks if there is none.
+pub fn part_block(map: &[u32; 480], f: usize, s: usize) -> usize
+    ensures { λ r. ⌜ (r ≡ lowest (λ (b : ℕ). isPart f s (recordIn (now (map .entry)) b)) 480) × (r ≤ 480) ⌝ }
+{
+    for b in 0..Geometry::BLOCKS {
+        let m = map_record(map, BlockNumber(b));
+        let record = m.record;
+        if is_part(record, f, s) {
+            return b;
+        }
+    }
+    Geometry::BLOCKS
+}

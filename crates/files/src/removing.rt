@@ -1,0 +1,71 @@
+// Remove: a file's blocks and slot are zeroed and its records freed.
+ghost use mathlib.Core.Path.{_≡_};
+ghost use mathlib.Core.Option.{none};
+ghost use lib.ListN.{length};
+ghost use Rattle.sectors.specs.Geometry.{imageBytes};
+ghost use Rattle.files.specs.Disk.{diskOf, imageOf};
+ghost use Rattle.files.specs.Directory.{nameRight};
+ghost use Rattle.files.specs.Check.{judged};
+ghost use Rattle.files.specs.Calls as Calls;
+ghost use Rattle.files.specs.Calls.{removeAt, removeDisk};
+ghost use Rattle.files.specs.Laws.Judged.{Gave};
+use crate::Verdict;
+use crate::checking::judge;
+use crate::directory::find_name;
+use crate::header::dir_end;
+use crate::steps::free_blocks;
+use crate::steps::settle;
+use crate::steps::zero_slot;
+use sectors::Geometry;
+use sectors::Reply;
+use sectors::done;
+use sectors::refused;
+
+// The most bytes of a file's name.
+const NAME_MOST: usize = 36;
+
+// Whether a file's name has 1 to 36 bytes.
+pub fn name_right(name: &[u8]) -> bool
+    ensures { λ r. ⌜ r ≡ nameRight (now (name .entry)) ⌝ }
+{
+    (1 <= name.len()) & (name.len() <= NAME_MOST)
+}
+
+// The file of slot k is removed; the directory keeps its length.
+fn remove_at(image: &mut [u8], k: usize)
+    requires { ⌜ length (now image) ≡ imageBytes ⌝ }
+    ensures { λ _. ⌜ now (image .exit) ≡ imageOf (removeAt (diskOf (now (image .entry))) k) ⌝ }
+{
+    free_blocks(image, k);
+    zero_slot(image, k);
+    settle(image);
+}
+
+// Removes a file from a disk that passed the judgement.
+fn remove_judged(image: &mut [u8], name: &[u8]) -> Reply
+    requires { ⌜ (length (now image) ≡ imageBytes) × (judged (diskOf (now image)) ≡ none) ⌝ }
+    ensures { λ r. ⌜ Gave (removeDisk (diskOf (now (image .entry))) (now (name .entry))) r (now (image .exit)) ⌝ }
+{
+    if !name_right(name) {
+        return refused(12, 0);
+    }
+    let k = find_name(image, name);
+    if dir_end(image) <= k {
+        return refused(14, 0);
+    }
+    remove_at(image, k);
+    done()
+}
+
+// Removes a file. A refusal leaves the image as it was.
+pub fn remove(image: &mut [u8], name: &[u8]) -> Reply
+    ensures { λ r. ⌜ (r ≡ Calls.remove (now (image .entry)) (now (name .entry)) .answer) × (now (image .exit) ≡ Calls.remove (now (image .entry)) (now (name .entry)) .image) ⌝ }
+{
+    if image.len() != Geometry::IMAGE_BYTES {
+        return refused(1, 2);
+    }
+    match judge(image) {
+        Verdict::Refused(r) => r,
+        Verdict::Passed => remove_judged(image, name),
+    }
+}

@@ -1,0 +1,237 @@
+// The single steps of format, add and remove on the block image.
+ghost use mathlib.Core.Path.{_≡_};
+ghost use mathlib.Core.Bool.{cond};
+ghost use Prim.Native.Nat.{ℕ, _+_, _-_, _/_, _<_, _≤_, _^_};
+ghost use lib.ListN.{length, getD};
+ghost use Rattle.laws.specs.Tab.{tab};
+ghost use Rattle.sectors.specs.Geometry.{blocks, imageBytes};
+ghost use Rattle.files.specs.Sizes.{slotBytes, blockSlots};
+ghost use Rattle.files.specs.Disk.{diskOf, imageOf};
+ghost use Rattle.files.specs.Map.{encode, bears, partBlock};
+ghost use Rattle.files.specs.Directory.{entryByte};
+ghost use Rattle.files.specs.Written.{part, zeros, setBlock, setRecord, setSlot, setFree, setEnd, stepUpdate, freeBlock, freeBlocks};
+ghost use Rattle.files.specs.declared.Record.the-variants.{File};
+ghost use Rattle.files.specs.Laws.Given.{given, giveLowest};
+ghost use Rattle.files.specs.Laws.Steps.{Packs, storedRow};
+use crate::Entry;
+use crate::Record;
+use crate::blocks::block_word4;
+use crate::map::free_count;
+use crate::map::is_free;
+use crate::map::load_map;
+use crate::map::load_record;
+use crate::map::map_record;
+use crate::map::part_block;
+use crate::map::record_of;
+use crate::store::put_bytes;
+use crate::store::put_word2;
+use crate::store::put_word4;
+use crate::store::set_byte;
+use crate::store::zero_bytes;
+use sectors::BlockNumber;
+use sectors::Geometry;
+
+// The bytes of a block, and of a directory slot.
+const BLOCK_BYTES: usize = Geometry::BLOCK_SECTORS * Geometry::SECTOR_BYTES;
+
+const SLOT_BYTES: usize = 64;
+
+// The slots of a block.
+const BLOCK_SLOTS: usize = BLOCK_BYTES / SLOT_BYTES;
+
+// Where the map begins in block 0, and the bytes of a record.
+const MAP_START: usize = 96;
+
+const RECORD_BYTES: usize = 3;
+
+// The three bytes of a record.
+fn record_bytes(r: Record) -> [u8; 3]
+    requires { ⌜ Packs r ⌝ }
+    ensures { λ b. ⌜ b ≡ tab (encode r) 3 ⌝ }
+{
+    match r {
+        Record::Free => [0xFD, 0xFF, 0xFF],
+        Record::System => [0xF8, 0x00, 0x00],
+        Record::File(f, s) => [
+            (f / 16) as u8,
+            (f % 16 * 16 + s / 256) as u8,
+            (s % 256) as u8,
+        ],
+        Record::Other => [0xFF, 0xFF, 0xFF],
+    }
+}
+
+// The record of block b.
+pub fn set_record(image: &mut [u8], b: usize, r: Record)
+    requires { ⌜ (length (now image) ≡ imageBytes) × (b < blocks) × Packs r ⌝ }
+    ensures { λ _. ⌜ now (image .exit) ≡ imageOf (setRecord (diskOf (now (image .entry))) b r) ⌝ }
+{
+    let bytes = record_bytes(r);
+    put_bytes(image, 0, MAP_START + RECORD_BYTES * b, &bytes);
+}
+
+// Block b becomes zero.
+pub fn zero_block(image: &mut [u8], b: usize)
+    requires { ⌜ length (now image) ≡ imageBytes ⌝ }
+    ensures { λ _. ⌜ now (image .exit) ≡ imageOf (setBlock (diskOf (now (image .entry))) b zeros) ⌝ }
+{
+    zero_bytes(image, b, 0, BLOCK_BYTES);
+}
+
+// The 64 bytes of an entry.
+pub fn entry_bytes(e: Entry) -> [u8; 64]
+    ensures { λ r. ⌜ r ≡ tab (entryByte e) slotBytes ⌝ }
+{
+    let name = e.name;
+    let mut row = [0u8; 64];
+    fields::put_high4(&mut row, 0, e.length);
+    fields::put_high2(&mut row, 14, e.named);
+    fields::copy_into(&mut row, 16, &name);
+    fields::put_high4(&mut row, 52, e.date);
+    row
+}
+
+// Byte i of a file: its first 64 bytes repeat its entry, then come its data, then zeros.
+fn stored_byte(head: &[u8], content: &[u8], i: usize) -> u8
+    ensures { λ r. ⌜ r ≡ storedRow (now (head .entry)) (now (content .entry)) i ⌝ }
+{
+    if i < SLOT_BYTES {
+        return fields::byte(head, i, 0);
+    }
+    fields::byte(content, i - SLOT_BYTES, 0)
+}
+
+// Block b becomes part s of a file.
+pub fn put_part(image: &mut [u8], b: usize, s: usize, head: &[u8], content: &[u8])
+    requires { ⌜ (length (now image) ≡ imageBytes) × (s < 4096) ⌝ }
+    ensures { λ _. ⌜ now (image .exit) ≡ imageOf (setBlock (diskOf (now (image .entry))) b (part (storedRow (now (head .entry)) (now (content .entry))) s)) ⌝ }
+{
+    for o in 0..BLOCK_BYTES {
+        set_byte(image, b, o, stored_byte(head, content, s * BLOCK_BYTES + o));
+    }
+}
+
+// The directory's length becomes k slots, in whole blocks and bytes over.
+pub fn set_end(image: &mut [u8], k: usize)
+    requires { ⌜ (length (now image) ≡ imageBytes) × (k < 2 ^ 32) ⌝ }
+    ensures { λ _. ⌜ now (image .exit) ≡ imageOf (setEnd (diskOf (now (image .entry))) k) ⌝ }
+{
+    put_word2(image, 0, 34, k * SLOT_BYTES / BLOCK_BYTES);
+    put_word2(image, 0, 36, k * SLOT_BYTES % BLOCK_BYTES);
+}
+
+// The update count grows by 1; what no longer fits its four bytes is left out, so it wraps.
+pub fn step_update(image: &mut [u8])
+    requires { ⌜ length (now image) ≡ imageBytes ⌝ }
+    ensures { λ _. ⌜ now (image .exit) ≡ imageOf (stepUpdate (diskOf (now (image .entry)))) ⌝ }
+{
+    let updates = block_word4(image, 0, 16) as usize;
+    put_word4(image, 0, 16, updates + 1);
+}
+
+// The free word becomes 3 times the free records.
+fn set_free(image: &mut [u8])
+    requires { ⌜ length (now image) ≡ imageBytes ⌝ }
+    ensures { λ _. ⌜ now (image .exit) ≡ imageOf (setFree (diskOf (now (image .entry)))) ⌝ }
+{
+    let free = free_count(image);
+    put_word2(image, 0, 20, Geometry::BLOCK_SECTORS * free);
+}
+
+// What every accepted add and remove ends with: the free word, then the update count.
+pub fn settle(image: &mut [u8])
+    requires { ⌜ length (now image) ≡ imageBytes ⌝ }
+    ensures { λ _. ⌜ now (image .exit) ≡ imageOf (stepUpdate (setFree (diskOf (now (image .entry))))) ⌝ }
+{
+    set_free(image);
+    step_update(image);
+}
+
+// The directory's block that slot k lies in; the number of blocks where there is none.
+fn slot_block(image: &[u8], k: usize) -> usize
+    ensures { λ r. ⌜ r ≡ partBlock (diskOf (now (image .entry))) 0 (k / blockSlots) ⌝ }
+{
+    let map = load_map(image);
+    part_block(&map, 0, k / BLOCK_SLOTS)
+}
+
+// An entry is written to slot k.
+pub fn write_entry(image: &mut [u8], k: usize, e: Entry)
+    requires { ⌜ length (now image) ≡ imageBytes ⌝ }
+    ensures { λ _. ⌜ now (image .exit) ≡ imageOf (setSlot (diskOf (now (image .entry))) k (entryByte e)) ⌝ }
+{
+    let b = slot_block(image, k);
+    let row = entry_bytes(e);
+    put_bytes(image, b, k % BLOCK_SLOTS * SLOT_BYTES, &row);
+}
+
+// Slot k becomes vacant.
+pub fn zero_slot(image: &mut [u8], k: usize)
+    requires { ⌜ length (now image) ≡ imageBytes ⌝ }
+    ensures { λ _. ⌜ now (image .exit) ≡ imageOf (setSlot (diskOf (now (image .entry))) k zeros) ⌝ }
+{
+    let b = slot_block(image, k);
+    zero_bytes(image, b, k % BLOCK_SLOTS * SLOT_BYTES, SLOT_BYTES);
+}
+
+// Whether a record bears file f.
+fn bears_file(r: Record, f: usize) -> bool
+    ensures { λ a. ⌜ a ≡ bears f r ⌝ }
+{
+    match r {
+        Record::Free => false,
+        Record::System => false,
+        Record::File(g, _) => g as usize == f,
+        Record::Other => false,
+    }
+}
+
+// Block b is zeroed and its record freed if it bears file f.
+fn free_block(image: &mut [u8], f: usize, b: usize)
+    requires { ⌜ (length (now image) ≡ imageBytes) × (b < blocks) ⌝ }
+    ensures { λ _. ⌜ now (image .exit) ≡ imageOf (freeBlock (diskOf (now (image .entry))) f b) ⌝ }
+{
+    let r = record_of(load_record(image, b));
+    if !bears_file(r, f) {
+        return;
+    }
+    zero_block(image, b);
+    set_record(image, b, Record::Free);
+}
+
+// So for all blocks.
+pub fn free_blocks(image: &mut [u8], f: usize)
+    requires { ⌜ length (now image) ≡ imageBytes ⌝ }
+    ensures { λ _. ⌜ now (image .exit) ≡ imageOf (freeBlocks blocks (diskOf (now (image .entry))) f) ⌝ }
+{
+    for b in 0..Geometry::BLOCKS {
+        free_block(image, f, b);
+    }
+}
+
+// Block b becomes part s of file f, and its record says so.
+fn give_block(image: &mut [u8], b: usize, f: usize, s: usize, head: &[u8], content: &[u8])
+    requires { ⌜ (length (now image) ≡ imageBytes) × (b < blocks) × (f < 4096) × (s < 4096) ⌝ }
+    ensures { λ _. ⌜ now (image .exit) ≡ imageOf (given (diskOf (now (image .entry))) b (part (storedRow (now (head .entry)) (now (content .entry))) s) (File f s)) ⌝ }
+{
+    put_part(image, b, s, head, content);
+    set_record(image, b, Record::File(f as u16, s as u16));
+}
+
+// The n lowest free blocks are given to file f, from sequence s on. Giving a block changes no other record, so the
+// map that was loaded first says which are free.
+pub fn give_blocks(image: &mut [u8], f: usize, s: usize, n: usize, head: &[u8], content: &[u8])
+    requires { ⌜ (length (now image) ≡ imageBytes) × (f < 4096) × (s + n ≤ 4096) ⌝ }
+    ensures { λ _. ⌜ now (image .exit) ≡ imageOf (giveLowest (diskOf (now (image .entry))) f (storedRow (now (head .entry)) (now (content .entry))) s n blocks) ⌝ }
+{
+    let map = load_map(image);
+    let mut given = 0;
+    for b in 0..Geometry::BLOCKS {
+        let m = map_record(&map, BlockNumber(b));
+        let record = m.record;
+        if (given < n) & is_free(record) {
+            give_block(image, b, f, s + given, head, content);
+            given += 1;
+        }
+    }
+}
