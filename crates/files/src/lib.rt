@@ -4,10 +4,12 @@ mod checking;
 mod directory;
 mod header;
 mod map;
+mod track;
 
 pub use checking::check;
 use sectors::BlockNumber;
 use sectors::Reply;
+pub use track::first_track;
 
 // What a map record says: its block is free, the system's, a file's with its sequence, or the record is none of these.
 pub enum Record {
