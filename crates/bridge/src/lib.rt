@@ -5,6 +5,9 @@ ghost use lib.ListN.{length};
 ghost use Rattle.sectors.specs.Geometry.{placed};
 ghost use Rattle.sectors.specs.Packed.{packReply, packHfe};
 ghost use Rattle.sectors.specs.Unpacked.{unpackReply, unpackImage};
+ghost use Rattle.files.specs.Calls as Calls;
+ghost use Rattle.files.specs.FirstTrack.{firstTrack};
+use files::FirstTrack;
 use sectors::Reply;
 
 #[no_mangle]
@@ -26,4 +29,39 @@ pub extern "C" fn dheg_place(block: usize, sector: usize) -> Reply
     ensures { λ r. ⌜ r ≡ placed block sector ⌝ }
 {
     sectors::place(block, sector)
+}
+
+#[no_mangle]
+pub extern "C" fn dheg_format(image: &mut [u8], name: &[u8], number: u16) -> Reply
+    ensures { λ r. ⌜ (r ≡ Calls.format (now (image .entry)) (now (name .entry)) number .answer) × (now (image .exit) ≡ Calls.format (now (image .entry)) (now (name .entry)) number .image) ⌝ }
+{
+    files::format(image, name, number)
+}
+
+#[no_mangle]
+pub extern "C" fn dheg_check(image: &[u8]) -> Reply
+    ensures { λ r. ⌜ r ≡ Calls.check (now (image .entry)) ⌝ }
+{
+    files::check(image)
+}
+
+#[no_mangle]
+pub extern "C" fn dheg_add(image: &mut [u8], name: &[u8], date: u32, data: &[u8]) -> Reply
+    ensures { λ r. ⌜ (r ≡ Calls.add (now (image .entry)) (now (name .entry)) date (now («data» .entry)) .answer) × (now (image .exit) ≡ Calls.add (now (image .entry)) (now (name .entry)) date (now («data» .entry)) .image) ⌝ }
+{
+    files::add(image, name, date, data)
+}
+
+#[no_mangle]
+pub extern "C" fn dheg_remove(image: &mut [u8], name: &[u8]) -> Reply
+    ensures { λ r. ⌜ (r ≡ Calls.remove (now (image .entry)) (now (name .entry)) .answer) × (now (image .exit) ≡ Calls.remove (now (image .entry)) (now (name .entry)) .image) ⌝ }
+{
+    files::remove(image, name)
+}
+
+#[no_mangle]
+pub extern "C" fn dheg_first_track(track: &[u8]) -> FirstTrack
+    ensures { λ r. ⌜ r ≡ firstTrack (now (track .entry)) ⌝ }
+{
+    files::first_track(track)
 }
