@@ -3,10 +3,14 @@ mod blocks;
 mod checking;
 mod directory;
 mod header;
+mod listing;
 mod map;
+mod reading;
 mod track;
 
 pub use checking::check;
+pub use listing::list;
+pub use reading::read;
 use sectors::BlockNumber;
 use sectors::Reply;
 pub use track::first_track;
