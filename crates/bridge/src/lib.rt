@@ -46,6 +46,20 @@ pub extern "C" fn dheg_check(image: &[u8]) -> Reply
 }
 
 #[no_mangle]
+pub extern "C" fn dheg_list(image: &[u8], out: &mut [u8]) -> Reply
+    ensures { λ r. ⌜ (r ≡ Calls.list (now (image .entry)) (now (out .entry)) .answer) × (now (out .exit) ≡ Calls.list (now (image .entry)) (now (out .entry)) .buffer) ⌝ }
+{
+    files::list(image, out)
+}
+
+#[no_mangle]
+pub extern "C" fn dheg_read(image: &[u8], name: &[u8], out: &mut [u8]) -> Reply
+    ensures { λ r. ⌜ (r ≡ Calls.read (now (image .entry)) (now (name .entry)) (now (out .entry)) .answer) × (now (out .exit) ≡ Calls.read (now (image .entry)) (now (name .entry)) (now (out .entry)) .buffer) ⌝ }
+{
+    files::read(image, name, out)
+}
+
+#[no_mangle]
 pub extern "C" fn dheg_add(image: &mut [u8], name: &[u8], date: u32, data: &[u8]) -> Reply
     ensures { λ r. ⌜ (r ≡ Calls.add (now (image .entry)) (now (name .entry)) date (now («data» .entry)) .answer) × (now (image .exit) ≡ Calls.add (now (image .entry)) (now (name .entry)) date (now («data» .entry)) .image) ⌝ }
 {

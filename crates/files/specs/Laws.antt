@@ -7,6 +7,8 @@ pub mod Loaded
 pub mod Slots
 pub mod Sound
 pub mod Track
+pub mod Delivered
+pub mod Ends
 pub mod Names
 pub mod Whole
 pub mod Inner

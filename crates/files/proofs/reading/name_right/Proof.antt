@@ -1,0 +1,14 @@
+-- `name_right` meets its contract.
+-- Assumes nothing.
+use mathlib.Core.Path.{refl}
+use Prim.Native.Nat.{_-_}
+use Rattle.files.specs.Directory.{nameRight}
+use Rattle.files.proofs.reading.name_right.Statement.{statement}
+use Rattle.files.proofs.reading.name_right.Tie as tie
+
+returns : tie.Need-returns
+unfolding nameRight
+returns c = refl
+
+pub name-right-spec : {M : Type 1} → statement M
+name-right-spec = tie.close (tie.spec returns)
