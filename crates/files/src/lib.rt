@@ -7,6 +7,7 @@ mod formatting;
 mod header;
 mod map;
 mod removing;
+mod sizes;
 mod steps;
 mod store;
 

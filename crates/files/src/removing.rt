@@ -13,6 +13,7 @@ use crate::Verdict;
 use crate::checking::judge;
 use crate::directory::find_name;
 use crate::header::dir_end;
+use crate::sizes::NAME_MOST;
 use crate::steps::free_blocks;
 use crate::steps::settle;
 use crate::steps::zero_slot;
@@ -20,9 +21,6 @@ use sectors::Geometry;
 use sectors::Reply;
 use sectors::done;
 use sectors::refused;
-
-// The most bytes of a file's name.
-const NAME_MOST: usize = 36;
 
 // Whether a file's name has 1 to 36 bytes.
 pub fn name_right(name: &[u8]) -> bool

@@ -19,16 +19,14 @@ use Rattle.laws.specs.Order.{by-order}
 use Rattle.laws.specs.Overlay.{put}
 use Rattle.laws.specs.Search.{lowest-le, lowest-low}
 use Rattle.laws.specs.Tab.{tab, tab-ext, getD-past}
-use Rattle.laws.specs.Tests.{lt-true, lt-false, le-true, le-false, false-lt, true-le, eq-true, eq-false, true-eq, true≢false, not-was, cond-true, cond-false, and-true, and-not, orElse}
+use Rattle.laws.specs.Tests.{lt-true, lt-false, le-false, false-lt, true-le, eq-true, eq-false, true-eq, true≢false, cond-true, cond-false, and-true, orElse}
 use Rattle.laws.specs.Truth.{and-left, and-right, by-test}
 use Rattle.sectors.specs.Geometry.{blocks, imageBytes}
 use Rattle.sectors.specs.Replies.{reply, done, refusal}
 use Rattle.sectors.specs.declared.Reply.{Reply}
-use Rattle.files.specs.declared.Entry.{Entry}
 use Rattle.files.specs.declared.Record.{Record}
-use Rattle.files.specs.declared.Record.the-variants.{Free, System, File, Other}
 use Rattle.files.specs.Calls.{Changed, Written, refused, unwritten, unless, imageRight, wrongLength, opensBlock, needed, addAt, addDisk, add, removeAt, removeDisk, remove, imaged}
-use Rattle.files.specs.Check.{partsRight, entryRight, fileRight, fileFault, unborne, newName, refusal8, refusal9, refusal10, refusal11, judged}
+use Rattle.files.specs.Check.{partsRight, entryRight, fileRight, fileFault, newName, refusal8, refusal9, refusal10, refusal11, judged}
 use Rattle.files.specs.Directory.{nameRight, entryFor, slotEntry, held, dirBytes, dirEnd, findName, vacantSlot}
 use Rattle.files.specs.Disk.{Disk, byteOf, diskOf, imageOf}
 use Rattle.files.specs.Laws.Disk.{image-disk}
