@@ -6,6 +6,7 @@ pub mod Loops
 pub mod Loaded
 pub mod Slots
 pub mod Sound
+pub mod Track
 pub mod Names
 pub mod Whole
 pub mod Inner

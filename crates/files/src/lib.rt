@@ -10,6 +10,7 @@ mod removing;
 mod sizes;
 mod steps;
 mod store;
+mod track;
 
 pub use adding::add;
 pub use checking::check;
@@ -17,6 +18,7 @@ pub use formatting::format;
 pub use removing::remove;
 use sectors::BlockNumber;
 use sectors::Reply;
+pub use track::first_track;
 
 // What a map record says: its block is free, the system's, a file's with its sequence, or the record is none of these.
 pub enum Record {

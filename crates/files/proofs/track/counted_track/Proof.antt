@@ -1,0 +1,35 @@
+-- `counted_track` meets its contract.
+-- Assumes nothing.
+use borrow.Author.Needs.{needs}
+use Rattle.files.specs.Laws.Track.{counted-is}
+use Rattle.files.proofs.track.counted_track.Statement.{statement}
+use Rattle.files.proofs.track.counted_track.Tie as tie
+
+free-count-requires : tie.Need-free-count-requires
+free-count-requires c κs = search needs
+
+done-requires : tie.Need-done-requires
+done-requires c κs = search needs
+
+head-word-requires : tie.Need-head-word-requires
+head-word-requires c κs = search needs
+
+head-word-requires-2 : tie.Need-head-word-requires-2
+head-word-requires-2 c κs = search needs
+
+sub-t6 : tie.Need-sub-t6
+sub-t6 c = search needs
+
+returns : tie.Need-returns
+returns c = counted-is _ _ _ _ _ (c .before .before .done .ensures) (c .before .before .before .free-count .ensures .0) (c .before .head-word .ensures .0) (c .head-word2 .ensures .0)
+
+pub counted-track-spec : {M : Type 1} → statement M
+counted-track-spec =
+    tie.close
+    (tie.spec
+    free-count-requires
+    done-requires
+    head-word-requires
+    head-word-requires-2
+    sub-t6
+    returns)

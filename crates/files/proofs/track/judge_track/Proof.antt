@@ -1,0 +1,52 @@
+-- `judge_track` meets its contract.
+-- Assumes nothing.
+use mathlib.Core.Path.{sym, _∙_}
+use borrow.Author.Needs.{needs}
+use Rattle.files.specs.Laws.Track.{track-header, track-map, track-free}
+use Rattle.files.proofs.track.judge_track.Statement.{statement}
+use Rattle.files.proofs.track.judge_track.Tie as tie
+
+judge-header-requires : tie.Need-judge-header-requires
+judge-header-requires c κs = search needs
+
+enum-known-r : tie.Need-enum-known-r
+enum-known-r c = search needs
+
+returns : tie.Need-returns
+returns c = track-header _ _ (sym (c .before .r .given .1) ∙ c .before .before .before .judge-header .ensures)
+
+enum-told : tie.Need-enum-told
+enum-told c = search needs
+
+judge-map-requires : tie.Need-judge-map-requires
+judge-map-requires c κs = search needs
+
+enum-known-r-2 : tie.Need-enum-known-r-2
+enum-known-r-2 c = search needs
+
+enum-told-2 : tie.Need-enum-told-2
+enum-told-2 c = search needs
+
+judge-free-requires : tie.Need-judge-free-requires
+judge-free-requires c κs = search needs
+
+returns-2 : tie.Need-returns-2
+returns-2 c = track-map _ (sym (c .before .before .before .before .enum-told .given .1) ∙ c .before .before .before .before .before .before .judge-header .ensures) _ (sym (c .before .r2 .given .1) ∙ c .before .before .before .judge-map .ensures)
+
+returns-3 : tie.Need-returns-3
+returns-3 c = track-free _ (sym (c .before .before .before .before .enum-told .given .1) ∙ c .before .before .before .before .before .before .judge-header .ensures) _ (c .judge-free .ensures) (sym (c .before .enum-told2 .given .1) ∙ c .before .before .before .judge-map .ensures)
+
+pub judge-track-spec : {M : Type 1} → statement M
+judge-track-spec =
+    tie.close
+    (tie.spec
+    judge-header-requires
+    enum-known-r
+    returns
+    enum-told
+    judge-map-requires
+    enum-known-r-2
+    enum-told-2
+    judge-free-requires
+    returns-2
+    returns-3)

@@ -1,0 +1,75 @@
+// Track 0 alone: the judgements 1, 8, 9 and 11, and three counts. Block 0 lies on it.
+ghost use mathlib.Core.Path.{_≡_};
+ghost use Prim.Native.Nat.{_≤_};
+ghost use lib.ListN.{length};
+ghost use Rattle.laws.specs.Tests.{orElse};
+ghost use Rattle.files.specs.Disk.{diskOf};
+ghost use Rattle.files.specs.Check.{refusal8, refusal9, refusal11};
+ghost use Rattle.files.specs.FirstTrack as Tracks;
+ghost use Rattle.files.specs.Laws.Verdict.{verdictOf};
+use crate::FirstTrack;
+use crate::Verdict;
+use crate::checking::judge_free;
+use crate::checking::judge_map;
+use crate::header::head_word;
+use crate::header::judge_header;
+use crate::map::free_count;
+use sectors::Geometry;
+use sectors::Reply;
+use sectors::done;
+use sectors::refused;
+
+const TRACK_BYTES: usize = Geometry::TRACK_SECTORS * Geometry::SECTOR_BYTES;
+
+// A refusal has no counts.
+fn refused_track(reply: Reply) -> FirstTrack
+    ensures { λ r. ⌜ r ≡ Tracks.refusedTrack reply ⌝ }
+{
+    FirstTrack {
+        reply,
+        free: 0,
+        good: 0,
+        held: 0,
+    }
+}
+
+// The free word, the good word, and the records that are not free.
+fn counted_track(track: &[u8]) -> FirstTrack
+    ensures { λ r. ⌜ r ≡ Tracks.counted (diskOf (now (track .entry))) ⌝ }
+{
+    let free = free_count(track);
+    FirstTrack {
+        reply: done(),
+        free: head_word(track, 20),
+        good: head_word(track, 22),
+        held: Geometry::BLOCKS - free,
+    }
+}
+
+// The judgements 8, 9 and 11, in order.
+fn judge_track(track: &[u8]) -> Verdict
+    requires { ⌜ 512 ≤ length (now track) ⌝ }
+    ensures { λ r. ⌜ r ≡ verdictOf (orElse (refusal8 (diskOf (now (track .entry)))) (orElse (refusal9 (diskOf (now (track .entry)))) (refusal11 (diskOf (now (track .entry)))))) ⌝ }
+{
+    match judge_header(track) {
+        Verdict::Refused(r) => return Verdict::Refused(r),
+        Verdict::Passed => {}
+    }
+    match judge_map(track) {
+        Verdict::Refused(r) => Verdict::Refused(r),
+        Verdict::Passed => judge_free(track),
+    }
+}
+
+// Judges the first track of a disk.
+pub fn first_track(track: &[u8]) -> FirstTrack
+    ensures { λ r. ⌜ r ≡ Tracks.firstTrack (now (track .entry)) ⌝ }
+{
+    if track.len() != TRACK_BYTES {
+        return refused_track(refused(1, 2));
+    }
+    match judge_track(track) {
+        Verdict::Refused(r) => refused_track(r),
+        Verdict::Passed => counted_track(track),
+    }
+}
