@@ -7,6 +7,7 @@ pub mod Loaded
 pub mod Slots
 pub mod Sound
 pub mod Track
+pub mod Delivered
 pub mod Names
 pub mod Whole
 pub mod Inner
@@ -26,6 +27,7 @@ pub mod Stored
 pub mod Steps
 pub mod Given
 pub mod Changed
+pub mod Ends
 pub mod Judged
 pub mod Fresh
 pub mod History

@@ -20,7 +20,7 @@ use crate::directory::find_name;
 use crate::directory::vacant_slot;
 use crate::header::dir_end;
 use crate::map::free_count;
-use crate::removing::name_right;
+use crate::reading::name_right;
 use crate::sizes::BLOCK_BYTES;
 use crate::sizes::BLOCK_SLOTS;
 use crate::sizes::SLOT_BYTES;

@@ -63,10 +63,6 @@ given-written l₀ l₁ l₂ b g r p q =
 
 -- ---- freed
 
-pub not-was-not : (b : Bool) → not b ≡ false → b ≡ true
-not-was-not true e = refl
-not-was-not false e = sym e
-
 pub freed-not : (l : List ℕ) (f b : ℕ) → length l ≡ imageBytes → bears f (recordAt (diskOf l) b) ≡ false → l ≡ imageOf (freeBlock (diskOf l) f b)
 unfolding freeBlock
 freed-not l f b e t = sym (image-disk l e) ∙ ap imageOf (sym (cond-false _ _ t))

@@ -81,13 +81,13 @@ free-apart k (File f s) = refl
 
 -- ---- a file's blocks are as many as its parts
 
-pub partBelow : ℕ → ℕ → Record → Bool
+partBelow : ℕ → ℕ → Record → Bool
 partBelow k n Free = false
 partBelow k n System = false
 partBelow k n Other = false
 partBelow k n (File f s) = ((eqb f k) && (ltb s n))
 
-pub below-suc : (k n : ℕ) (r : Record) → partBelow k (suc n) r ≡ ((partBelow k n r) || (isPart k n r))
+below-suc : (k n : ℕ) (r : Record) → partBelow k (suc n) r ≡ ((partBelow k n r) || (isPart k n r))
 unfolding partBelow isPart
 below-suc k n Free = refl
 below-suc k n System = refl
@@ -104,7 +104,7 @@ below-suc k n (File f s) =
     ∙ sym (or-none A B (and-false-right (eqb f k) (lt-false h)) (and-false-right (eqb f k) (eq-false q))))))
     (λ t. and-false-left (ltb s (suc n)) t ∙ sym (or-none A B (and-false-left (ltb s n) t) (and-false-left (eqb s n) t)))
 
-pub below-apart : (k n : ℕ) (r : Record) → ((partBelow k n r) && (isPart k n r)) ≡ false
+below-apart : (k n : ℕ) (r : Record) → ((partBelow k n r) && (isPart k n r)) ≡ false
 unfolding partBelow isPart
 below-apart k n Free = refl
 below-apart k n System = refl
@@ -114,7 +114,7 @@ below-apart k n (File f s) =
     (λ q. and-false-left _ (and-false-right (eqb f k) (lt-false {a = s} {b = n} (omega arith))))
     (λ q. and-false-right ((eqb f k) && (ltb s n)) (and-false-right (eqb f k) (eq-false q)))
 
-pub below-none : (k : ℕ) (r : Record) → partBelow k 0 r ≡ false
+below-none : (k : ℕ) (r : Record) → partBelow k 0 r ≡ false
 unfolding partBelow
 below-none k Free = refl
 below-none k System = refl

@@ -3,8 +3,8 @@
 use mathlib.Core.Path.{refl}
 use Prim.Native.Nat.{_-_}
 use Rattle.files.specs.Directory.{nameRight}
-use Rattle.files.proofs.removing.name_right.Statement.{statement}
-use Rattle.files.proofs.removing.name_right.Tie as tie
+use Rattle.files.proofs.reading.name_right.Statement.{statement}
+use Rattle.files.proofs.reading.name_right.Tie as tie
 
 returns : tie.Need-returns
 unfolding nameRight

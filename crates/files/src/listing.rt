@@ -1,0 +1,98 @@
+// The list of the held entries.
+ghost use mathlib.Core.Path.{_≡_};
+ghost use Prim.Native.Nat.{ℕ, _+_, _*_, _≤_, _<_};
+ghost use lib.ListN.{length};
+ghost use Rattle.laws.specs.Count.{count};
+ghost use Rattle.laws.specs.Overlay.{overlay, put};
+ghost use Rattle.laws.specs.Tab.{elementAt};
+ghost use Rattle.files.specs.Disk.{diskOf};
+ghost use Rattle.files.specs.Directory.{held, dirEnd};
+ghost use Rattle.files.specs.Calls as Calls;
+ghost use Rattle.files.specs.Laws.Slots.{Located};
+ghost use Rattle.files.specs.Laws.Delivered.{slotPart};
+use crate::Verdict;
+use crate::checking::judge;
+use crate::directory::held_slot;
+use crate::directory::load_dir;
+use crate::directory::slot_place;
+use crate::header::dir_end;
+use sectors::Geometry;
+use sectors::Reply;
+use sectors::refused;
+
+const SLOT_BYTES: usize = 64;
+
+// How many slots below the end are held.
+fn count_held(image: &[u8], dir: &[usize; 480], end: usize) -> usize
+    requires { ⌜ (length (now image) ≡ 737280) × (end ≤ 11520) × Located (now dir) (diskOf (now image)) ⌝ }
+    ensures { λ r. ⌜ (r ≡ count end (held (diskOf (now (image .entry))))) × (r ≤ 11520) ⌝ }
+{
+    let mut n = 0;
+    for k in 0..end {
+        if held_slot(image, dir, k) {
+            n += 1;
+        }
+    }
+    n
+}
+
+// Copies the 64 bytes at a place of the image to the place c of the buffer.
+fn copy_slot(image: &[u8], at: usize, out: &mut [u8], c: usize)
+    requires { ⌜ c + 64 ≤ length (now out) ⌝ }
+    ensures { λ _. ⌜ now (out .exit) ≡ overlay (now (out .entry)) c 64 (elementAt (now (image .entry)) at) ⌝ }
+{
+    for i in 0..SLOT_BYTES {
+        out[c + i] = fields::byte(image, at, i);
+    }
+}
+
+// Writes slot k at c if it is held, and says where the next one goes.
+fn list_slot(image: &[u8], dir: &[usize; 480], k: usize, out: &mut [u8], c: usize) -> usize
+    requires { ⌜ (length (now image) ≡ 737280) × (k < 11520) × Located (now dir) (diskOf (now image)) × (c + length (slotPart (diskOf (now image)) k) ≤ length (now out)) ⌝ }
+    ensures { λ r. ⌜ (r ≡ c + length (slotPart (diskOf (now (image .entry))) k)) × (now (out .exit) ≡ put (now (out .entry)) c (slotPart (diskOf (now (image .entry))) k)) ⌝ }
+{
+    if held_slot(image, dir, k) {
+        copy_slot(image, slot_place(dir, k), out, c);
+        return c + SLOT_BYTES;
+    }
+    c
+}
+
+// Writes the held slots below the end, one after the other.
+fn list_slots(image: &[u8], dir: &[usize; 480], end: usize, out: &mut [u8])
+    requires { ⌜ (length (now image) ≡ 737280) × (end ≤ 11520) × Located (now dir) (diskOf (now image)) × (length (Calls.entries (diskOf (now image)) end) ≤ length (now out)) ⌝ }
+    ensures { λ _. ⌜ now (out .exit) ≡ put (now (out .entry)) 0 (Calls.entries (diskOf (now (image .entry))) end) ⌝ }
+{
+    let mut c = 0;
+    for k in 0..end {
+        c = list_slot(image, dir, k, out, c);
+    }
+}
+
+// Lists a sound disk, or 16.
+fn list_sound(image: &[u8], out: &mut [u8]) -> Reply
+    requires { ⌜ (length (now image) ≡ 737280) × (dirEnd (diskOf (now image)) ≤ 11520) ⌝ }
+    ensures { λ r. ⌜ (r ≡ Calls.deliver (Calls.entries (diskOf (now (image .entry))) (dirEnd (diskOf (now (image .entry))))) (now (out .entry)) .answer) × (now (out .exit) ≡ Calls.deliver (Calls.entries (diskOf (now (image .entry))) (dirEnd (diskOf (now (image .entry))))) (now (out .entry)) .buffer) ⌝ }
+{
+    let dir = load_dir(image);
+    let end = dir_end(image);
+    let needed = SLOT_BYTES * count_held(image, &dir, end);
+    if out.len() < needed {
+        return refused(16, needed);
+    }
+    list_slots(image, &dir, end, out);
+    refused(0, needed)
+}
+
+// Lists the held entries, 64 bytes each; a refusal leaves the buffer as it was.
+pub fn list(image: &[u8], out: &mut [u8]) -> Reply
+    ensures { λ r. ⌜ (r ≡ Calls.list (now (image .entry)) (now (out .entry)) .answer) × (now (out .exit) ≡ Calls.list (now (image .entry)) (now (out .entry)) .buffer) ⌝ }
+{
+    if image.len() != Geometry::IMAGE_BYTES {
+        return refused(1, 2);
+    }
+    match judge(image) {
+        Verdict::Refused(r) => r,
+        Verdict::Passed => list_sound(image, out),
+    }
+}

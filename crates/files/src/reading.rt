@@ -1,0 +1,137 @@
+// A file's data, by its name.
+ghost use mathlib.Core.Path.{_≡_};
+ghost use Prim.Native.Nat.{ℕ, _+_, _-_, _%_, _≤_, _<_, _^_};
+ghost use lib.ListN.{length};
+ghost use Rattle.laws.specs.Overlay.{overlay};
+ghost use Rattle.files.specs.Disk.{diskOf};
+ghost use Rattle.files.specs.Map.{fileByte};
+ghost use Rattle.files.specs.Directory.{nameRight, slotEntry, dirEnd};
+ghost use Rattle.files.specs.Calls as Calls;
+ghost use Rattle.files.specs.Laws.Delivered.{readSound, runPlace};
+use crate::Verdict;
+use crate::blocks::byte_place;
+use crate::checking::judge;
+use crate::directory::find_name;
+use crate::directory::load_dir;
+use crate::directory::read_entry;
+use crate::directory::slot_place;
+use crate::header::dir_end;
+use crate::map::load_map;
+use crate::map::part_block;
+use sectors::Geometry;
+use sectors::Reply;
+use sectors::refused;
+
+const BLOCK_BYTES: usize = Geometry::BLOCK_SECTORS * Geometry::SECTOR_BYTES;
+
+const SLOT_BYTES: usize = 64;
+
+// Whether a file's name has 1 to 36 bytes.
+pub fn name_right(name: &[u8]) -> bool
+    ensures { λ r. ⌜ r ≡ nameRight (now (name .entry)) ⌝ }
+{
+    (1 <= name.len()) & (name.len() <= 36)
+}
+
+// The bytes of data of the file in slot k.
+fn data_length(image: &[u8], k: usize) -> usize
+    requires { ⌜ (length (now image) ≡ 737280) × (k < 11520) ⌝ }
+    ensures { λ r. ⌜ (r ≡ slotEntry (diskOf (now (image .entry))) k .length - 64) × (r < 2 ^ 32) ⌝ }
+{
+    let dir = load_dir(image);
+    let e = read_entry(image, slot_place(&dir, k));
+    let length = e.length as usize;
+    if length < SLOT_BYTES {
+        0
+    } else {
+        length - SLOT_BYTES
+    }
+}
+
+// How many bytes can be copied from offset o of a block on: to its sector's end, and n at most.
+fn run_length(o: usize, n: usize) -> usize
+    requires { ⌜ 0 < n ⌝ }
+    ensures { λ r. ⌜ (0 < r) × (r ≤ n) × (o % 512 + r ≤ 512) ⌝ }
+{
+    let room = Geometry::SECTOR_BYTES - o % Geometry::SECTOR_BYTES;
+    if room < n { room } else { n }
+}
+
+// Where offset o of block b stands in the image; its end, where there is no such block.
+fn run_place(b: usize, o: usize) -> usize
+    requires { ⌜ o < 1536 ⌝ }
+    ensures { λ r. ⌜ r ≡ runPlace b o ⌝ }
+{
+    if b < Geometry::BLOCKS {
+        return byte_place(b, o);
+    }
+    Geometry::IMAGE_BYTES
+}
+
+// Copies n bytes of block b from offset o on, which lie in one sector, to the place c of the buffer.
+fn copy_run(image: &[u8], b: usize, o: usize, n: usize, out: &mut [u8], c: usize)
+    requires { ⌜ (length (now image) ≡ 737280) × (o < 1536) × (o % 512 + n ≤ 512) × (c + n ≤ length (now out)) ⌝ }
+    ensures { λ _. ⌜ now (out .exit) ≡ overlay (now (out .entry)) c n (λ (j : ℕ). diskOf (now (image .entry)) b (o + j)) ⌝ }
+{
+    let at = run_place(b, o);
+    for j in 0..n {
+        out[c + j] = fields::byte(image, at, j);
+    }
+}
+
+// Copies n bytes of the file in slot k, those after its first 64, to the buffer, sector by sector.
+fn copy_data(image: &[u8], k: usize, n: usize, out: &mut [u8])
+    requires { ⌜ (length (now image) ≡ 737280) × (n < 2 ^ 32) × (n ≤ length (now out)) ⌝ }
+    ensures { λ _. ⌜ now (out .exit) ≡ overlay (now (out .entry)) 0 n (λ (i : ℕ). fileByte (diskOf (now (image .entry))) k (64 + i)) ⌝ }
+{
+    let map = load_map(image);
+    let mut i = 0;
+    while i < n {
+        let at = SLOT_BYTES + i;
+        let b = part_block(&map, k, at / BLOCK_BYTES);
+        let run = run_length(at % BLOCK_BYTES, n - i);
+        copy_run(image, b, at % BLOCK_BYTES, run, out, i);
+        i += run;
+    }
+}
+
+// Reads the file in slot k, or 16.
+fn read_slot(image: &[u8], k: usize, out: &mut [u8]) -> Reply
+    requires { ⌜ (length (now image) ≡ 737280) × (k < 11520) ⌝ }
+    ensures { λ r. ⌜ (r ≡ Calls.deliver (Calls.dataOf (diskOf (now (image .entry))) k) (now (out .entry)) .answer) × (now (out .exit) ≡ Calls.deliver (Calls.dataOf (diskOf (now (image .entry))) k) (now (out .entry)) .buffer) ⌝ }
+{
+    let needed = data_length(image, k);
+    if out.len() < needed {
+        return refused(16, needed);
+    }
+    copy_data(image, k, needed, out);
+    refused(0, needed)
+}
+
+// Reads a file of a sound disk, or 12, 14 or 16.
+fn read_sound(image: &[u8], name: &[u8], out: &mut [u8]) -> Reply
+    requires { ⌜ (length (now image) ≡ 737280) × (dirEnd (diskOf (now image)) ≤ 11520) ⌝ }
+    ensures { λ r. ⌜ (r ≡ readSound (diskOf (now (image .entry))) (now (name .entry)) (now (out .entry)) .answer) × (now (out .exit) ≡ readSound (diskOf (now (image .entry))) (now (name .entry)) (now (out .entry)) .buffer) ⌝ }
+{
+    if !name_right(name) {
+        return refused(12, 0);
+    }
+    let k = find_name(image, name);
+    if dir_end(image) <= k {
+        return refused(14, 0);
+    }
+    read_slot(image, k, out)
+}
+
+// Reads a file's data; a refusal leaves the buffer as it was.
+pub fn read(image: &[u8], name: &[u8], out: &mut [u8]) -> Reply
+    ensures { λ r. ⌜ (r ≡ Calls.read (now (image .entry)) (now (name .entry)) (now (out .entry)) .answer) × (now (out .exit) ≡ Calls.read (now (image .entry)) (now (name .entry)) (now (out .entry)) .buffer) ⌝ }
+{
+    if image.len() != Geometry::IMAGE_BYTES {
+        return refused(1, 2);
+    }
+    match judge(image) {
+        Verdict::Refused(r) => r,
+        Verdict::Passed => read_sound(image, name, out),
+    }
+}
