@@ -6,6 +6,7 @@ mod header;
 mod listing;
 mod map;
 mod reading;
+mod sizes;
 mod track;
 
 pub use checking::check;
