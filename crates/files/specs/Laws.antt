@@ -8,7 +8,6 @@ pub mod Slots
 pub mod Sound
 pub mod Track
 pub mod Delivered
-pub mod Ends
 pub mod Names
 pub mod Whole
 pub mod Inner
@@ -28,6 +27,7 @@ pub mod Stored
 pub mod Steps
 pub mod Given
 pub mod Changed
+pub mod Ends
 pub mod Judged
 pub mod Fresh
 pub mod History

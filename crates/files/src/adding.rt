@@ -1,7 +1,7 @@
 // Add: a file's blocks and slot are written, and the directory grows where its end is taken.
 ghost use mathlib.Core.Path.{_≡_};
 ghost use mathlib.Core.Option.{none};
-ghost use Prim.Native.Nat.{_<_, _≤_, _^_};
+ghost use Prim.Native.Nat.{_<_, _≤_};
 ghost use lib.Dec.{leb};
 ghost use lib.ListN.{length};
 ghost use Rattle.sectors.specs.Geometry.{imageBytes};
@@ -20,7 +20,10 @@ use crate::directory::find_name;
 use crate::directory::vacant_slot;
 use crate::header::dir_end;
 use crate::map::free_count;
-use crate::removing::name_right;
+use crate::reading::name_right;
+use crate::sizes::BLOCK_BYTES;
+use crate::sizes::BLOCK_SLOTS;
+use crate::sizes::SLOT_BYTES;
 use crate::steps::entry_bytes;
 use crate::steps::give_blocks;
 use crate::steps::set_end;
@@ -30,13 +33,6 @@ use sectors::Geometry;
 use sectors::Reply;
 use sectors::done;
 use sectors::refused;
-
-// The bytes of a block and of a slot, and the slots of a block.
-const BLOCK_BYTES: usize = Geometry::BLOCK_SECTORS * Geometry::SECTOR_BYTES;
-
-const SLOT_BYTES: usize = 64;
-
-const BLOCK_SLOTS: usize = BLOCK_BYTES / SLOT_BYTES;
 
 // The blocks of a file with so many bytes of data: its first 64 bytes are counted too.
 fn blocks_for(size: usize) -> usize

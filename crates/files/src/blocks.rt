@@ -1,13 +1,11 @@
 // Bytes and numbers of the disk in block order, read from the block image through the placement.
 ghost use mathlib.Core.Path.{_≡_};
-ghost use Prim.Native.Nat.{_+_, _<_, _^_};
+ghost use Prim.Native.Nat.{_<_, _^_};
 ghost use Rattle.laws.specs.Numbers.{at16, at32};
 ghost use Rattle.files.specs.Disk.{byteOf, diskOf};
+use crate::sizes::BLOCK_BYTES;
 use sectors::BlockNumber;
 use sectors::Geometry;
-
-// The bytes of a block.
-const BLOCK_BYTES: usize = Geometry::BLOCK_SECTORS * Geometry::SECTOR_BYTES;
 
 // Where byte o of block b stands in the image.
 pub fn byte_place(b: usize, o: usize) -> usize

@@ -1,15 +1,14 @@
 // Whether the disk is sound: the judgements 8 to 11 that check, list, read, add and remove make first.
 ghost use mathlib.Core.Path.{_≡_};
 ghost use mathlib.Core.Bool.{not, _&&_};
-ghost use Prim.Native.Nat.{ℕ, _+_, _≤_, _<_, _^_};
+ghost use Prim.Native.Nat.{ℕ, _≤_, _<_, _^_};
 ghost use lib.Dec.{ltb, eqb};
 ghost use lib.ListN.{length, take};
 ghost use Rattle.laws.specs.Below.{all};
 ghost use Rattle.laws.specs.Count.{count};
 ghost use Rattle.laws.specs.Numbers.{up};
-ghost use Rattle.sectors.specs.Geometry.{imageBytes};
 ghost use Rattle.files.specs.Disk.{diskOf};
-ghost use Rattle.files.specs.Map.{isPart, within, bears};
+ghost use Rattle.files.specs.Map.{isPart, within};
 ghost use Rattle.files.specs.Directory.{nameEq, slotName, held, dirEnd};
 ghost use Rattle.files.specs.Check.{entryRight, fileRight, fileFault, refusal9, refusal10, refusal11, judged};
 ghost use Rattle.files.specs.Calls as Calls;
@@ -33,20 +32,15 @@ use crate::map::is_part;
 use crate::map::load_map;
 use crate::map::map_fault;
 use crate::map::map_record;
+use crate::sizes::BLOCK_BYTES;
+use crate::sizes::NAME_MOST;
+use crate::sizes::SLOT_BYTES;
+use crate::sizes::SLOT_COUNT;
 use sectors::BlockNumber;
 use sectors::Geometry;
 use sectors::Reply;
 use sectors::done;
 use sectors::refused;
-
-const BLOCK_BYTES: usize = Geometry::BLOCK_SECTORS * Geometry::SECTOR_BYTES;
-
-const SLOT_BYTES: usize = 64;
-
-const NAME_MOST: usize = 36;
-
-// The slots of a directory that has every block.
-const SLOT_COUNT: usize = Geometry::BLOCKS * (BLOCK_BYTES / SLOT_BYTES);
 
 // The blocks that so many bytes take.
 fn blocks_of(bytes: usize) -> usize

@@ -1,7 +1,7 @@
 // The directory: where its slots stand in the image, what they hold, and the search for a name.
 ghost use mathlib.Core.Path.{_≡_};
-ghost use mathlib.Core.Bool.{not, _&&_};
-ghost use Prim.Native.Nat.{ℕ, _+_, _≤_, _<_, min};
+ghost use mathlib.Core.Bool.{_&&_};
+ghost use Prim.Native.Nat.{ℕ, _≤_, _<_, min};
 ghost use lib.Dec.{eqb};
 ghost use lib.ListN.{length};
 ghost use Rattle.laws.specs.Below.{all};
@@ -15,14 +15,10 @@ use crate::blocks::byte_place;
 use crate::header::dir_end;
 use crate::map::load_map;
 use crate::map::part_block;
+use crate::sizes::BLOCK_SLOTS;
+use crate::sizes::NAME_MOST;
+use crate::sizes::SLOT_BYTES;
 use sectors::Geometry;
-
-// The bytes of a slot, the slots of a block, and the bytes that a name has room for.
-const SLOT_BYTES: usize = 64;
-
-const BLOCK_SLOTS: usize = Geometry::BLOCK_SECTORS * Geometry::SECTOR_BYTES / SLOT_BYTES;
-
-const NAME_MOST: usize = 36;
 
 // The directory's blocks in sequence; the number of blocks where there is none.
 pub fn dir_blocks(map: &[u32; 480]) -> [usize; 480]

@@ -10,6 +10,8 @@ ghost use Rattle.files.specs.Calls as Calls;
 ghost use Rattle.files.specs.Calls.{freshOwner, formatDisk};
 ghost use Rattle.files.specs.Laws.Fresh.{titled, sized, started, freshHeader, mapped};
 use crate::Record;
+use crate::sizes::SLOT_BYTES;
+use crate::sizes::TITLE_MOST;
 use crate::steps::set_record;
 use crate::store::put_bytes;
 use sectors::BACKWARD;
@@ -18,9 +20,6 @@ use sectors::Reply;
 use sectors::SIDE_PLACE;
 use sectors::done;
 use sectors::refused;
-
-// The most bytes of a disk's name.
-const TITLE_MOST: usize = 10;
 
 // What pads the name.
 const SPACE: u8 = 32;
@@ -62,7 +61,7 @@ fn put_start(head: &mut [u8])
         (Geometry::BLOCK_SECTORS * (Geometry::BLOCKS - 2)) as u16,
     );
     fields::put_high2(head, 34, 0);
-    fields::put_high2(head, 36, 64);
+    fields::put_high2(head, 36, SLOT_BYTES as u16);
 }
 
 // The header of a fresh disk.

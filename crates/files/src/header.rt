@@ -1,6 +1,5 @@
 // The header of the disk, and refusal 8.
 ghost use mathlib.Core.Path.{_≡_};
-ghost use mathlib.Core.Bool.{_&&_};
 ghost use Prim.Native.Nat.{_≤_, _<_, _^_};
 ghost use lib.Dec.{eqb};
 ghost use lib.ListN.{length};
@@ -12,6 +11,8 @@ ghost use Rattle.files.specs.Check.{lengthRight, headerFault, refusal8};
 ghost use Rattle.files.specs.Laws.Verdict.{faultOf, sizesFault, verdictOf};
 use crate::Verdict;
 use crate::blocks::block_word2;
+use crate::sizes::BLOCK_BYTES;
+use crate::sizes::SLOT_BYTES;
 use sectors::BACKWARD;
 use sectors::Fault;
 use sectors::Geometry;
@@ -19,11 +20,6 @@ use sectors::SIDE_PLACE;
 use sectors::or_fault;
 use sectors::refused;
 use sectors::wrong_at;
-
-// The bytes of a block, and of a directory slot.
-const BLOCK_BYTES: usize = Geometry::BLOCK_SECTORS * Geometry::SECTOR_BYTES;
-
-const SLOT_BYTES: usize = 64;
 
 // The number in two bytes of block 0.
 pub fn head_word(image: &[u8], o: usize) -> usize

@@ -9,6 +9,7 @@ mod listing;
 mod map;
 mod reading;
 mod removing;
+mod sizes;
 mod steps;
 mod store;
 mod track;

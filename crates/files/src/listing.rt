@@ -1,6 +1,6 @@
 // The list of the held entries.
 ghost use mathlib.Core.Path.{_≡_};
-ghost use Prim.Native.Nat.{ℕ, _+_, _*_, _≤_, _<_};
+ghost use Prim.Native.Nat.{_+_, _≤_, _<_};
 ghost use lib.ListN.{length};
 ghost use Rattle.laws.specs.Count.{count};
 ghost use Rattle.laws.specs.Overlay.{overlay, put};
@@ -16,11 +16,10 @@ use crate::directory::held_slot;
 use crate::directory::load_dir;
 use crate::directory::slot_place;
 use crate::header::dir_end;
+use crate::sizes::SLOT_BYTES;
 use sectors::Geometry;
 use sectors::Reply;
 use sectors::refused;
-
-const SLOT_BYTES: usize = 64;
 
 // How many slots below the end are held.
 fn count_held(image: &[u8], dir: &[usize; 480], end: usize) -> usize

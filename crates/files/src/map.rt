@@ -1,7 +1,6 @@
-// The map of the disk: its records, what they are asked, and refusal 9.
+// The map of the disk: its records, what they are asked, and the lowest at fault.
 ghost use mathlib.Core.Path.{_≡_};
 ghost use Prim.Native.Nat.{ℕ, _≤_, _<_};
-ghost use lib.ListN.{length};
 ghost use Rattle.laws.specs.Lowest.{lowest};
 ghost use Rattle.laws.specs.Count.{count};
 ghost use Rattle.files.specs.Disk.{diskOf};
@@ -11,13 +10,10 @@ ghost use Rattle.files.specs.Laws.Loaded.{recordOf, recordIn, mapRecordI
 use crate::MapRecord;
 use crate::Record;
 use crate::blocks::block_byte;
+use crate::sizes::MAP_START;
+use crate::sizes::RECORD_BYTES;
 use sectors::BlockNumber;
 use sectors::Geometry;
-
-// Where the map begins in block 0, and the bytes of a record.
-const MAP_START: usize = 96;
-
-const RECORD_BYTES: usize = 3;
 
 fn wide(x: u8) -> u32
     ensures { λ r. ⌜ (r ≡ x) × (r < 256) ⌝ }

@@ -18,19 +18,18 @@ use crate::directory::slot_place;
 use crate::header::dir_end;
 use crate::map::load_map;
 use crate::map::part_block;
+use crate::sizes::BLOCK_BYTES;
+use crate::sizes::NAME_MOST;
+use crate::sizes::SLOT_BYTES;
 use sectors::Geometry;
 use sectors::Reply;
 use sectors::refused;
-
-const BLOCK_BYTES: usize = Geometry::BLOCK_SECTORS * Geometry::SECTOR_BYTES;
-
-const SLOT_BYTES: usize = 64;
 
 // Whether a file's name has 1 to 36 bytes.
 pub fn name_right(name: &[u8]) -> bool
     ensures { λ r. ⌜ r ≡ nameRight (now (name .entry)) ⌝ }
 {
-    (1 <= name.len()) & (name.len() <= 36)
+    (1 <= name.len()) & (name.len() <= NAME_MOST)
 }
 
 // The bytes of data of the file in slot k.

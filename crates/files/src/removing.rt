@@ -4,7 +4,6 @@ ghost use mathlib.Core.Option.{none};
 ghost use lib.ListN.{length};
 ghost use Rattle.sectors.specs.Geometry.{imageBytes};
 ghost use Rattle.files.specs.Disk.{diskOf, imageOf};
-ghost use Rattle.files.specs.Directory.{nameRight};
 ghost use Rattle.files.specs.Check.{judged};
 ghost use Rattle.files.specs.Calls as Calls;
 ghost use Rattle.files.specs.Calls.{removeAt, removeDisk};
@@ -13,6 +12,7 @@ use crate::Verdict;
 use crate::checking::judge;
 use crate::directory::find_name;
 use crate::header::dir_end;
+use crate::reading::name_right;
 use crate::steps::free_blocks;
 use crate::steps::settle;
 use crate::steps::zero_slot;
@@ -20,16 +20,6 @@ use sectors::Geometry;
 use sectors::Reply;
 use sectors::done;
 use sectors::refused;
-
-// The most bytes of a file's name.
-const NAME_MOST: usize = 36;
-
-// Whether a file's name has 1 to 36 bytes.
-pub fn name_right(name: &[u8]) -> bool
-    ensures { λ r. ⌜ r ≡ nameRight (now (name .entry)) ⌝ }
-{
-    (1 <= name.len()) & (name.len() <= NAME_MOST)
-}
 
 // The file of slot k is removed; the directory keeps its length.
 fn remove_at(image: &mut [u8], k: usize)

@@ -1,8 +1,7 @@
 // The single steps of format, add and remove on the block image.
 ghost use mathlib.Core.Path.{_≡_};
-ghost use mathlib.Core.Bool.{cond};
-ghost use Prim.Native.Nat.{ℕ, _+_, _-_, _/_, _<_, _≤_, _^_};
-ghost use lib.ListN.{length, getD};
+ghost use Prim.Native.Nat.{_+_, _-_, _/_, _<_, _≤_, _^_};
+ghost use lib.ListN.{length};
 ghost use Rattle.laws.specs.Tab.{tab};
 ghost use Rattle.sectors.specs.Geometry.{blocks, imageBytes};
 ghost use Rattle.files.specs.Sizes.{slotBytes, blockSlots};
@@ -23,6 +22,11 @@ use crate::map::load_record;
 use crate::map::map_record;
 use crate::map::part_block;
 use crate::map::record_of;
+use crate::sizes::BLOCK_BYTES;
+use crate::sizes::BLOCK_SLOTS;
+use crate::sizes::MAP_START;
+use crate::sizes::RECORD_BYTES;
+use crate::sizes::SLOT_BYTES;
 use crate::store::put_bytes;
 use crate::store::put_word2;
 use crate::store::put_word4;
@@ -30,19 +34,6 @@ use crate::store::set_byte;
 use crate::store::zero_bytes;
 use sectors::BlockNumber;
 use sectors::Geometry;
-
-// The bytes of a block, and of a directory slot.
-const BLOCK_BYTES: usize = Geometry::BLOCK_SECTORS * Geometry::SECTOR_BYTES;
-
-const SLOT_BYTES: usize = 64;
-
-// The slots of a block.
-const BLOCK_SLOTS: usize = BLOCK_BYTES / SLOT_BYTES;
-
-// Where the map begins in block 0, and the bytes of a record.
-const MAP_START: usize = 96;
-
-const RECORD_BYTES: usize = 3;
 
 // The three bytes of a record.
 fn record_bytes(r: Record) -> [u8; 3]

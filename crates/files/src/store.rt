@@ -8,10 +8,8 @@ ghost use Rattle.files.specs.Sizes.{blockBytes};
 ghost use Rattle.files.specs.Disk.{diskOf, imageOf, setByte};
 ghost use Rattle.files.specs.Laws.Stored.{patched};
 use crate::blocks::byte_place;
+use crate::sizes::BLOCK_BYTES;
 use sectors::Geometry;
-
-// The bytes of a block.
-const BLOCK_BYTES: usize = Geometry::BLOCK_SECTORS * Geometry::SECTOR_BYTES;
 
 // Byte o of block b becomes v; where there is no such byte, nothing is written.
 pub fn set_byte(image: &mut [u8], b: usize, o: usize, v: u8)

@@ -14,12 +14,11 @@ use crate::checking::judge_map;
 use crate::header::head_word;
 use crate::header::judge_header;
 use crate::map::free_count;
+use crate::sizes::TRACK_BYTES;
 use sectors::Geometry;
 use sectors::Reply;
 use sectors::done;
 use sectors::refused;
-
-const TRACK_BYTES: usize = Geometry::TRACK_SECTORS * Geometry::SECTOR_BYTES;
 
 // A refusal has no counts.
 fn refused_track(reply: Reply) -> FirstTrack

@@ -79,17 +79,17 @@ parts-most d f n t =
 
 -- ---- what a disk without a refusal has
 
-or-none-left : {A : Type 0} (a b : Option A) → orElse a b ≡ none → a ≡ none
+pub or-none-left : {A : Type 0} (a b : Option A) → orElse a b ≡ none → a ≡ none
 unfolding orElse
 or-none-left none b e = refl
 or-none-left (some x) b e = e
 
-or-none-right : {A : Type 0} (a b : Option A) → orElse a b ≡ none → b ≡ none
+pub or-none-right : {A : Type 0} (a b : Option A) → orElse a b ≡ none → b ≡ none
 unfolding orElse
 or-none-right none b e = e
 or-none-right (some x) b e = let z : _≡_ {A = ℕ} 0 1 = cc in absurd (omega arith)
 
-files-right : (d : Disk) → refusal10 d ≡ none → slotCount ≤ fileFault d
+pub files-right : (d : Disk) → refusal10 d ≡ none → slotCount ≤ fileFault d
 unfolding refusal10
 files-right d e =
     by-order (fileFault d) slotCount

@@ -2,33 +2,32 @@
 -- Assumes nothing.
 use mathlib.Core.Path.{_≡_, refl, sym, ap, ap₂, _∙_, subst}
 use mathlib.Core.Logic.{_≢_}
-use mathlib.Core.Bool.{Bool, true, false, cond}
 use mathlib.Core.List.{List, [], _∷_}
 use Prim.Native.Nat.{ℕ, zero, suc, _+_, _-_, _*_, _/_, _%_, _≤_, _<_}
 use native.Mathlib.Nat.{zero-add, not-suc-le-zero, le-of-suc-le-suc}
 use native.Mathlib.Numerals.{add-one}
 use native.Mathlib.Omega.{arith}
 use lib.ListN.{length, getD, List·getD-eq-default}
-use Rattle.laws.specs.Change.{upd, patch, upd₂-same, upd₂-other, patch-in, patch-below, patch-above}
+use Rattle.laws.specs.Change.{patch, upd₂-same, upd₂-other, patch-in, patch-below}
 use Rattle.laws.specs.Order.{by-order}
 use Rattle.laws.specs.Overlay.{overlay, overlay-length, overlay-in, overlay-before, overlay-after, overlay-is, overlay-all, put}
-use Rattle.laws.specs.Tab.{tab, tab-length, tab-in, elementAt}
+use Rattle.laws.specs.Tab.{tab, elementAt}
 use Rattle.laws.specs.Tests.{by-equal, le-true, le-false, eq-true, eq-false, cond-true, cond-false}
 use Rattle.laws.specs.Words.{highByte}
 use Rattle.sectors.specs.Geometry.{tracks, sectors, blockSectors, turn, trackSectors, allSectors, blocks, imageBytes, sidePlace, backward}
 use Rattle.sectors.specs.Replies.{done, refusal}
 use Rattle.files.specs.declared.Record.{Record}
-use Rattle.files.specs.declared.Record.the-variants.{Free, System, File, Other}
-use Rattle.files.specs.Calls.{Written, freshOwner, formatDisk, imageRight, unwritten, wrongLength, format}
+use Rattle.files.specs.declared.Record.the-variants.{Free, System, File}
+use Rattle.files.specs.Calls.{freshOwner, formatDisk, imageRight, unwritten, wrongLength, format}
 use Rattle.files.specs.Check.{signature}
-use Rattle.files.specs.Disk.{Disk, blockOf, offsetOf, diskOf, imageOf}
+use Rattle.files.specs.Disk.{Disk, diskOf, imageOf}
 use Rattle.files.specs.Laws.Disk.{image-cong, image-disk}
 use Rattle.files.specs.Laws.Given.{near-set}
 use Rattle.files.specs.Laws.Steps.{Packs, overlay-tab, put-row, near-patched}
-use Rattle.files.specs.Laws.Stored.{Near, near-image, near-step, patched, patched-row}
+use Rattle.files.specs.Laws.Stored.{Near, near-step, patched, patched-row}
 use Rattle.files.specs.Laws.Whole.{with-is}
 use Rattle.files.specs.Map.{encode}
-use Rattle.files.specs.Sizes.{blockBytes, slotBytes, mapStart, recordBytes, titleMost}
+use Rattle.files.specs.Sizes.{slotBytes, mapStart, recordBytes, titleMost}
 use Rattle.files.specs.Written.{fixedByte, headerByte, diskWith, setRecord}
 
 -- ---- the header, field by field

@@ -8,8 +8,8 @@ use native.Mathlib.Nat.{add-zero, add-suc, suc-add, zero-add}
 use native.Mathlib.Numerals.{add-one}
 use native.Mathlib.Omega.{arith}
 use lib.Dec.{ltb}
-use lib.ListN.{length, getD}
-use Rattle.laws.specs.Change.{upd, patch, upd₂-same, upd₂-other}
+use lib.ListN.{length}
+use Rattle.laws.specs.Change.{upd₂-same, upd₂-other}
 use Rattle.laws.specs.Firsts.{firstsFrom, firsts, firsts-cong}
 use Rattle.laws.specs.Order.{by-order}
 use Rattle.laws.specs.Search.{lowest-cong}
@@ -17,13 +17,13 @@ use Rattle.laws.specs.Tests.{lt-true, lt-false, true-lt, by-equal, cond-true, c
 use Rattle.laws.specs.Truth.{and-left, and-right, by-test}
 use Rattle.sectors.specs.Geometry.{blocks, imageBytes}
 use Rattle.files.specs.declared.Record.{Record}
-use Rattle.files.specs.declared.Record.the-variants.{Free, System, File, Other}
+use Rattle.files.specs.declared.Record.the-variants.{Free, File}
 use Rattle.files.specs.Disk.{Disk, diskOf, imageOf}
 use Rattle.files.specs.Laws.Disk.{image-disk, image-cong}
 use Rattle.files.specs.Laws.Steps.{near-patched, near-record, near-free, near-update, storedRow}
 use Rattle.files.specs.Laws.Stored.{Near, near-image, near-step, patched}
 use Rattle.files.specs.Map.{encode, recordAt, isFree, bears, isPart, freeAt, partBlock}
-use Rattle.files.specs.Sizes.{blockBytes, slotBytes, blockSlots, mapStart, recordBytes}
+use Rattle.files.specs.Sizes.{slotBytes, blockSlots, mapStart, recordBytes}
 use Rattle.files.specs.Written.{part, zeros, setBlock, setRecord, setSlot, setFree, stepUpdate, giveBlocks, freeBlock, freeBlocks}
 
 -- ---- the steps, of disks that agree
@@ -62,10 +62,6 @@ given-written l₀ l₁ l₂ b g r p q =
     near-step (λ (d : Disk). setRecord d b r) (λ d e n. near-set d e n b r) l₁ l₂ (setBlock (diskOf l₀) b g) p q
 
 -- ---- freed
-
-pub not-was-not : (b : Bool) → not b ≡ false → b ≡ true
-not-was-not true e = refl
-not-was-not false e = sym e
 
 pub freed-not : (l : List ℕ) (f b : ℕ) → length l ≡ imageBytes → bears f (recordAt (diskOf l) b) ≡ false → l ≡ imageOf (freeBlock (diskOf l) f b)
 unfolding freeBlock

@@ -1,104 +1,57 @@
--- What a disk that passed the judgement has: a directory no longer than the disk, and a vacant slot that fits a record. Add and remove case by case.
+-- A disk that passed the judgement has a vacant slot that fits a record. Whether there is room; add and remove case by case.
 -- Assumes nothing.
 use mathlib.Core.Path.{_≡_, refl, sym, ap, ap₂, _∙_}
 use mathlib.Core.Logic.{_≢_}
-use mathlib.Core.Bool.{Bool, true, false, not, cond, _&&_, _||_}
+use mathlib.Core.Bool.{Bool, true, false, not, cond, _&&_}
 use mathlib.Core.List.{List}
-use mathlib.Core.Option.{Option, none, some}
-use Prim.Native.Nat.{ℕ, zero, suc, _+_, _-_, _*_, _/_, _%_, _≤_, _<_}
+use mathlib.Core.Option.{none, some}
+use Prim.Native.Nat.{ℕ, suc, _+_, _-_, _*_, _/_, _%_, _≤_, _<_}
 use native.Mathlib.Numerals.{add-one}
 use native.Mathlib.Omega.{arith}
 use lib.Dec.{leb, ltb, eqb}
 use lib.ListN.{length, getD}
+use borrow.Author.Tests.{not-false}
 use Rattle.laws.specs.Below.{all, all-at}
 use Rattle.laws.specs.Change.{patch, patch-in, patch-above}
-use Rattle.laws.specs.Count.{count, count-cong, count-none, count-or, count-le}
+use Rattle.laws.specs.Count.{count, count-none, count-le}
 use Rattle.laws.specs.Lowest.{lowest, lowest-all}
 use Rattle.laws.specs.Numbers.{up}
 use Rattle.laws.specs.Order.{by-order}
 use Rattle.laws.specs.Overlay.{put}
 use Rattle.laws.specs.Search.{lowest-le, lowest-low}
 use Rattle.laws.specs.Tab.{tab, tab-ext, getD-past}
-use Rattle.laws.specs.Tests.{lt-true, lt-false, le-true, le-false, false-lt, true-le, eq-true, eq-false, true-eq, true≢false, not-was, cond-true, cond-false, and-true, and-not, orElse}
+use Rattle.laws.specs.Tests.{lt-true, lt-false, le-false, true-le, eq-true, eq-false, true-eq, true≢false, cond-true, cond-false, and-true, orElse}
 use Rattle.laws.specs.Truth.{and-left, and-right, by-test}
 use Rattle.sectors.specs.Geometry.{blocks, imageBytes}
 use Rattle.sectors.specs.Replies.{reply, done, refusal}
 use Rattle.sectors.specs.declared.Reply.{Reply}
-use Rattle.files.specs.declared.Entry.{Entry}
-use Rattle.files.specs.declared.Record.{Record}
-use Rattle.files.specs.declared.Record.the-variants.{Free, System, File, Other}
 use Rattle.files.specs.Calls.{Changed, Written, refused, unwritten, unless, imageRight, wrongLength, opensBlock, needed, addAt, addDisk, add, removeAt, removeDisk, remove, imaged}
-use Rattle.files.specs.Check.{partsRight, entryRight, fileRight, fileFault, unborne, newName, refusal8, refusal9, refusal10, refusal11, judged}
-use Rattle.files.specs.Directory.{nameRight, entryFor, slotEntry, held, dirBytes, dirEnd, findName, vacantSlot}
+use Rattle.files.specs.Check.{partsRight, entryRight, fileRight, fileFault, newName, refusal8, refusal9, refusal10, refusal11, judged}
+use Rattle.files.specs.Directory.{nameRight, entryFor, slotEntry, held, dirEnd, findName, vacantSlot}
 use Rattle.files.specs.Disk.{Disk, byteOf, diskOf, imageOf}
 use Rattle.files.specs.Laws.Disk.{image-disk}
-use Rattle.files.specs.Laws.Given.{not-was-not}
-use Rattle.files.specs.Laws.Owners.{partBelow, below-suc, below-apart, below-none}
+use Rattle.files.specs.Laws.Ends.{or-none-left, or-none-right, files-right, end-within}
 use Rattle.files.specs.Laws.Steps.{overlay-tab, put-row}
 use Rattle.files.specs.Map.{decode, recordAt, isPart, within, freeAt, freeCount}
 use Rattle.files.specs.Sizes.{blockBytes, slotBytes, blockSlots, slotCount, nameMost}
 use Rattle.files.specs.Written.{blocksFor}
 
--- ---- passed: 10
+-- ---- what was passed
 
-none-right : {A : Type 0} (a b : Option A) → orElse a b ≡ none → b ≡ none
-unfolding orElse
-none-right none b e = e
-none-right (some x) b e = let z : _≡_ {A = ℕ} 0 1 = cc in absurd (omega arith)
+-- every file number is sound
+pub file-sound : (d : Disk) → judged d ≡ none → (f : ℕ) → f < slotCount → fileRight d f ≡ true
+unfolding judged fileFault
+file-sound d passed f h =
+    let e : refusal10 d ≡ none = or-none-left (refusal10 d) (refusal11 d) (or-none-right (refusal9 d) (orElse (refusal10 d) (refusal11 d)) (or-none-right (refusal8 d) (orElse (refusal9 d) (orElse (refusal10 d) (refusal11 d))) passed)) in
+    not-false (fileRight d f) (lowest-all (λ (k : ℕ). not (fileRight d k)) slotCount (files-right d e) f h)
 
-none-left : {A : Type 0} (a b : Option A) → orElse a b ≡ none → a ≡ none
-unfolding orElse
-none-left none b e = refl
-none-left (some x) b e = e
-
-no-refusal : (t : Bool) (r : Reply) → cond t (some r) none ≡ none → t ≡ false
-no-refusal true r e = let z : _≡_ {A = ℕ} 0 1 = cc in absurd (omega arith)
-no-refusal false r e = refl
-
-module _ (d : Disk) (passed : judged d ≡ none) where
-  pub files-right : (f : ℕ) → f < slotCount → fileRight d f ≡ true
-  unfolding judged refusal10 fileFault
-  files-right f h =
-      let e : refusal10 d ≡ none = none-left (refusal10 d) (refusal11 d) (none-right (refusal9 d) (orElse (refusal10 d) (refusal11 d)) (none-right (refusal8 d) (orElse (refusal9 d) (orElse (refusal10 d) (refusal11 d))) passed)) in
-      let q : slotCount ≤ fileFault d = false-lt (no-refusal (ltb (fileFault d) slotCount) (reply 10 (fileFault d) 0 0) e) in
-      not-was-not (fileRight d f) (lowest-all (λ (k : ℕ). not (fileRight d k)) slotCount q f h)
-
--- ---- as many blocks as sequences
-
-count-parts : (r : ℕ → Record) (k n N : ℕ) → ((s : ℕ) → s < n → count N (λ (b : ℕ). isPart k s (r b)) ≡ 1) → count N (λ (b : ℕ). partBelow k n (r b)) ≡ n
-count-parts r k zero N one = count-none N (λ (b : ℕ). partBelow k 0 (r b)) (λ b l. below-none k (r b))
-count-parts r k (suc n) N one =
-    let ih : count N (λ (b : ℕ). partBelow k n (r b)) ≡ n = count-parts r k n N (λ s h. one s (omega arith)) in
-    let last : count N (λ (b : ℕ). isPart k n (r b)) ≡ 1 = one n (omega arith) in
-    let both : count N (λ (b : ℕ). (partBelow k n (r b) || isPart k n (r b))) ≡ count N (λ (b : ℕ). partBelow k n (r b)) + count N (λ (b : ℕ). isPart k n (r b)) =
-    count-or N (λ (b : ℕ). partBelow k n (r b)) (λ (b : ℕ). isPart k n (r b)) (λ b l. below-apart k n (r b)) in
-    count-cong N (λ (b : ℕ). partBelow k (suc n) (r b)) (λ (b : ℕ). (partBelow k n (r b) || isPart k n (r b))) (λ b l. below-suc k n (r b))
-    ∙ omega arith
-
-module _ (d : Disk) (f n : ℕ) (right : partsRight d f n ≡ true) where
-  pub parts-one : (s : ℕ) → s < n → count blocks (λ (b : ℕ). isPart f s (recordAt d b)) ≡ 1
-  unfolding partsRight
-  parts-one s h =
-      let inside : Bool = all (λ (b : ℕ). within f n (recordAt d b)) blocks in
-      let once : Bool = all (λ (s : ℕ). eqb (count blocks (λ (b : ℕ). isPart f s (recordAt d b))) 1) n in
-      true-eq (all-at (λ (s : ℕ). eqb (count blocks (λ (b : ℕ). isPart f s (recordAt d b))) 1) n (and-right inside once right) s h)
-
-  pub parts-most : n ≤ blocks
-  parts-most =
-      let e : count blocks (λ (b : ℕ). partBelow f n (recordAt d b)) ≡ n = count-parts (recordAt d) f n blocks parts-one in
-      omega (arith, count-le blocks (λ (b : ℕ). partBelow f n (recordAt d b)))
-
--- ---- the directory's end
-
-dir-parts : (d : Disk) → fileRight d 0 ≡ true → partsRight d 0 (up (dirBytes d) blockBytes) ≡ true
-unfolding fileRight
-dir-parts d e = e
-
-pub dir-most : (d : Disk) → judged d ≡ none → dirEnd d ≤ slotCount
-unfolding dirEnd up
-dir-most d passed =
-    let most : up (dirBytes d) blockBytes ≤ blocks = parts-most d 0 (up (dirBytes d) blockBytes) (dir-parts d (files-right d passed 0 (omega arith))) in
-    omega arith
+-- a sequence of a sound file has one block
+parts-one : (d : Disk) (f n : ℕ) → partsRight d f n ≡ true → (s : ℕ) → s < n → count blocks (λ (b : ℕ). isPart f s (recordAt d b)) ≡ 1
+unfolding partsRight
+parts-one d f n right s h =
+    let inside : Bool = all (λ (b : ℕ). within f n (recordAt d b)) blocks in
+    let once : Bool = all (λ (s : ℕ). eqb (count blocks (λ (b : ℕ). isPart f s (recordAt d b))) 1) n in
+    true-eq (all-at (λ (s : ℕ). eqb (count blocks (λ (b : ℕ). isPart f s (recordAt d b))) 1) n (and-right inside once right) s h)
 
 -- ---- the vacant slot
 
@@ -153,7 +106,7 @@ module _ (d : Disk) (passed : judged d ≡ none) (low : (b o : ℕ) → d b o < 
   far-vacant k hk hd =
       by-test (held d k)
       (λ t.
-      let right : fileRight d k ≡ true = files-right d passed k (omega (arith, dir-most d passed)) in
+      let right : fileRight d k ≡ true = file-sound d passed k (omega (arith, end-within d passed)) in
       let one : count blocks (λ (b : ℕ). isPart k 0 (recordAt d b)) ≡ 1 = entry-one d k (listed-right d k (omega arith) hd t right) in
       absurd (omega (arith, far-none d low k hk)))
       (λ t. t)

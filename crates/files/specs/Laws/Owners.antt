@@ -81,7 +81,7 @@ free-apart k (File f s) = refl
 
 -- ---- a file's blocks are as many as its parts
 
-pub partBelow : ℕ → ℕ → Record → Bool
+unfoldable pub partBelow : ℕ → ℕ → Record → Bool
 partBelow k n Free = false
 partBelow k n System = false
 partBelow k n Other = false
@@ -114,7 +114,7 @@ below-apart k n (File f s) =
     (λ q. and-false-left _ (and-false-right (eqb f k) (lt-false {a = s} {b = n} (omega arith))))
     (λ q. and-false-right (eqb f k && ltb s n) (and-false-right (eqb f k) (eq-false q)))
 
-pub below-none : (k : ℕ) (r : Record) → partBelow k 0 r ≡ false
+below-none : (k : ℕ) (r : Record) → partBelow k 0 r ≡ false
 unfolding partBelow
 below-none k Free = refl
 below-none k System = refl

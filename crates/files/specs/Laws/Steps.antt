@@ -1,7 +1,7 @@
 -- What the single steps write, as rows of bytes; and what the steps on block 0 leave of two disks that agree inside their blocks.
 -- Assumes nothing.
-use mathlib.Core.Path.{_≡_, refl, sym, ap, ap₂, _∙_, fun-ext}
-use mathlib.Core.Bool.{Bool, cond, _&&_}
+use mathlib.Core.Path.{_≡_, refl, sym, ap, _∙_, fun-ext}
+use mathlib.Core.Bool.{cond, _&&_}
 use mathlib.Core.List.{List}
 use Prim.Native.Nat.{ℕ, _+_, _-_, _*_, _/_, _%_, _≤_, _<_}
 use native.Mathlib.Nat.{zero-add, add-zero}
@@ -12,18 +12,18 @@ use Rattle.laws.specs.Change.{upd, patch, upd₂-same, upd₂-other, patch-cong
 use Rattle.laws.specs.Count.{count, count-cong}
 use Rattle.laws.specs.Numbers.{at32}
 use Rattle.laws.specs.Words.{highByte}
-use Rattle.sectors.specs.Geometry.{blockSectors, blocks}
 use Rattle.laws.specs.Order.{by-order}
 use Rattle.laws.specs.Overlay.{overlay, overlayAt, overlay-cong, put}
 use Rattle.laws.specs.Tab.{tab, tab-length, tab-in, tab-ext, elementAt}
 use Rattle.laws.specs.Tests.{lt-true, lt-false, by-equal, cond-true, cond-false}
+use Rattle.sectors.specs.Geometry.{blockSectors, blocks}
 use Rattle.files.specs.declared.Record.{Record}
 use Rattle.files.specs.declared.Record.the-variants.{Free, System, File, Other}
 use Rattle.files.specs.declared.Entry.{Entry}
 use Rattle.files.specs.Directory.{entryByte}
 use Rattle.files.specs.Disk.{Disk, diskOf, imageOf}
 use Rattle.files.specs.Laws.Stored.{Near, near-step, patched, patched-block}
-use Rattle.files.specs.Map.{decode, encode, recordAt, isFree, freeAt, freeCount}
+use Rattle.files.specs.Map.{recordAt, isFree, freeAt, freeCount}
 use Rattle.files.specs.Sizes.{blockBytes, slotBytes, nameMost, mapStart, recordBytes}
 use Rattle.files.specs.Written.{storedByte, part, zeros, setBlock, setWord, setFree, setEnd, stepUpdate}
 

@@ -37,6 +37,9 @@ put-high2-requires c κs = search needs
 put-high2-requires-2 : tie.Need-put-high2-requires-2
 put-high2-requires-2 c κs = search needs
 
+cast-put-high2-2 : tie.Need-cast-put-high2-2
+cast-put-high2-2 c = search needs
+
 put-high2-requires-3 : tie.Need-put-high2-requires-3
 put-high2-requires-3 c κs = search needs
 
@@ -61,6 +64,7 @@ put-start-spec =
     cast-put-high2
     put-high2-requires
     put-high2-requires-2
+    cast-put-high2-2
     put-high2-requires-3
     same-length
     returns)

@@ -3,9 +3,10 @@
 use mathlib.Core.Path.{sym, _∙_}
 use Prim.Native.Nat.{_-_}
 use borrow.Author.Needs.{needs}
+use borrow.Author.Tests.{not-false}
 use Rattle.laws.specs.Tests.{not-was}
-use Rattle.files.specs.Laws.Given.{not-was-not}
-use Rattle.files.specs.Laws.Judged.{dir-most, gave-refused, gave-done, remove-name, remove-none, remove-done}
+use Rattle.files.specs.Laws.Ends.{end-within}
+use Rattle.files.specs.Laws.Judged.{gave-refused, gave-done, remove-name, remove-none, remove-done}
 use Rattle.files.proofs.removing.remove_judged.Statement.{statement}
 use Rattle.files.proofs.removing.remove_judged.Tie as tie
 
@@ -19,7 +20,7 @@ returns : tie.Need-returns
 returns c = gave-refused _ _ _ _ (c .before .before .before .before .before .pre .0) (remove-name _ _ (c .before .before .before .before .before .pre .1) (sym (c .before .before .name-right .ensures) ∙ not-was _ (c .before .if1 .taken))) (c .refused .ensures)
 
 find-name-requires : tie.Need-find-name-requires
-find-name-requires c κs = (c .before .before .before .before .before .pre .0, dir-most _ (c .before .before .before .before .before .pre .1))
+find-name-requires c κs = (c .before .before .before .before .before .pre .0, end-within _ (c .before .before .before .before .before .pre .1))
 
 dir-end-requires : tie.Need-dir-end-requires
 dir-end-requires c κs = search needs
@@ -31,7 +32,7 @@ same-length : tie.Need-same-length
 same-length c = search needs
 
 returns-2 : tie.Need-returns-2
-returns-2 c = gave-refused _ _ _ _ (c .before .before .before .before .before .before .before .before .before .before .pre .0) (remove-none _ _ (c .before .before .before .before .before .before .before .before .before .before .pre .1) (sym (c .before .before .before .before .before .before .before .name-right .ensures) ∙ not-was-not _ (c .before .before .before .before .before .before .if1 .left)) _ _ (c .before .before .before .before .find-name .ensures) (c .before .before .dir-end .ensures .0) (c .before .if2 .taken)) (c .refused2 .ensures)
+returns-2 c = gave-refused _ _ _ _ (c .before .before .before .before .before .before .before .before .before .before .pre .0) (remove-none _ _ (c .before .before .before .before .before .before .before .before .before .before .pre .1) (sym (c .before .before .before .before .before .before .before .name-right .ensures) ∙ not-false _ (c .before .before .before .before .before .before .if1 .left)) _ _ (c .before .before .before .before .find-name .ensures) (c .before .before .dir-end .ensures .0) (c .before .if2 .taken)) (c .refused2 .ensures)
 
 remove-at-requires : tie.Need-remove-at-requires
 remove-at-requires c κs = search needs
@@ -43,7 +44,7 @@ same-length-2 : tie.Need-same-length-2
 same-length-2 c = search needs
 
 returns-3 : tie.Need-returns-3
-returns-3 c = gave-done _ _ _ _ (remove-done _ _ (c .before .before .before .before .before .before .before .before .before .before .before .before .before .before .pre .1) (sym (c .before .before .before .before .before .before .before .before .before .before .before .name-right .ensures) ∙ not-was-not _ (c .before .before .before .before .before .before .before .before .before .before .if1 .left)) _ _ (c .before .before .before .before .before .before .before .before .find-name .ensures) (c .before .before .before .before .before .before .dir-end .ensures .0) (c .before .before .before .before .before .if2 .left)) (c .done .ensures) (c .before .before .before .remove-at .ensures)
+returns-3 c = gave-done _ _ _ _ (remove-done _ _ (c .before .before .before .before .before .before .before .before .before .before .before .before .before .before .pre .1) (sym (c .before .before .before .before .before .before .before .before .before .before .before .name-right .ensures) ∙ not-false _ (c .before .before .before .before .before .before .before .before .before .before .if1 .left)) _ _ (c .before .before .before .before .before .before .before .before .find-name .ensures) (c .before .before .before .before .before .before .dir-end .ensures .0) (c .before .before .before .before .before .if2 .left)) (c .done .ensures) (c .before .before .before .remove-at .ensures)
 
 pub remove-judged-spec : {M : Type 1} → statement M
 remove-judged-spec =

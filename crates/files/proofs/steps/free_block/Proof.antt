@@ -3,9 +3,10 @@
 use mathlib.Core.Path.{sym, ap, _∙_}
 use Prim.Native.Nat.{_-_}
 use borrow.Author.Needs.{needs}
+use borrow.Author.Tests.{not-false}
 use Rattle.laws.specs.Tests.{not-was}
 use Rattle.files.specs.Map.{bears}
-use Rattle.files.specs.Laws.Given.{not-was-not, freed-not, freed-yes}
+use Rattle.files.specs.Laws.Given.{freed-not, freed-yes}
 use Rattle.files.proofs.steps.free_block.Statement.{statement}
 use Rattle.files.proofs.steps.free_block.Tie as tie
 
@@ -34,7 +35,7 @@ same-length-2 : tie.Need-same-length-2
 same-length-2 c = search needs
 
 returns-2 : tie.Need-returns-2
-returns-2 c = freed-yes _ _ _ _ _ (ap (bears _) (sym (c .before .before .before .before .before .before .before .before .before .before .record-of .ensures ∙ c .before .before .before .before .before .before .before .before .before .before .before .load-record .ensures)) ∙ sym (c .before .before .before .before .before .before .before .before .before .bears-file .ensures) ∙ not-was-not _ (c .before .before .before .before .before .before .before .before .if1 .left)) (c .before .before .before .before .before .before .zero-block .ensures) (c .before .before .set-record .ensures)
+returns-2 c = freed-yes _ _ _ _ _ (ap (bears _) (sym (c .before .before .before .before .before .before .before .before .before .before .record-of .ensures ∙ c .before .before .before .before .before .before .before .before .before .before .before .load-record .ensures)) ∙ sym (c .before .before .before .before .before .before .before .before .before .bears-file .ensures) ∙ not-false _ (c .before .before .before .before .before .before .before .before .if1 .left)) (c .before .before .before .before .before .before .zero-block .ensures) (c .before .before .set-record .ensures)
 
 pub free-block-spec : {M : Type 1} → statement M
 free-block-spec =

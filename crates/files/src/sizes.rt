@@ -1,0 +1,24 @@
+// The numbers of the file layer, each once; those of the disk kind are the sector layer's.
+use sectors::Geometry;
+
+// The bytes of a block, and of a track.
+pub const BLOCK_BYTES: usize = Geometry::BLOCK_SECTORS * Geometry::SECTOR_BYTES;
+
+pub const TRACK_BYTES: usize = Geometry::TRACK_SECTORS * Geometry::SECTOR_BYTES;
+
+// The bytes of a directory slot, the slots of a block, and those of a directory that has every block.
+pub const SLOT_BYTES: usize = 64;
+
+pub const BLOCK_SLOTS: usize = BLOCK_BYTES / SLOT_BYTES;
+
+pub const SLOT_COUNT: usize = Geometry::BLOCKS * BLOCK_SLOTS;
+
+// Where the map begins in block 0, and the bytes of a record.
+pub const MAP_START: usize = 96;
+
+pub const RECORD_BYTES: usize = 3;
+
+// The most bytes of a file's name and of a disk's name.
+pub const NAME_MOST: usize = 36;
+
+pub const TITLE_MOST: usize = 10;
