@@ -7,6 +7,7 @@ pub mod Loaded
 pub mod Slots
 pub mod Sound
 pub mod Names
+pub mod Results
 pub mod Whole
 pub mod Inner
 pub mod Invariant
