@@ -11,7 +11,7 @@ use lib.Dec.{eqb}
 use lib.ListN.{length}
 use Rattle.files.specs.Calls.{Outcome, kept, list, read, add, remove}
 use Rattle.files.specs.Directory.{nameEq}
-use Rattle.files.specs.Model.{NamedFile, Model, modelList, modelRead, addReply, modelAdd, removeReply, modelRemove}
+use Rattle.files.specs.Model.{NamedFile, Model, modelList, modelRead, modelAdd, modelRemove}
 use Rattle.files.specs.Written.{blocksFor}
 
 -- a call with its arguments; list and read have their result buffer as it is before
@@ -50,14 +50,14 @@ imageEnd image (c ∷ cs) = imageEnd (imageStep image c) cs
 -- ---- in the model
 
 unfoldable pub modelOut : Model → Call → Outcome
-modelOut m (toAdd x) = kept [] (addReply m x)
-modelOut m (toRemove name) = kept [] (removeReply m name)
+modelOut m (toAdd x) = record { answer = modelAdd m x .answer; buffer = [] }
+modelOut m (toRemove name) = record { answer = modelRemove m name .answer; buffer = [] }
 modelOut m (toList buf) = modelList m buf
 modelOut m (toRead name buf) = modelRead m name buf
 
 unfoldable pub modelStep : Model → Call → Model
-modelStep m (toAdd x) = modelAdd m x
-modelStep m (toRemove name) = modelRemove m name
+modelStep m (toAdd x) = modelAdd m x .model
+modelStep m (toRemove name) = modelRemove m name .model
 modelStep m (toList buf) = m
 modelStep m (toRead name buf) = m
 

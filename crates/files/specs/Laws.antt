@@ -9,6 +9,7 @@ pub mod Sound
 pub mod Track
 pub mod Delivered
 pub mod Names
+pub mod Results
 pub mod Whole
 pub mod Inner
 pub mod Invariant

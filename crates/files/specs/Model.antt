@@ -1,12 +1,13 @@
 -- The model: document 01's book ("The book of demand 3"). It is fed with the arguments of the format and of the calls, never with an image.
--- It shares with the calls what is written (header, entry and record bytes), and none of their decisions.
+-- It shares with the calls the sizes, what an Outcome is, and the layout: header, entry, record and file bytes (headerByte, entryFor, entryByte,
+-- diskWith, storedByte, part), isFree of a record, blocksFor as 01's count of blocks, and equality of names. The decisions are its own.
 -- Assumes nothing: these are definitions.
 use mathlib.Core.Bool.{Bool, false, not, cond, _&&_}
 use mathlib.Core.List.{List, [], _∷_, _++_}
 use mathlib.Core.Option.{Option, none, some}
 use Prim.Native.Nat.{ℕ, zero, suc, _+_, _-_, _*_, _/_, _%_, max}
 use lib.Dec.{leb, ltb, eqb}
-use lib.ListN.{length}
+use lib.ListN.{length, drop}
 use Rattle.laws.specs.Change.{upd}
 use Rattle.laws.specs.Count.{count, sum}
 use Rattle.laws.specs.Firsts.{firsts}
@@ -19,8 +20,8 @@ use Rattle.sectors.specs.declared.Reply.{Reply}
 use Rattle.files.specs.declared.Entry.{Entry}
 use Rattle.files.specs.declared.Record.{Record}
 use Rattle.files.specs.declared.Record.the-variants.{Free, System, File, Other}
-use Rattle.files.specs.Calls.{Outcome, kept, deliver, entries}
-use Rattle.files.specs.Directory.{nameEq, nameRight, entryByte, entryFor}
+use Rattle.files.specs.Calls.{Outcome}
+use Rattle.files.specs.Directory.{nameEq, entryByte, entryFor}
 use Rattle.files.specs.Disk.{Disk}
 use Rattle.files.specs.Map.{isFree}
 use Rattle.files.specs.Sizes.{slotBytes, blockSlots}
@@ -155,6 +156,19 @@ modelDisk m =
 unfoldable pub modelFormat : List ℕ → ℕ → Model
 modelFormat title number = record { title = title; number = number; updates = 0; peak = 0; lines = λ (k : ℕ). none; dir = 1 ∷ [] }
 
+-- ---- names and result buffers
+
+-- whether a name has 1 to 36 bytes
+unfoldable pub acceptable : List ℕ → Bool
+acceptable name = leb 1 (length name) && leb (length name) 36
+
+-- the count of the bytes, and the buffer with them first and the rest as it was; or 16 with the count, and the buffer as it was
+unfoldable pub resultOf : List ℕ → List ℕ → Outcome
+resultOf bytes buf =
+    cond (leb (length bytes) (length buf))
+    (record { answer = reply 0 (length bytes) 0 0; buffer = bytes ++ drop (length bytes) buf })
+    (record { answer = reply 16 (length bytes) 0 0; buffer = buf })
+
 -- ---- which line
 
 -- whether a line has the file of that name
@@ -184,7 +198,7 @@ lineEntries lines (suc n) = lineEntries lines n ++ lineEntry (lines n)
 
 -- 16 or the entries
 unfoldable pub modelList : Model → List ℕ → Outcome
-modelList m buf = deliver (lineEntries (λ (k : ℕ). fileOf (m .lines k)) (suc (m .peak))) buf
+modelList m buf = resultOf (lineEntries (λ (k : ℕ). fileOf (m .lines k)) (suc (m .peak))) buf
 
 -- its data
 unfoldable pub lineData : Line → List ℕ
@@ -194,9 +208,10 @@ lineData (some x) = x .content
 -- 12, 14, 16 or the line's data
 unfoldable pub modelRead : Model → List ℕ → List ℕ → Outcome
 modelRead m name buf =
-    cond (nameRight name)
-    (cond (ltb (lineNamed m name) (suc (m .peak))) (deliver (lineData (fileOf (m .lines (lineNamed m name)))) buf) (kept buf (refusal 14)))
-    (kept buf (refusal 12))
+    cond (acceptable name)
+    (cond (ltb (lineNamed m name) (suc (m .peak))) (resultOf (lineData (fileOf (m .lines (lineNamed m name)))) buf)
+    (record { answer = refusal 14; buffer = buf }))
+    (record { answer = refusal 12; buffer = buf })
 
 -- ---- add and remove
 
@@ -248,25 +263,23 @@ clear m k =
       dir = m .dir;
     }
 
--- 12, 13 with the line, 15 or done, and the model after an add
-unfoldable pub addReply : Model → NamedFile → Reply
-addReply m x =
-    cond (nameRight (x .name))
-    (cond (ltb (lineNamed m (x .name)) (suc (m .peak))) (reply 13 (lineNamed m (x .name)) 0 0)
-    (cond (fits m x) done (refusal 15)))
-    (refusal 12)
+-- a reply, and the model after it
+pub record ModelChanged : Type 0 where
+  pub answer : Reply
+  pub model : Model
 
-unfoldable pub modelAdd : Model → NamedFile → Model
+-- 12, 13 with the line, 15 or done
+unfoldable pub modelAdd : Model → NamedFile → ModelChanged
 modelAdd m x =
-    cond (nameRight (x .name))
-    (cond (ltb (lineNamed m (x .name)) (suc (m .peak))) m
-    (cond (fits m x) (fill m (lineEmpty m) x) m)) m
+    cond (acceptable (x .name))
+    (cond (ltb (lineNamed m (x .name)) (suc (m .peak))) (record { answer = reply 13 (lineNamed m (x .name)) 0 0; model = m })
+    (cond (fits m x) (record { answer = done; model = fill m (lineEmpty m) x }) (record { answer = refusal 15; model = m })))
+    (record { answer = refusal 12; model = m })
 
--- 12, 14 or done, and the model after a remove
-unfoldable pub removeReply : Model → List ℕ → Reply
-removeReply m name =
-    cond (nameRight name) (cond (ltb (lineNamed m name) (suc (m .peak))) done (refusal 14)) (refusal 12)
-
-unfoldable pub modelRemove : Model → List ℕ → Model
+-- 12, 14 or done
+unfoldable pub modelRemove : Model → List ℕ → ModelChanged
 modelRemove m name =
-    cond (nameRight name) (cond (ltb (lineNamed m name) (suc (m .peak))) (clear m (lineNamed m name)) m) m
+    cond (acceptable name)
+    (cond (ltb (lineNamed m name) (suc (m .peak))) (record { answer = done; model = clear m (lineNamed m name) })
+    (record { answer = refusal 14; model = m }))
+    (record { answer = refusal 12; model = m })

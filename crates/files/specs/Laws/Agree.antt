@@ -2,11 +2,12 @@
 -- Assumes nothing.
 use mathlib.Core.Path.{_≡_, refl, sym, ap, ap₂, _∙_, subst, fun-ext}
 use mathlib.Core.Logic.{_≢_}
-use mathlib.Core.Bool.{true}
+use mathlib.Core.Bool.{Bool, true, false, cond}
 use mathlib.Core.List.{List, [], _∷_, _++_}
 use mathlib.Core.Option.{Option, none, some}
 use Prim.Native.Nat.{ℕ, zero, suc, _+_, _≤_, _<_}
 use native.Mathlib.Omega.{arith}
+use lib.Dec.{ltb}
 use lib.ListN.{length, getD}
 use Rattle.laws.specs.Change.{upd, upd-same, upd-other}
 use Rattle.laws.specs.Firsts.{firsts, firsts-picks, firsts-cong}
@@ -14,6 +15,7 @@ use Rattle.laws.specs.Order.{by-order}
 use Rattle.laws.specs.Tests.{lt-true, lt-false, true-le, true≢false, by-equal, cond-true, cond-false, isSome}
 use Rattle.laws.specs.Truth.{by-test}
 use Rattle.sectors.specs.Geometry.{blocks}
+use Rattle.sectors.specs.Replies.{refusal}
 use Rattle.files.specs.declared.Record.{Record}
 use Rattle.files.specs.declared.Record.the-variants.{File}
 use Rattle.files.specs.Calls.{Outcome, kept, freshOwner}
@@ -24,12 +26,13 @@ use Rattle.files.specs.Laws.Facts.{parts-none, found-line}
 use Rattle.files.specs.Laws.Inner.{Inner, present, fileBlocks, header, render, emptyLines, formatM, findM, emptyLine, give, freeOf, listM, readM, ChangedM, refusedM, removeAtM, removeM, growOwner, peakAfter, addAtM, roomFor, addM, stepM, outM, outsM, endM}
 use Rattle.files.specs.Laws.Invariant.{partsOf, Inv}
 use Rattle.files.specs.Laws.Listed.{blocksOf, withOwner, Listed, owner-is, give-listed, freed-listed, listed-cong}
-use Rattle.files.specs.Laws.Names.{name-bounds}
+use Rattle.files.specs.Laws.Names.{name-bounds, name-is, name-so}
 use Rattle.files.specs.Laws.Remove.{parts-other, parts-gone}
+use Rattle.files.specs.Laws.Results.{result-is}
 use Rattle.files.specs.Laws.Run.{step-inv}
 use Rattle.files.specs.Laws.Whole.{with-is, with-only, with-same, unowned}
 use Rattle.files.specs.Map.{isFree}
-use Rattle.files.specs.Model.{NamedFile, Line, Filled, Model, fileOf, takenBy, lineBlocks, presentIn, sizeIn, dirBlocks, usable, content, recordIn, modelHeader, modelDisk, modelFormat, lineNamed, lineEmpty, modelList, modelRead, wrap, peakThen, fits, freeIn, dirThen, fill, clear, addReply, modelAdd, removeReply, modelRemove}
+use Rattle.files.specs.Model.{NamedFile, Line, Filled, Model, fileOf, takenBy, lineBlocks, presentIn, sizeIn, dirBlocks, usable, content, recordIn, modelHeader, modelDisk, modelFormat, acceptable, lineNamed, lineEmpty, lineEntries, lineData, modelList, modelRead, wrap, peakThen, fits, freeIn, dirThen, fill, clear, ModelChanged, modelAdd, modelRemove}
 use Rattle.files.specs.Sizes.{nameMost}
 use Rattle.files.specs.Written.{blocksFor}
 
@@ -86,25 +89,29 @@ module _ (b : Model) (o : ℕ → Record) (v : Inv (withOwner b o)) (r : Listed 
 
   -- a reply looks at the lines alone
   pub out-same : (c : Call) → outM m c ≡ modelOut b c
-  unfolding outM modelOut addReply removeReply modelList modelRead addM removeM refusedM withOwner lineNamed findM fits roomFor listM readM peakThen peakAfter presentIn present sizeIn fileBlocks
-  out-same (toList buf) = refl
-  out-same (toRead name buf) = refl
+  unfolding outM modelOut modelAdd modelRemove modelList modelRead addM removeM refusedM withOwner lineNamed findM fits roomFor listM readM peakThen peakAfter presentIn present sizeIn fileBlocks kept
+  out-same (toList buf) = result-is (lineEntries (m .lines) (suc (m .peak))) buf
+  out-same (toRead name buf) =
+      ap₂ (λ (t : Bool) (o : Outcome). cond t (cond (ltb (findM m name) (suc (m .peak))) o (kept buf (refusal 14))) (kept buf (refusal 12)))
+      (name-is name) (result-is (lineData (m .lines (findM m name))) buf)
   out-same (toRemove name) =
       ap (kept [])
       (by-test (nameRight name)
-      (λ t. by-order (findM m name) (suc (m .peak))
-      (λ h. ap (λ (c : ChangedM). c .answer) (cond-true _ _ t ∙ cond-true _ _ (lt-true h)) ∙ sym (cond-true _ _ t ∙ cond-true _ _ (lt-true h)))
-      (λ h. ap (λ (c : ChangedM). c .answer) (cond-true _ _ t ∙ cond-false _ _ (lt-false h)) ∙ sym (cond-true _ _ t ∙ cond-false _ _ (lt-false h))))
-      (λ t. ap (λ (c : ChangedM). c .answer) (cond-false _ _ t) ∙ sym (cond-false _ _ t)))
+      (λ t. let u : acceptable name ≡ true = name-so name t in
+      by-order (findM m name) (suc (m .peak))
+      (λ h. ap (λ (c : ChangedM). c .answer) (cond-true _ _ t ∙ cond-true _ _ (lt-true h)) ∙ sym (ap (λ (c : ModelChanged). c .answer) (cond-true _ _ u ∙ cond-true _ _ (lt-true h))))
+      (λ h. ap (λ (c : ChangedM). c .answer) (cond-true _ _ t ∙ cond-false _ _ (lt-false h)) ∙ sym (ap (λ (c : ModelChanged). c .answer) (cond-true _ _ u ∙ cond-false _ _ (lt-false h)))))
+      (λ t. let u : acceptable name ≡ false = name-so name t in ap (λ (c : ChangedM). c .answer) (cond-false _ _ t) ∙ sym (ap (λ (c : ModelChanged). c .answer) (cond-false _ _ u))))
   out-same (toAdd x) =
       ap (kept [])
       (by-test (nameRight (x .name))
-      (λ t. by-order (findM m (x .name)) (suc (m .peak))
-      (λ h. ap (λ (c : ChangedM). c .answer) (cond-true _ _ t ∙ cond-true _ _ (lt-true h)) ∙ sym (cond-true _ _ t ∙ cond-true _ _ (lt-true h)))
+      (λ t. let u : acceptable (x .name) ≡ true = name-so (x .name) t in
+      by-order (findM m (x .name)) (suc (m .peak))
+      (λ h. ap (λ (c : ChangedM). c .answer) (cond-true _ _ t ∙ cond-true _ _ (lt-true h)) ∙ sym (ap (λ (c : ModelChanged). c .answer) (cond-true _ _ u ∙ cond-true _ _ (lt-true h))))
       (λ h. by-test (roomFor m x)
-      (λ s. ap (λ (c : ChangedM). c .answer) (cond-true _ _ t ∙ cond-false _ _ (lt-false h) ∙ cond-true _ _ s) ∙ sym (cond-true _ _ t ∙ cond-false _ _ (lt-false h) ∙ cond-true _ _ s))
-      (λ s. ap (λ (c : ChangedM). c .answer) (cond-true _ _ t ∙ cond-false _ _ (lt-false h) ∙ cond-false _ _ s) ∙ sym (cond-true _ _ t ∙ cond-false _ _ (lt-false h) ∙ cond-false _ _ s))))
-      (λ t. ap (λ (c : ChangedM). c .answer) (cond-false _ _ t) ∙ sym (cond-false _ _ t)))
+      (λ s. ap (λ (c : ChangedM). c .answer) (cond-true _ _ t ∙ cond-false _ _ (lt-false h) ∙ cond-true _ _ s) ∙ sym (ap (λ (c : ModelChanged). c .answer) (cond-true _ _ u ∙ cond-false _ _ (lt-false h) ∙ cond-true _ _ s)))
+      (λ s. ap (λ (c : ChangedM). c .answer) (cond-true _ _ t ∙ cond-false _ _ (lt-false h) ∙ cond-false _ _ s) ∙ sym (ap (λ (c : ModelChanged). c .answer) (cond-true _ _ u ∙ cond-false _ _ (lt-false h) ∙ cond-false _ _ s)))))
+      (λ t. let u : acceptable (x .name) ≡ false = name-so (x .name) t in ap (λ (c : ChangedM). c .answer) (cond-false _ _ t) ∙ sym (ap (λ (c : ModelChanged). c .answer) (cond-false _ _ u))))
 
   -- what a step leaves: owners o′ of the next book, with the next model
   abbrev Next : Inner → Model → Type 0
@@ -220,38 +227,38 @@ module _ (b : Model) (o : ℕ → Record) (v : Inv (withOwner b o)) (r : Listed 
       (λ h.
       let w : (x : NamedFile) × (m .lines (findM m name) ≡ some x) × (nameEq (x .name) name ≡ true) × (0 < findM m name) = found-line m v name h in
       let em : removeM m name .model ≡ removeAtM m (findM m name) = ap (λ (c : ChangedM). c .model) (cond-true _ _ t ∙ cond-true _ _ (lt-true h)) in
-      let eb : modelStep b (toRemove name) ≡ clear b (findM m name) = cond-true _ _ t ∙ cond-true _ _ (lt-true h) in
+      let eb : modelStep b (toRemove name) ≡ clear b (findM m name) = ap (λ (c : ModelChanged). c .model) (cond-true _ _ (name-so name t) ∙ cond-true _ _ (lt-true h)) in
       subst (λ (z : Inner). Next z (modelStep b (toRemove name))) (sym em)
       (subst (λ (z : Model). Next (removeAtM m (findM m name)) z) (sym eb) (remove-next (findM m name) (w .3) (omega arith))))
       (λ h.
       let em : removeM m name .model ≡ m = ap (λ (c : ChangedM). c .model) (cond-true _ _ t ∙ cond-false _ _ (lt-false h)) in
-      let eb : modelStep b (toRemove name) ≡ b = cond-true _ _ t ∙ cond-false _ _ (lt-false h) in
+      let eb : modelStep b (toRemove name) ≡ b = ap (λ (c : ModelChanged). c .model) (cond-true _ _ (name-so name t) ∙ cond-false _ _ (lt-false h)) in
       subst (λ (z : Inner). Next z (modelStep b (toRemove name))) (sym em) (subst (λ (z : Model). Next m z) (sym eb) stay)))
       (λ t.
       let em : removeM m name .model ≡ m = ap (λ (c : ChangedM). c .model) (cond-false _ _ t) in
-      let eb : modelStep b (toRemove name) ≡ b = cond-false _ _ t in
+      let eb : modelStep b (toRemove name) ≡ b = ap (λ (c : ModelChanged). c .model) (cond-false _ _ (name-so name t)) in
       subst (λ (z : Inner). Next z (modelStep b (toRemove name))) (sym em) (subst (λ (z : Model). Next m z) (sym eb) stay))
   next (toAdd x) =
       by-test (nameRight (x .name))
       (λ t. by-order (findM m (x .name)) (suc (m .peak))
       (λ h.
       let em : addM m x .model ≡ m = ap (λ (c : ChangedM). c .model) (cond-true _ _ t ∙ cond-true _ _ (lt-true h)) in
-      let eb : modelStep b (toAdd x) ≡ b = cond-true _ _ t ∙ cond-true _ _ (lt-true h) in
+      let eb : modelStep b (toAdd x) ≡ b = ap (λ (c : ModelChanged). c .model) (cond-true _ _ (name-so (x .name) t) ∙ cond-true _ _ (lt-true h)) in
       subst (λ (z : Inner). Next z (modelStep b (toAdd x))) (sym em) (subst (λ (z : Model). Next m z) (sym eb) stay))
       (λ h. by-test (roomFor m x)
       (λ s.
       let right : (1 ≤ length (x .name)) × (length (x .name) ≤ nameMost) = name-bounds (x .name) t in
       let em : addM m x .model ≡ addAtM m (emptyLine m) x = ap (λ (c : ChangedM). c .model) (cond-true _ _ t ∙ cond-false _ _ (lt-false h) ∙ cond-true _ _ s) in
-      let eb : modelStep b (toAdd x) ≡ fill b (emptyLine m) x = cond-true _ _ t ∙ cond-false _ _ (lt-false h) ∙ cond-true _ _ s in
+      let eb : modelStep b (toAdd x) ≡ fill b (emptyLine m) x = ap (λ (c : ModelChanged). c .model) (cond-true _ _ (name-so (x .name) t) ∙ cond-false _ _ (lt-false h) ∙ cond-true _ _ s) in
       subst (λ (z : Inner). Next z (modelStep b (toAdd x))) (sym em)
       (subst (λ (z : Model). Next (addAtM m (emptyLine m) x) z) (sym eb) (add-next x right h (true-le s))))
       (λ s.
       let em : addM m x .model ≡ m = ap (λ (c : ChangedM). c .model) (cond-true _ _ t ∙ cond-false _ _ (lt-false h) ∙ cond-false _ _ s) in
-      let eb : modelStep b (toAdd x) ≡ b = cond-true _ _ t ∙ cond-false _ _ (lt-false h) ∙ cond-false _ _ s in
+      let eb : modelStep b (toAdd x) ≡ b = ap (λ (c : ModelChanged). c .model) (cond-true _ _ (name-so (x .name) t) ∙ cond-false _ _ (lt-false h) ∙ cond-false _ _ s) in
       subst (λ (z : Inner). Next z (modelStep b (toAdd x))) (sym em) (subst (λ (z : Model). Next m z) (sym eb) stay))))
       (λ t.
       let em : addM m x .model ≡ m = ap (λ (c : ChangedM). c .model) (cond-false _ _ t) in
-      let eb : modelStep b (toAdd x) ≡ b = cond-false _ _ t in
+      let eb : modelStep b (toAdd x) ≡ b = ap (λ (c : ModelChanged). c .model) (cond-false _ _ (name-so (x .name) t)) in
       subst (λ (z : Inner). Next z (modelStep b (toAdd x))) (sym em) (subst (λ (z : Model). Next m z) (sym eb) stay))
 
 -- ---- a history

@@ -30,10 +30,12 @@ use Rattle.files.specs.Laws.Invariant.{partsOf, Inv}
 use Rattle.files.specs.Laws.Left.{count-is, left-is}
 use Rattle.files.specs.Laws.Listed.{withOwner, Listed}
 use Rattle.files.specs.Laws.Present.{Fills, none-some, fills-size, fills-named, fills-not-named, fills-present, present-fills}
+use Rattle.files.specs.Laws.Names.{bounds-name}
+use Rattle.files.specs.Laws.Results.{result-is}
 use Rattle.files.specs.Laws.Run.{format-is, format-inv, img-right, img-disk, out-is, runs, end-inv}
 use Rattle.files.specs.Laws.Zero.{by-line, filled-below, line-entry, zero-outside}
 use Rattle.files.specs.Model.{NamedFile, Line, Model, dirBlocks, usable, freeWord, modelDisk, modelFormat, named, lineData}
-use Rattle.files.specs.Sizes.{titleMost}
+use Rattle.files.specs.Sizes.{nameMost, titleMost}
 use Rattle.files.specs.Written.{blocksFor}
 
 -- ---- the accepted format
@@ -80,17 +82,18 @@ module _ (m : Inner) (v : Inv m) (fs : List NamedFile) (r : Fills (m .lines) fs)
       f (w .0) h (w .1) (fills-named fs (m .lines) (λ i j y z a b n. v .line-once i j y z a b n) (findM m name) (w .0) name (w .1) (w .2) r))
       (λ h. g h (fills-not-named fs (m .lines) name (no-line name h) r))
 
-  read-found : (name buf : List ℕ) → nameRight name ≡ true → readM m name buf ≡ dataFound (fileNamed name fs) buf
-  unfolding readM dataFound lineData
-  read-found name buf t =
-      cond-true _ _ t
+  read-found : (name buf : List ℕ) → 1 ≤ length name → length name ≤ nameMost → readM m name buf ≡ dataFound (fileNamed name fs) buf
+  unfolding readM dataFound lineData kept
+  read-found name buf p q =
+      cond-true _ _ (bounds-name name p q)
       ∙ by-name name
-      (λ x h e f. cond-true _ _ (lt-true h) ∙ ap (λ (l : Line). deliver (lineData l) buf) e ∙ ap (λ (l : Line). dataFound l buf) (sym f))
+      (λ x h e f. cond-true _ _ (lt-true h) ∙ ap (λ (l : Line). deliver (lineData l) buf) e ∙ result-is (x .content) buf ∙ ap (λ (l : Line). dataFound l buf) (sym f))
       (λ h f. cond-false _ _ (lt-false h) ∙ ap (λ (l : Line). dataFound l buf) (sym f))
 
-  add-found : (x : NamedFile) → nameRight (x .name) ≡ true → fileNamed (x .name) fs ≡ none → addM m x .answer ≡ cond (roomFor m x) done (refusal 15)
+  add-found : (x : NamedFile) → 1 ≤ length (x .name) → length (x .name) ≤ nameMost → fileNamed (x .name) fs ≡ none → addM m x .answer ≡ cond (roomFor m x) done (refusal 15)
   unfolding addM refusedM
-  add-found x t n =
+  add-found x p q n =
+      let t : nameRight (x .name) ≡ true = bounds-name (x .name) p q in
       by-name (x .name)
       (λ y h e f. absurd (none-some y (sym n ∙ f)))
       (λ h f. by-test (roomFor m x)
@@ -172,7 +175,7 @@ module _ (title : List ℕ) (number : ℕ) (calls : List Call) where
         same-outs = with-model .0;
         same-image = ap imageOf (with-model .1);
         whole = length-image (render m);
-        read-gives = λ name buf t. read-at name buf ∙ read-found m v fs (both .0) name buf t;
+        read-gives = λ name buf p q. read-at name buf ∙ read-found m v fs (both .0) name buf p q;
         has-slot = λ x p.
             subst (λ (d : Disk). (k : ℕ) × (0 < k) × (k < dirEnd d) × HasEntry d k x) (sym on-disk) (slot-of m v fs (both .0) x p);
         slot-has =
@@ -182,8 +185,8 @@ module _ (title : List ℕ) (number : ℕ) (calls : List Call) where
         free-word =
             ap (λ (d : Disk). at16 (d 0) 20) on-disk ∙ word20 m v ∙ ap₂ freeWord peak-most-is (size-is m v fs (both .0));
         no-less = room-left;
-        add-gives = λ x t n.
-            add-at x ∙ add-found m v fs (both .0) x t n
+        add-gives = λ x p q n.
+            add-at x ∙ add-found m v fs (both .0) x p q n
             ∙ ap (λ (b : Bool). cond b done (refusal 15)) (room-by m v fs (both .0) x ∙ ap (λ (p : ℕ). leb (dirBlocks (max p (suc (length fs))) + (sizeOf fs + blocksFor (length (x .content)))) usable) peak-most-is);
         zero-else =
             subst (λ (d : Disk). (b o : ℕ) → (Belongs d fs b o → ⊥) → d b o ≡ 0) (sym on-disk) (zero-outside m v fs (both .0));

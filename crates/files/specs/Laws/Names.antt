@@ -1,15 +1,16 @@
--- Equality of names is an equivalence; no proof uses more of it.
+-- Names: their equality is an equivalence, of which no proof uses more, and the model accepts those that the calls accept.
 -- Assumes nothing.
 use mathlib.Core.Path.{_≡_, refl, sym, _∙_}
-use mathlib.Core.Bool.{true}
+use mathlib.Core.Bool.{Bool, true}
 use mathlib.Core.List.{List}
 use Prim.Native.Nat.{ℕ, _≤_}
 use lib.Dec.{leb}
 use lib.ListN.{length}
 use Rattle.laws.specs.Same.{same-eq, eq-same}
-use Rattle.laws.specs.Tests.{true-le}
+use Rattle.laws.specs.Tests.{le-true, true-le, and-true}
 use Rattle.laws.specs.Truth.{and-left, and-right}
 use Rattle.files.specs.Directory.{nameEq, nameRight}
+use Rattle.files.specs.Model.{acceptable}
 use Rattle.files.specs.Sizes.{nameMost}
 
 pub name-refl : (a : List ℕ) → nameEq a a ≡ true
@@ -29,3 +30,15 @@ pub name-bounds : (a : List ℕ) → nameRight a ≡ true → (1 ≤ length a) �
 unfolding nameRight
 name-bounds a t =
     (true-le (and-left (leb 1 (length a)) (leb (length a) nameMost) t), true-le (and-right (leb 1 (length a)) (leb (length a) nameMost) t))
+
+pub bounds-name : (a : List ℕ) → 1 ≤ length a → length a ≤ nameMost → nameRight a ≡ true
+unfolding nameRight
+bounds-name a p q = and-true (le-true p) (le-true q)
+
+-- the model's rule is that of the calls
+pub name-is : (a : List ℕ) → nameRight a ≡ acceptable a
+unfolding nameRight acceptable
+name-is a = refl
+
+pub name-so : (a : List ℕ) {t : Bool} → nameRight a ≡ t → acceptable a ≡ t
+name-so a e = sym (name-is a) ∙ e

@@ -11,9 +11,10 @@ use Rattle.laws.specs.Tests.{lt-true, lt-false, true≢false, by-equal, cond-tr
 use Rattle.sectors.specs.Geometry.{blocks}
 use Rattle.files.specs.declared.Record.{Record}
 use Rattle.files.specs.declared.Record.the-variants.{Free, System, File, Other}
+use Rattle.files.specs.Directory.{dirEnd}
 use Rattle.files.specs.Disk.{Disk}
 use Rattle.files.specs.History.{HasEntry, Belongs, inHead, inSlot, inFile}
-use Rattle.files.specs.Laws.Facts.{parts-none, rec, entry-is}
+use Rattle.files.specs.Laws.Facts.{parts-none, dirEnd-is, rec, entry-is}
 use Rattle.files.specs.Laws.Inner.{Inner, header, render}
 use Rattle.files.specs.Laws.Invariant.{Inv}
 use Rattle.files.specs.Laws.Present.{Fills, fills-present}
@@ -64,6 +65,9 @@ module _ (m : Inner) (v : Inv m) (fs : List NamedFile) (r : Fills (m .lines) fs)
     by-order (m .peak) k (λ h. true≢false (isSome (m .lines k)) (ap isSome e) (ap isSome (v .line-past k h))) (λ h. h),
   )
 
+  below-end : (k : ℕ) (x : NamedFile) → m .lines k ≡ some x → k < dirEnd d
+  below-end k x e = omega (arith, filled-below k x e .1, dirEnd-is m v)
+
   pub line-entry : (k : ℕ) (x : NamedFile) → m .lines k ≡ some x → HasEntry d k x
   line-entry k x e i l = entry-is m v k (filled-below k x e .1) x e i l
 
@@ -76,12 +80,12 @@ module _ (m : Inner) (v : Inv m) (fs : List NamedFile) (r : Fills (m .lines) fs)
       let whole : s ≡ k / blockSlots = omega arith in
       by-line (m .lines k) (λ z. vacant-zero m b o pos hb ho s e z)
       (λ x z. absurd (not-in
-      (inSlot b o k x (fills-present fs (m .lines) k x z r) (line-entry k x z) (rec m v b hb ∙ e ∙ ap (File 0) whole) (omega arith))))
+      (inSlot b o k x (fills-present fs (m .lines) k x z r) (filled-below k x z .0) (below-end k x z) (line-entry k x z) (rec m v b hb ∙ e ∙ ap (File 0) whole) (omega arith))))
   inside b o pos hb ho not-in (File (suc f) s) e =
       by-line (m .lines (suc f))
       (λ z. absurd (omega (arith, v .own .own-below b (suc f) s hb e, parts-none m (suc f) z (omega arith))))
       (λ x z. by-order (s * blockBytes + o) (slotBytes + length (x .content))
-      (λ h. absurd (not-in (inFile b o (suc f) s x (fills-present fs (m .lines) (suc f) x z r) (line-entry (suc f) x z) (rec m v b hb ∙ e) h)))
+      (λ h. absurd (not-in (inFile b o (suc f) s x (fills-present fs (m .lines) (suc f) x z r) (omega arith) (below-end (suc f) x z) (line-entry (suc f) x z) (rec m v b hb ∙ e) ho h)))
       (λ h. tail-zero m b o pos hb ho f s x e z h))
 
   pub zero-outside : (b o : ℕ) → (Belongs d fs b o → ⊥) → render m b o ≡ 0
