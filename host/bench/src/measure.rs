@@ -1,0 +1,76 @@
+//! Medians of times, and a line of the table.
+
+use std::fmt;
+use std::hint::black_box;
+use std::time::{Duration, Instant};
+
+/// How often each call is made.
+#[derive(Clone, Copy)]
+pub struct Runs(pub usize);
+
+/// The times of one call.
+pub struct Row {
+    name: &'static str,
+    library: Duration,
+    reference: Duration,
+    limit: Duration,
+}
+
+impl Row {
+    pub const HEADING: &'static str = "\
+call                          library ms  reference ms  library / reference  limit ms";
+
+    /// Makes both calls in turn, each on its own copy of what is lent.
+    /// A call tells whether it was done.
+    pub fn measured<L: Clone>(
+        runs: Runs,
+        name: &'static str,
+        limit: Duration,
+        lent: &L,
+        library: impl Fn(&mut L) -> bool,
+        reference: impl Fn(&mut L) -> bool,
+    ) -> Row {
+        let mut library_times = Vec::new();
+        let mut reference_times = Vec::new();
+        for _ in 0..runs.0 {
+            library_times.push(time(name, lent, &library));
+            reference_times.push(time(name, lent, &reference));
+        }
+        Row {
+            name,
+            library: median(library_times),
+            reference: median(reference_times),
+            limit,
+        }
+    }
+}
+
+impl fmt::Display for Row {
+    fn fmt(&self, f: &mut fmt::Formatter<'_>) -> fmt::Result {
+        let ms = |time: Duration| 1000.0 * time.as_secs_f64();
+        write!(
+            f,
+            "{:<28}{:>12.3}{:>14.3}{:>21.3}{:>10.0}",
+            self.name,
+            ms(self.library),
+            ms(self.reference),
+            self.library.as_secs_f64() / self.reference.as_secs_f64(),
+            ms(self.limit),
+        )
+    }
+}
+
+fn time<L: Clone>(name: &str, lent: &L, call: impl Fn(&mut L) -> bool) -> Duration {
+    let mut lent = black_box(lent.clone());
+    let start = Instant::now();
+    let done = call(&mut lent);
+    let time = start.elapsed();
+    black_box(lent);
+    assert!(done, "{name} was refused");
+    time
+}
+
+fn median(mut times: Vec<Duration>) -> Duration {
+    times.sort();
+    times[times.len() / 2]
+}

@@ -1,0 +1,145 @@
+//! Reading of whole files, and writing that loses nothing when it fails.
+
+use std::ffi::OsStr;
+use std::fs::{self, File, OpenOptions, Permissions};
+use std::io::{self, Read, Write};
+use std::path::{Path, PathBuf};
+
+use dhegluubin::IMAGE_LEN;
+
+use crate::failure::Failure;
+
+/// Most bytes of an HFE image that are looked at: track table and tracks
+/// begin at one of 65,536 units of 512 bytes and have under 65,536 bytes.
+const HFE_LIMIT: usize = 65_536 * 512 + 65_536;
+
+/// A byte more than fits a disk, which is refused as anything longer is.
+const DISK_LIMIT: usize = IMAGE_LEN + 1;
+
+/// Temporary names that are tried before it is given up.
+const TRIES: u32 = 100;
+
+/// The bytes of an HFE image, as many as matter.
+pub fn read_hfe(path: &OsStr) -> Result<Vec<u8>, Failure> {
+    read(path, HFE_LIMIT)
+}
+
+/// The bytes of a block image, as many as matter.
+pub fn read_image(path: &OsStr) -> Result<Vec<u8>, Failure> {
+    read(path, DISK_LIMIT)
+}
+
+/// The bytes of a file that is to be added, as many as matter.
+pub fn read_data(path: &OsStr) -> Result<Vec<u8>, Failure> {
+    read(path, DISK_LIMIT)
+}
+
+/// Reads at most so many bytes, so that an endless file does not fill the
+/// memory.
+fn read(path: &OsStr, limit: usize) -> Result<Vec<u8>, Failure> {
+    let path = Path::new(path);
+    let most = u64::try_from(limit).unwrap_or(u64::MAX);
+    let mut bytes = Vec::new();
+    File::open(path)
+        .and_then(|file| file.take(most).read_to_end(&mut bytes))
+        .map_err(|error| Failure::io(path, error))?;
+    Ok(bytes)
+}
+
+/// Writes a file under a temporary name in the same folder, then renames it:
+/// until all is written, what was there before stays.
+pub fn write(path: &OsStr, bytes: &[u8]) -> Result<(), Failure> {
+    let path = Path::new(path);
+    replace(path, bytes).map_err(|error| Failure::io(path, error))
+}
+
+/// As `write`, but only where nothing is there yet.
+pub fn write_new(path: &OsStr, bytes: &[u8]) -> Result<(), Failure> {
+    if fs::symlink_metadata(path).is_ok() {
+        let error = io::Error::new(
+            io::ErrorKind::AlreadyExists,
+            "is there already, --force writes over it",
+        );
+        return Err(Failure::io(Path::new(path), error));
+    }
+    write(path, bytes)
+}
+
+fn replace(path: &Path, bytes: &[u8]) -> io::Result<()> {
+    let old = match fs::metadata(path) {
+        Err(error) if error.kind() == io::ErrorKind::NotFound => None,
+        Err(error) => return Err(error),
+        Ok(old) => Some(old),
+    };
+    match old {
+        None => beside(path, bytes, None),
+        Some(old) if old.is_dir() => Err(io::Error::other("is a folder")),
+        // A device or a pipe holds nothing to be kept, and must not give way
+        // to a plain file.
+        Some(old) if !old.is_file() => OpenOptions::new().write(true).open(path)?.write_all(bytes),
+        // A rename does not ask whether the file may be written.
+        Some(old) if old.permissions().readonly() => Err(io::Error::new(
+            io::ErrorKind::PermissionDenied,
+            "is write-protected",
+        )),
+        // Behind a link the file is replaced, not the link.
+        Some(old) => beside(&fs::canonicalize(path)?, bytes, Some(old.permissions())),
+    }
+}
+
+/// Writes beside the target and renames.
+fn beside(target: &Path, bytes: &[u8], permissions: Option<Permissions>) -> io::Result<()> {
+    let folder = match target.parent() {
+        Some(folder) if folder != Path::new("") => folder,
+        _ => Path::new("."),
+    };
+    let (mut temporary, mut file) = Temporary::create(folder)?;
+    file.write_all(bytes)?;
+    if let Some(permissions) = permissions {
+        file.set_permissions(permissions)?;
+    }
+    // The name must not reach the disk before the bytes do.
+    file.sync_all()?;
+    drop(file);
+    fs::rename(&temporary.path, target)?;
+    temporary.renamed = true;
+    Ok(())
+}
+
+/// A file that is removed again unless it was renamed.
+struct Temporary {
+    path: PathBuf,
+    renamed: bool,
+}
+
+impl Temporary {
+    /// Creates it under a name that nothing has.
+    fn create(folder: &Path) -> io::Result<(Temporary, File)> {
+        let mut number = 0;
+        loop {
+            let path = folder.join(format!(".dheg-{}-{number}.tmp", std::process::id()));
+            match OpenOptions::new().write(true).create_new(true).open(&path) {
+                Err(error) if error.kind() == io::ErrorKind::AlreadyExists && number < TRIES => {
+                    number += 1;
+                }
+                Err(error) => return Err(error),
+                Ok(file) => {
+                    let temporary = Temporary {
+                        path,
+                        renamed: false,
+                    };
+                    return Ok((temporary, file));
+                }
+            }
+        }
+    }
+}
+
+impl Drop for Temporary {
+    fn drop(&mut self) {
+        if !self.renamed {
+            // The failure that led here is told; this one would hide it.
+            let _ = fs::remove_file(&self.path);
+        }
+    }
+}

@@ -1,0 +1,79 @@
+//! Help for the tool and for each command.
+
+use crate::bench::{Bench, Ended};
+
+const COMMANDS: [&str; 10] = [
+    "unpack", "pack", "edit", "format", "check", "ls", "get", "put", "rm", "place",
+];
+
+#[test]
+fn the_tool() {
+    let bench = Bench::new();
+    let help = bench.line("--help");
+    assert_eq!((help.status, help.err.as_str()), (Some(0), ""));
+    for command in COMMANDS {
+        assert!(help.out.contains(&format!("\n  {command} ")), "{command}");
+    }
+    assert!(help.out.contains("\nExit status: 0 done, 1 refused, 2 "));
+    assert!(help.out.contains("\nexample: dheg edit "));
+    assert_eq!(bench.line("-h"), help);
+    let version = concat!("dheg ", env!("CARGO_PKG_VERSION"), "\n");
+    assert_eq!(bench.line("--version"), Ended::new(0, version, ""));
+}
+
+#[test]
+fn each_command() {
+    let bench = Bench::new();
+    for command in COMMANDS {
+        let help = bench.line(&format!("{command} --help"));
+        assert_eq!((help.status, help.err.as_str()), (Some(0), ""));
+        assert!(help.out.starts_with(&format!("dheg {command}: ")));
+        assert!(help.out.contains(&format!("\nusage: dheg {command} ")));
+        assert!(help.out.contains(&format!("\nexample: dheg {command} ")));
+        let long = help.out.lines().find(|line| line.len() > 90);
+        assert_eq!(long, None);
+        assert_eq!(bench.line(&format!("{command} a -h b")), help);
+    }
+}
+
+#[test]
+fn examples_work() {
+    let bench = Bench::new();
+    for (name, text) in [
+        ("letter.txt", "Dear client"),
+        ("boot.bas", "10 PRINT"),
+        ("notes.txt", "notes"),
+    ] {
+        bench.write(name, text.as_bytes());
+    }
+    bench.quiet("format games.img");
+    bench.quiet("put games.img boot letter.txt");
+    bench.quiet("pack games.img old.hfe");
+    for command in ["format", "put", "get", "ls", "rm", "check", "pack"] {
+        run_example(&bench, command);
+    }
+    for command in ["unpack", "edit", "place"] {
+        run_example(&bench, command);
+    }
+}
+
+/// Runs the example of a command's help as a shell would.
+fn run_example(bench: &Bench, command: &str) {
+    let help = bench.line(&format!("{command} --help")).out;
+    let (_, example) = help.split_once("\nexample: dheg ").unwrap();
+    let example = example.trim_end().replace("*.img", "games.img work.img");
+    // Quotes stand only around whole arguments.
+    let mut args = Vec::new();
+    for (at, part) in example.split('\'').enumerate() {
+        match at % 2 {
+            0 => args.extend(part.split_whitespace()),
+            _ => args.push(part),
+        }
+    }
+    let ended = bench.dheg(&args);
+    assert_eq!(
+        (ended.status, ended.err.as_str()),
+        (Some(0), ""),
+        "{example}"
+    );
+}

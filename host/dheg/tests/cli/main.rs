@@ -1,0 +1,11 @@
+//! The built tool, run in folders of its own.
+
+mod bench;
+mod edit;
+mod files;
+mod help;
+mod images;
+mod interchange;
+mod several;
+mod usage;
+mod writing;

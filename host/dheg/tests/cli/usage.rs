@@ -1,0 +1,100 @@
+//! Wrong command lines: status 2, words and usage on standard error.
+
+use crate::bench::Bench;
+
+/// The line fails with these words, then the usage of its command, and
+/// changes nothing.
+fn wrong(bench: &Bench, line: &str, words: &str) {
+    let command = line.split(' ').next().unwrap();
+    let before = bench.all();
+    let ended = bench.line(line);
+    assert_eq!(ended.status, Some(2), "{line}");
+    assert_eq!(ended.out, "", "{line}");
+    let expected = format!("dheg: {command}: {words}\nusage: dheg {command} ");
+    assert!(ended.err.starts_with(&expected), "{line}: {}", ended.err);
+    assert_eq!(ended.err.lines().count(), 2, "{line}");
+    assert!(bench.all() == before, "{line}");
+}
+
+#[test]
+fn no_command() {
+    let bench = Bench::new();
+    let ended = bench.dheg([""; 0]);
+    assert_eq!(ended.status, Some(2));
+    assert!(ended.err.contains("a command is needed\n"));
+    for word in ["lss", "-x", "--unpack", ""] {
+        let ended = bench.dheg([word]);
+        assert_eq!(ended.status, Some(2));
+        assert!(ended.err.contains("there is no command"), "{}", ended.err);
+        assert_eq!(ended.out, "");
+    }
+}
+
+#[test]
+fn counts_of_words() {
+    let bench = Bench::with_disk();
+    for (line, words) in [
+        ("unpack", "words needed: 2, given: 0"),
+        ("unpack a b c", "words needed: 2, given: 3"),
+        ("pack a", "words needed: 2, given: 1"),
+        ("place 1", "words needed: 2, given: 1"),
+        ("format", "words needed: 1, given: 0"),
+        ("format a b", "words needed: 1, given: 2"),
+        ("check", "no image is named"),
+        ("ls", "no image is named"),
+        ("get disk.img a", "words needed: 3, given: 2"),
+        ("put disk.img a", "words needed: 3, given: 2"),
+        ("rm disk.img", "words needed: 2, given: 1"),
+        ("rm disk.img a b", "words needed: 2, given: 3"),
+        ("edit a -- rm b", "words needed: 2, given: 1"),
+    ] {
+        wrong(&bench, line, words);
+    }
+}
+
+#[test]
+fn options_and_values() {
+    let bench = Bench::with_disk();
+    bench.write("data", b"data");
+    for (line, words) in [
+        ("check -v disk.img", "there is no option -v"),
+        ("unpack --force a b", "there is no option --force"),
+        ("format a --name", "--name has no value"),
+        ("format a --number 65536", "--number is over 65535"),
+        ("format a --number -1", "-1 is not a number"),
+        ("format a --force --force", "--force is given twice"),
+        ("place one 2", "one is not a number"),
+        (
+            "put disk.img a data --date now --date 1",
+            "--date is given twice",
+        ),
+        (
+            "put disk.img a data --date never",
+            "never is not a date from 1961-01-01 00:00:00 to 2097-02-06 06:28:15, \
+             nor its seconds, nor now",
+        ),
+        (
+            "rm disk.img \\q",
+            "in the name \\q a backslash is not followed by xHH or another backslash",
+        ),
+    ] {
+        wrong(&bench, line, words);
+    }
+}
+
+#[test]
+fn steps_of_edit() {
+    let bench = Bench::with_disk();
+    bench.quiet("pack disk.img disk.hfe");
+    for (steps, words) in [
+        ("", "-- is needed before the steps"),
+        (" --", "no step is given behind --"),
+        (" -- rm", "rm needs NAME"),
+        (" -- put a", "put needs NAME and FILE"),
+        (" -- ls a", "there is no step ls"),
+        (" -- rm a --date 1", "there is no step --date"),
+        (" -- put a b --date", "--date has no value"),
+    ] {
+        wrong(&bench, &format!("edit disk.hfe out.hfe{steps}"), words);
+    }
+}

@@ -1,0 +1,184 @@
+//! Files on a block image.
+
+use crate::ffi;
+use crate::reply::{FirstTrack, Refusal};
+
+/// Bytes of the first track of a block image.
+pub const FIRST_TRACK_LEN: usize = 9_216;
+
+/// Bytes of a directory entry, as [`list`] gives them.
+pub const ENTRY_LEN: usize = 64;
+
+/// Most bytes of a file name.
+pub const FILE_NAME_LEN: usize = 36;
+
+/// Most bytes of a disk name.
+pub const DISK_NAME_LEN: usize = 10;
+
+/// Writes an empty disk over a block image of [`IMAGE_LEN`](crate::IMAGE_LEN)
+/// bytes, whatever that held; no old byte stays. The name has 0 to
+/// [`DISK_NAME_LEN`] bytes.
+///
+/// Refused with 1 and 12: [`Length`](Refusal::Length),
+/// [`Argument`](Refusal::Argument).
+///
+/// ```
+/// use dhegluubin::{format, Refusal, IMAGE_LEN};
+///
+/// let mut image = vec![0xE5; IMAGE_LEN];
+/// assert_eq!(format(&mut image, b"much too long", 1), Err(Refusal::Argument));
+/// assert_eq!(image[0], 0xE5);
+/// format(&mut image, b"WORK", 1)?;
+/// assert_eq!(image[..8], *b"QL5AWORK");
+/// # Ok::<(), Refusal>(())
+/// ```
+pub fn format(image: &mut [u8], name: &[u8], number: u16) -> Result<(), Refusal> {
+    ffi::format(image, name, number).result().map(|_| ())
+}
+
+/// Judges a block image: its length, the disk header, the map, the directory
+/// and the free word.
+///
+/// Refused with 1 and 8 to 11: [`Length`](Refusal::Length),
+/// [`DiskHeader`](Refusal::DiskHeader), [`MapRecord`](Refusal::MapRecord),
+/// [`Directory`](Refusal::Directory), [`FreeWord`](Refusal::FreeWord).
+///
+/// ```
+/// use dhegluubin::{check, format, Refusal, IMAGE_LEN};
+///
+/// let mut image = vec![0; IMAGE_LEN];
+/// assert_eq!(check(&image), Err(Refusal::DiskHeader { offset: 0 }));
+/// format(&mut image, b"WORK", 1)?;
+/// assert_eq!(check(&image), Ok(()));
+/// # Ok::<(), Refusal>(())
+/// ```
+pub fn check(image: &[u8]) -> Result<(), Refusal> {
+    ffi::check(image).result().map(|_| ())
+}
+
+/// Writes the directory entries of the files present into the buffer,
+/// [`ENTRY_LEN`] bytes each, in slot order, as they stand. Gives the count of
+/// bytes; those behind them are left as they were.
+///
+/// An entry has, highest byte first: 0-3 the length of the file (64 more than
+/// its data), 14-15 the length of the name, 16-51 the name, 52-55 the date.
+///
+/// Refused as [`check`], then with 16:
+/// [`BufferTooShort`](Refusal::BufferTooShort).
+///
+/// ```
+/// use dhegluubin::{add, format, list, Refusal, ENTRY_LEN, IMAGE_LEN};
+///
+/// let mut image = vec![0; IMAGE_LEN];
+/// format(&mut image, b"WORK", 1)?;
+/// add(&mut image, b"letter_txt", 0, b"Dear client")?;
+///
+/// let mut out = [0; 10 * ENTRY_LEN];
+/// let count = list(&image, &mut out)?;
+/// assert_eq!(count, ENTRY_LEN);
+/// assert_eq!(out[16..26], *b"letter_txt");
+///
+/// assert_eq!(
+///     list(&image, &mut []),
+///     Err(Refusal::BufferTooShort { needed: ENTRY_LEN })
+/// );
+/// # Ok::<(), Refusal>(())
+/// ```
+pub fn list(image: &[u8], out: &mut [u8]) -> Result<usize, Refusal> {
+    ffi::list(image, out).result()
+}
+
+/// Writes the data of a file into the buffer. Gives the count of bytes; those
+/// behind them are left as they were. A name has 1 to [`FILE_NAME_LEN`] bytes
+/// of any value and is compared byte by byte.
+///
+/// Refused as [`check`], then with 12, 14, 16:
+/// [`Argument`](Refusal::Argument), [`NoSuchName`](Refusal::NoSuchName),
+/// [`BufferTooShort`](Refusal::BufferTooShort).
+///
+/// ```
+/// use dhegluubin::{add, format, read, Refusal, IMAGE_LEN};
+///
+/// let mut image = vec![0; IMAGE_LEN];
+/// format(&mut image, b"WORK", 1)?;
+/// add(&mut image, b"letter_txt", 0, b"Dear client")?;
+///
+/// let mut out = [0; 100];
+/// let count = read(&image, b"letter_txt", &mut out)?;
+/// assert_eq!(out[..count], *b"Dear client");
+/// assert_eq!(read(&image, b"LETTER_TXT", &mut out), Err(Refusal::NoSuchName));
+/// # Ok::<(), Refusal>(())
+/// ```
+pub fn read(image: &[u8], name: &[u8], out: &mut [u8]) -> Result<usize, Refusal> {
+    ffi::read(image, name, out).result()
+}
+
+/// Adds a file to a disk. It takes the lowest vacant slot and the lowest free
+/// blocks, (64 + bytes of data) / 1536 rounded up, and a block more where the
+/// directory grows.
+///
+/// Refused as [`check`], then with 12, 13, 15:
+/// [`Argument`](Refusal::Argument), [`NamePresent`](Refusal::NamePresent),
+/// [`TooFewBlocks`](Refusal::TooFewBlocks).
+///
+/// ```
+/// use dhegluubin::{add, format, Refusal, IMAGE_LEN};
+///
+/// let mut image = vec![0; IMAGE_LEN];
+/// format(&mut image, b"WORK", 1)?;
+/// add(&mut image, b"letter_txt", 0x1234_5678, b"Dear client")?;
+/// assert_eq!(
+///     add(&mut image, b"letter_txt", 0, b"again"),
+///     Err(Refusal::NamePresent { slot: 1 })
+/// );
+/// assert_eq!(
+///     add(&mut image, b"all", 0, &vec![0; IMAGE_LEN]),
+///     Err(Refusal::TooFewBlocks)
+/// );
+/// # Ok::<(), Refusal>(())
+/// ```
+pub fn add(image: &mut [u8], name: &[u8], date: u32, data: &[u8]) -> Result<(), Refusal> {
+    ffi::add(image, name, date, data).result().map(|_| ())
+}
+
+/// Removes a file from a disk. Its blocks and its slot are filled with zero
+/// bytes: none of its bytes stays in the image.
+///
+/// Refused as [`check`], then with 12, 14: [`Argument`](Refusal::Argument),
+/// [`NoSuchName`](Refusal::NoSuchName).
+///
+/// ```
+/// use dhegluubin::{add, format, remove, Refusal, IMAGE_LEN};
+///
+/// let mut image = vec![0; IMAGE_LEN];
+/// format(&mut image, b"WORK", 1)?;
+/// add(&mut image, b"letter_txt", 0, b"Dear client")?;
+/// remove(&mut image, b"letter_txt")?;
+/// assert!(!image.windows(6).any(|bytes| bytes == b"client"));
+/// assert_eq!(remove(&mut image, b"letter_txt"), Err(Refusal::NoSuchName));
+/// # Ok::<(), Refusal>(())
+/// ```
+pub fn remove(image: &mut [u8], name: &[u8]) -> Result<(), Refusal> {
+    ffi::remove(image, name).result().map(|_| ())
+}
+
+/// Judges the first track of a block image, [`FIRST_TRACK_LEN`] bytes, and
+/// tells its counts. The directory is not looked at.
+///
+/// Refused with 1, 8, 9, 11: [`Length`](Refusal::Length),
+/// [`DiskHeader`](Refusal::DiskHeader), [`MapRecord`](Refusal::MapRecord),
+/// [`FreeWord`](Refusal::FreeWord).
+///
+/// ```
+/// use dhegluubin::{first_track, format, FirstTrack, Refusal, FIRST_TRACK_LEN, IMAGE_LEN};
+///
+/// let mut image = vec![0; IMAGE_LEN];
+/// format(&mut image, b"WORK", 1)?;
+/// let counts = first_track(&image[..FIRST_TRACK_LEN])?;
+/// assert_eq!(counts, FirstTrack { free: 1434, good: 1440, held: 2 });
+/// # Ok::<(), Refusal>(())
+/// ```
+pub fn first_track(track: &[u8]) -> Result<FirstTrack, Refusal> {
+    let (reply, counts) = ffi::first_track(track);
+    reply.result().map(|_| counts)
+}

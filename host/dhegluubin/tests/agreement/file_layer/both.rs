@@ -1,0 +1,140 @@
+//! Calls made twice, by the library and by the reference. Replies, places
+//! and every lent byte must be the same, a refusal changes nothing, and no
+//! call changes what it may only read.
+
+use crate::lent::Lent;
+use dhegluubin::{raw, FIRST_TRACK_LEN};
+
+/// Number and places.
+pub type Parts = [usize; 4];
+
+/// A call that changes the image.
+fn on_image(
+    image: &mut [u8],
+    library: impl FnOnce(&mut [u8]) -> dhegluubin::Reply,
+    reference: impl FnOnce(&mut [u8]) -> reference::Reply,
+) -> Parts {
+    let mut lent = Lent::new(image);
+    let reply = library(lent.bytes()).parts();
+    assert!(
+        reply[0] == 0 || lent.after() == image,
+        "image changed by refusal {reply:?}"
+    );
+    let expected = reference(image).parts();
+    assert_eq!(reply, expected, "library, then reference");
+    assert!(lent.after() == image, "other image than the reference");
+    reply
+}
+
+/// A call that reads the image and writes to a buffer.
+fn into_buffer(
+    image: &[u8],
+    buffer: &[u8],
+    library: impl FnOnce(&[u8], &mut [u8]) -> dhegluubin::Reply,
+    reference: impl FnOnce(&[u8], &mut [u8]) -> reference::Reply,
+) -> (Parts, Vec<u8>) {
+    let lent_image = image.to_vec();
+    let mut lent = Lent::new(buffer);
+    let reply = library(&lent_image, lent.bytes()).parts();
+    assert!(lent_image == image, "image changed");
+    assert!(
+        reply[0] == 0 || lent.after() == buffer,
+        "buffer changed by refusal {reply:?}"
+    );
+    let mut expected_buffer = buffer.to_vec();
+    let expected = reference(image, &mut expected_buffer).parts();
+    assert_eq!(reply, expected, "library, then reference");
+    assert!(
+        lent.after() == expected_buffer,
+        "other buffer than the reference"
+    );
+    (reply, expected_buffer)
+}
+
+pub fn format(image: &mut [u8], name: &[u8], number: u16) -> Parts {
+    on_image(
+        image,
+        |lent| raw::format(lent, name, number),
+        |lent| reference::format(lent, name, number),
+    )
+}
+
+pub fn add(image: &mut [u8], name: &[u8], date: u32, data: &[u8]) -> Parts {
+    on_image(
+        image,
+        |lent| raw::add(lent, name, date, data),
+        |lent| reference::add(lent, name, date, data),
+    )
+}
+
+pub fn remove(image: &mut [u8], name: &[u8]) -> Parts {
+    on_image(
+        image,
+        |lent| raw::remove(lent, name),
+        |lent| reference::remove(lent, name),
+    )
+}
+
+pub fn check(image: &[u8]) -> Parts {
+    into_buffer(
+        image,
+        &[],
+        |image, _| raw::check(image),
+        |image, _| reference::check(image),
+    )
+    .0
+}
+
+pub fn list(image: &[u8], buffer: &[u8]) -> (Parts, Vec<u8>) {
+    into_buffer(image, buffer, raw::list, reference::list)
+}
+
+pub fn read(image: &[u8], name: &[u8], buffer: &[u8]) -> (Parts, Vec<u8>) {
+    into_buffer(
+        image,
+        buffer,
+        |image, out| raw::read(image, name, out),
+        |image, out| reference::read(image, name, out),
+    )
+}
+
+/// Reply and counts for a first track.
+pub fn first_track(track: &[u8]) -> (Parts, [usize; 3]) {
+    let lent = track.to_vec();
+    let (reply, counts) = raw::first_track(&lent);
+    assert!(lent == track, "track changed");
+    let library = (reply.parts(), [counts.free, counts.good, counts.held]);
+    let expected = reference::first_track(track);
+    let counts = [expected.free, expected.good, expected.held];
+    assert_eq!(
+        library,
+        (expected.reply.parts(), counts),
+        "library, then reference"
+    );
+    library
+}
+
+/// Makes every call on the image, add and remove on copies of it, and gives
+/// what check says.
+pub fn all_calls(image: &[u8], name: &[u8]) -> Parts {
+    let checked = check(image);
+    let start = &image[..image.len().min(FIRST_TRACK_LEN)];
+    first_track(start);
+    let (listed, _) = list(image, &[0xAA; 200]);
+    if listed[0] == 16 {
+        // Exactly as long as needed, and one byte less.
+        let needed = listed[1];
+        assert_eq!(list(image, &vec![0xAB; needed]).0, [0, needed, 0, 0]);
+        assert_eq!(list(image, &vec![0xAC; needed - 1]).0, listed);
+    }
+    let (data, _) = read(image, name, &[0xAA; 100]);
+    if data[0] == 16 {
+        let needed = data[1];
+        assert_eq!(read(image, name, &vec![0xAB; needed]).0, [0, needed, 0, 0]);
+        assert_eq!(read(image, name, &vec![0xAC; needed - 1]).0, data);
+    }
+    add(&mut image.to_vec(), b"new file", 0x0A0B_0C0D, &[0x3C; 3000]);
+    add(&mut image.to_vec(), name, 1, &[]);
+    remove(&mut image.to_vec(), name);
+    checked
+}

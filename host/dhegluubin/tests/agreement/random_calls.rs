@@ -1,0 +1,201 @@
+//! Random calls of every function: any lengths, random bytes, damaged images.
+//! Library and reference must agree on every reply and every lent byte.
+//!
+//! `DHEG_CASES=100000 cargo test -p dhegluubin random_calls` makes as many.
+
+use crate::cases::cases;
+use crate::file_layer::both as files;
+use crate::sector_layer::both as sectors;
+use crate::sector_layer::build::{empty_tracks, packed, sides, track_0};
+use dhegluubin::{raw, FIRST_TRACK_LEN, HFE_LEN, IMAGE_LEN};
+use std::collections::BTreeMap;
+use support::noise::{noise, Generator};
+
+/// A length at or about an interesting one, or any below 2^21.
+fn random_len(generator: &mut Generator) -> usize {
+    let lens = [
+        0,
+        64,
+        512,
+        1024,
+        FIRST_TRACK_LEN,
+        IMAGE_LEN,
+        HFE_LEN,
+        generator.below(4000),
+        generator.below(1 << 21),
+    ];
+    let len = *generator.choice(&lens);
+    (len + generator.below(3)).saturating_sub(1)
+}
+
+/// Bytes of one value, or by chance.
+fn random_bytes(generator: &mut Generator, len: usize) -> Vec<u8> {
+    match generator.below(3) {
+        0 => vec![generator.byte(); len],
+        _ => noise(generator.below(1 << 24) as u32, len),
+    }
+}
+
+/// A name, most often of one of the files that may be there.
+fn random_name(generator: &mut Generator) -> Vec<u8> {
+    match generator.below(10) {
+        0 => {
+            let len = generator.below(60);
+            random_bytes(generator, len)
+        }
+        1 => Vec::new(),
+        2 => vec![b'n'; 36 + generator.below(2)],
+        _ => vec![b'a' + generator.below(12) as u8],
+    }
+}
+
+/// Changes some bytes, or cuts or lengthens; rarely nothing.
+fn damage(generator: &mut Generator, bytes: &mut Vec<u8>) {
+    for _ in 0..generator.below(4) {
+        if bytes.is_empty() {
+            return;
+        }
+        // The first bytes hold header, map and table.
+        let reach = *generator.choice(&[96, 1024, 6000, bytes.len()]);
+        let place = generator.below(reach.min(bytes.len()));
+        match generator.below(40) {
+            0 => bytes.truncate(place),
+            1 => bytes.push(generator.byte()),
+            2..=20 => bytes[place] ^= 1 << generator.below(8),
+            _ => bytes[place] = generator.byte(),
+        }
+    }
+}
+
+/// The disk that calls have left so far, or one that is damaged or random.
+fn random_image(generator: &mut Generator, disk: &[u8]) -> Vec<u8> {
+    match generator.below(8) {
+        0 => {
+            let len = random_len(generator);
+            random_bytes(generator, len)
+        }
+        1..=4 => {
+            let mut image = disk.to_vec();
+            damage(generator, &mut image);
+            image
+        }
+        _ => disk.to_vec(),
+    }
+}
+
+/// An HFE image that is judged quickly: cut, damaged, or of one track.
+fn random_hfe(generator: &mut Generator, track: &[Vec<u8>; 2]) -> Vec<u8> {
+    match generator.below(6) {
+        0 => {
+            let len = random_len(generator);
+            random_bytes(generator, len)
+        }
+        1 | 2 => {
+            let mut sides = track.clone();
+            for _ in 0..generator.below(3) {
+                let side = generator.below(2);
+                let place = generator.below(sides[side].len());
+                sides[side][place] ^= 1 << generator.below(8);
+            }
+            track_0(&sides)
+        }
+        _ => {
+            let mut hfe = empty_tracks();
+            damage(generator, &mut hfe);
+            hfe
+        }
+    }
+}
+
+/// Which call was made, and the number of its reply.
+type Made = (&'static str, usize);
+
+fn place(generator: &mut Generator) -> Made {
+    let block = generator.below(600);
+    let block = *generator.choice(&[0, 479, 480, usize::MAX, block]);
+    let sector = *generator.choice(&[0, 1, 2, 3, usize::MAX]);
+    let reply = raw::place(block, sector).parts();
+    assert_eq!(reply, reference::place(block, sector).parts());
+    ("place", reply[0])
+}
+
+fn unpack(generator: &mut Generator, track: &[Vec<u8>; 2]) -> Made {
+    let hfe = random_hfe(generator, track);
+    ("unpack", sectors::unpack(&hfe)[0])
+}
+
+/// Most are refused by length; few are packed, which takes longer.
+fn pack(generator: &mut Generator) -> Made {
+    let (image_len, hfe_len) = match generator.below(20) {
+        0 => (IMAGE_LEN, HFE_LEN),
+        1..=5 => (IMAGE_LEN, random_len(generator)),
+        _ => (random_len(generator), random_len(generator)),
+    };
+    let image = random_bytes(generator, image_len);
+    let mut hfe = random_bytes(generator, hfe_len);
+    let after = sectors::pack_into(&image, &hfe);
+    assert_eq!(after.reply, reference::pack(&image, &mut hfe).parts());
+    assert!(after.bytes == hfe);
+    ("pack", after.reply[0])
+}
+
+/// A call on a block image; what an accepted one leaves is the next disk.
+fn file_call(generator: &mut Generator, disk: &mut Vec<u8>) -> Made {
+    let mut image = random_image(generator, disk);
+    let name = random_name(generator);
+    let len = random_len(generator);
+    let (call, reply) = match generator.below(80) {
+        0 => {
+            let number = generator.below(65_536) as u16;
+            ("format", files::format(&mut image, &name, number))
+        }
+        1..=5 => {
+            let len = *generator.choice(&[FIRST_TRACK_LEN, len]);
+            let track = &image[..len.min(image.len())];
+            ("first_track", files::first_track(track).0)
+        }
+        6..=13 => ("check", files::check(&image)),
+        14..=24 => {
+            let buffer = random_bytes(generator, len);
+            ("list", files::list(&image, &buffer).0)
+        }
+        25..=42 => {
+            let buffer = random_bytes(generator, len);
+            ("read", files::read(&image, &name, &buffer).0)
+        }
+        43..=64 => {
+            let short = generator.below(9000);
+            let len = *generator.choice(&[len, short, short]);
+            let data = random_bytes(generator, len);
+            let date = generator.below(1 << 24) as u32;
+            ("add", files::add(&mut image, &name, date, &data))
+        }
+        _ => ("remove", files::remove(&mut image, &name)),
+    };
+    if reply[0] == 0 && call != "first_track" {
+        *disk = image;
+    }
+    (call, reply[0])
+}
+
+#[test]
+fn random_calls() {
+    let mut generator = Generator::new(1);
+    let mut disk = noise(1, IMAGE_LEN);
+    files::format(&mut disk, b"RANDOM", 1);
+    let track = sides(&packed(), 0);
+    let mut counts = BTreeMap::new();
+    for case in 0..cases(1500) {
+        if case % 100 == 0 {
+            println!("call {case}");
+        }
+        let made = match generator.below(100) {
+            0..=7 => place(&mut generator),
+            8..=19 => unpack(&mut generator, &track),
+            20..=22 => pack(&mut generator),
+            _ => file_call(&mut generator, &mut disk),
+        };
+        *counts.entry(made).or_insert(0) += 1;
+    }
+    println!("calls by name and number: {counts:?}");
+}

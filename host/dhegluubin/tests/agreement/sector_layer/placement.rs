@@ -1,0 +1,41 @@
+use dhegluubin::{place, raw, Refusal};
+
+#[test]
+fn stated_placements() {
+    for (block, sector, expected) in [
+        (0, 0, 0),
+        (2, 0, 1),
+        (1, 0, 9),
+        (1, 1, 12),
+        (1, 2, 15),
+        (6, 0, 23),
+        (6, 1, 26),
+        (6, 2, 20),
+        (7, 0, 32),
+        (474, 0, 1430),
+        (479, 2, 1438),
+    ] {
+        assert_eq!(place(block, sector), Ok(expected));
+    }
+}
+
+#[test]
+fn all_blocks_and_sectors_and_some_beyond() {
+    for block in 0..600 {
+        for sector in 0..10 {
+            let reply = raw::place(block, sector).parts();
+            assert_eq!(reply, reference::place(block, sector).parts());
+        }
+    }
+}
+
+#[test]
+fn numbers_that_would_wrap() {
+    let third = usize::MAX / 3;
+    for number in [480, third, third + 1, 1 << 63, usize::MAX - 1, usize::MAX] {
+        for (block, sector) in [(number, 0), (0, number), (number, number)] {
+            assert_eq!(raw::place(block, sector).parts(), [12, 0, 0, 0]);
+            assert_eq!(place(block, sector), Err(Refusal::Argument));
+        }
+    }
+}

@@ -1,0 +1,203 @@
+/*
+ * QL double-density disks in HFE images.
+ *
+ * An HFE image (version 1) is read into a block image and written from one. On the block image a
+ * disk is formatted and checked, and files are listed, read, added and removed.
+ *
+ * For every function:
+ *
+ * - It answers with a number and three places. Number 0 means done. Every other number is a
+ *   refusal, which says what is wrong, with places that say where: see enum dheg_number. Tests run
+ *   from number 1 upwards and the first that fails is the answer. A place that is not named is 0.
+ * - A refused call changes nothing: every lent byte is as it was.
+ * - Any contents and any lengths may be passed; what cannot be done is refused.
+ * - Memory is lent for the time of the call. No pointer is kept, nothing is allocated, nothing
+ *   stays to be freed. A pointer must be good for the length behind it; where that is 0 the pointer
+ *   is not used and may be NULL. Memory that a call writes must not overlap anything else that is
+ *   lent to the same call. No alignment is asked for.
+ * - It keeps no state between calls and has none in common with other calls. Several threads may
+ *   call at the same time, each on its own memory; memory that is only read may be shared.
+ *
+ * Link with libbridge.a.
+ */
+#ifndef DHEGLUUBIN_H
+#define DHEGLUUBIN_H
+
+#include <stddef.h>
+#include <stdint.h>
+
+#ifdef __cplusplus
+extern "C" {
+#endif
+
+/* Bytes of a block image: 80 tracks, 2 sides, 9 sectors of 512 bytes, in this order. */
+#define DHEG_IMAGE_LEN 737280
+
+/* Bytes of an HFE image as it is written. */
+#define DHEG_HFE_LEN 2008064
+
+/* Fewest bytes of an HFE image that is read. */
+#define DHEG_SHORTEST_HFE_LEN 1024
+
+/* Bytes of the first track of a block image. */
+#define DHEG_FIRST_TRACK_LEN 9216
+
+/* Bytes of a directory entry, as a list gives them. */
+#define DHEG_ENTRY_LEN 64
+
+/* Most bytes of a file name, and of a disk name. */
+#define DHEG_FILE_NAME_LEN 36
+#define DHEG_DISK_NAME_LEN 10
+
+/* The numbers of a reply, and what their places mean. */
+enum dheg_number {
+    /* Done. A list and a read tell in `first` how many bytes they wrote, a placement the image
+     * sector. */
+    DHEG_DONE = 0,
+    /* A lent length is wrong. `first` says which: 1 the HFE image, 2 the block image or the first
+     * track. The HFE image is judged first. */
+    DHEG_LENGTH = 1,
+    /* The HFE header is wrong. `first` is the offset of the lowest wrong field: 0, 8, 9, 10, 11,
+     * 12, 18, 22, 23, 24 or 25. */
+    DHEG_HFE_HEADER = 2,
+    /* An entry of the track table is not good. `first` is the lowest such track. */
+    DHEG_TRACK_TABLE = 3,
+    /* 4 to 7 name the first bad sector: `first` is the track, `second` the side, `third` the
+     * sector number R, 1 to 9. */
+    /* It has no header. */
+    DHEG_NO_HEADER = 4,
+    /* It has two or more headers. */
+    DHEG_SEVERAL_HEADERS = 5,
+    /* Its data field is not present. */
+    DHEG_NO_DATA_FIELD = 6,
+    /* The CRC of its data is wrong. */
+    DHEG_DATA_CRC = 7,
+    /* The disk header is wrong. `first` is the offset of the lowest wrong field: 0, 22, 24, 26, 28,
+     * 30, 32, 34 (the directory's length), 38, 40 or 58. */
+    DHEG_DISK_HEADER = 8,
+    /* A map record is of no kind, or of a kind that its block cannot have. `first` is the lowest
+     * such block. */
+    DHEG_MAP_RECORD = 9,
+    /* The directory is not sound. `first` is the lowest file number at fault, 0 for the directory
+     * itself. */
+    DHEG_DIRECTORY = 10,
+    /* The free-sector word is not three times the free records. */
+    DHEG_FREE_WORD = 11,
+    /* A file name has not 1 to 36 bytes, a disk name has over 10, or a block or sector number is
+     * out of range. */
+    DHEG_ARGUMENT = 12,
+    /* The name to add is present. `first` is its slot. */
+    DHEG_NAME_PRESENT = 13,
+    /* No file has the name. */
+    DHEG_NO_SUCH_NAME = 14,
+    /* The file to add needs more blocks than are free. */
+    DHEG_TOO_FEW_BLOCKS = 15,
+    /* The result does not fit the lent buffer. `first` is the whole count of bytes needed. */
+    DHEG_BUFFER_TOO_SHORT = 16
+};
+
+/* An answer. */
+typedef struct {
+    size_t number, first, second, third;
+} dheg_reply;
+
+/* An answer for a first track; the three counts are 0 where it is refused. */
+typedef struct {
+    dheg_reply reply;
+    size_t free; /* free sectors, by the header */
+    size_t good; /* good sectors, by the header */
+    size_t held; /* blocks whose record is not free, those of header and directory among them */
+} dheg_first_track_result;
+
+/*
+ * Reads an HFE image of at least 1,024 bytes into a block image of 737,280 bytes: its sectors by
+ * track, side and sector number. All 1,440 sectors are judged before the first byte is written.
+ * Tracks and table may stand anywhere in the HFE image, even one over another.
+ *
+ * Judges 1 to 7. Writes all of `image`.
+ */
+dheg_reply dheg_unpack(const uint8_t *hfe, size_t hfe_len, uint8_t *image, size_t image_len);
+
+/*
+ * Writes a block image of 737,280 bytes as an HFE image of 2,008,064 bytes. dheg_unpack accepts what
+ * is written and gives the same block image back.
+ *
+ * Judges 1. Writes all of `hfe`.
+ */
+dheg_reply dheg_pack(const uint8_t *image, size_t image_len, uint8_t *hfe, size_t hfe_len);
+
+/*
+ * Tells where a sector (0 to 2) of a block (0 to 479) stands: `first` is the image sector, counted
+ * in 512 bytes from the start of a block image.
+ *
+ * Judges 12. Takes no memory.
+ */
+dheg_reply dheg_place(size_t block, size_t sector);
+
+/*
+ * Writes an empty disk over a block image of 737,280 bytes, whatever that held; no old byte stays.
+ * The name has 0 to 10 bytes; the number is kept in the header.
+ *
+ * Judges 1 and 12. Writes all of `image`.
+ */
+dheg_reply dheg_format(uint8_t *image, size_t image_len, const uint8_t *name, size_t name_len,
+                       uint16_t number);
+
+/*
+ * Judges a block image: its length, the disk header, the map, the directory and the free word.
+ *
+ * Judges 1 and 8 to 11. Writes nothing.
+ */
+dheg_reply dheg_check(const uint8_t *image, size_t image_len);
+
+/*
+ * Writes the directory entries of the files present into `out`, 64 bytes each, in slot order, as
+ * they stand. `first` is the count of bytes; those behind them are left as they were. An entry has,
+ * highest byte first: 0-3 the length of the file (64 more than its data), 14-15 the length of the
+ * name, 16-51 the name, 52-55 the date.
+ *
+ * Judges 1, 8 to 11, then 16. An exact fit is enough; an empty list fits an empty buffer.
+ */
+dheg_reply dheg_list(const uint8_t *image, size_t image_len, uint8_t *out, size_t out_len);
+
+/*
+ * Writes the data of a file into `out`. `first` is the count of bytes; those behind them are left
+ * as they were. The name has 1 to 36 bytes, of any value, and is compared byte by byte.
+ *
+ * Judges 1, 8 to 11, then 12, 14, 16. An exact fit is enough; an empty file fits an empty buffer.
+ */
+dheg_reply dheg_read(const uint8_t *image, size_t image_len, const uint8_t *name, size_t name_len,
+                     uint8_t *out, size_t out_len);
+
+/*
+ * Adds a file with this name, date and data to a disk. The file takes the lowest vacant slot and
+ * the lowest free blocks, (64 + data_len) / 1536 rounded up, and a block more where the directory
+ * grows.
+ *
+ * Judges 1, 8 to 11, then 12, 13, 15. Writes to `image`: map records, the slot, the blocks taken,
+ * update count, free word and the directory's length.
+ */
+dheg_reply dheg_add(uint8_t *image, size_t image_len, const uint8_t *name, size_t name_len,
+                    uint32_t date, const uint8_t *data, size_t data_len);
+
+/*
+ * Removes a file from a disk. Its blocks and its slot are filled with zero bytes, and its records
+ * are free.
+ *
+ * Judges 1, 8 to 11, then 12, 14. Writes to `image`: map records, the slot, the file's blocks,
+ * update count and free word.
+ */
+dheg_reply dheg_remove(uint8_t *image, size_t image_len, const uint8_t *name, size_t name_len);
+
+/*
+ * Judges the first track of a block image, 9,216 bytes, and counts its blocks.
+ *
+ * Judges 1, 8, 9 and 11; the directory is not looked at. Writes nothing.
+ */
+dheg_first_track_result dheg_first_track(const uint8_t *track, size_t track_len);
+
+#ifdef __cplusplus
+}
+#endif
+
+#endif
