@@ -1,4 +1,4 @@
--- What check, list, read, add and remove judge before anything else: 8 to 11. Document 01, "Numbered replies".
+-- What check, list, read, add and remove judge after 1 and before their own refusals: 8 to 11. Document 01, "Numbered replies".
 -- Assumes nothing: these are definitions.
 use mathlib.Core.Bool.{Bool, true, false, not, cond, _&&_, _||_}
 use mathlib.Core.List.{List, [], _∷_}

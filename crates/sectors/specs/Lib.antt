@@ -1,4 +1,4 @@
--- The definitions, in the order of document 01; then what is promised of them alone; then their laws.
+-- The definitions: replies and the disk kind, the sector rules, the HFE image, unpacking and packing; then what is promised of them alone; then their laws.
 pub mod Replies
 pub mod Geometry
 pub mod Search
@@ -7,4 +7,5 @@ pub mod Unpacked
 pub mod Packed
 pub mod RoundTrip
 pub mod Values
+pub mod Theorems
 pub mod Laws

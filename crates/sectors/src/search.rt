@@ -7,10 +7,25 @@ ghost use Rattle.cells.specs.Stream.{stream, from};
 ghost use Rattle.sectors.specs.Search.{crcHolds, headerOf, belongs, findSector, fieldAt, fieldOf, sectorFound};
 ghost use Rattle.sectors.specs.Laws.Search.{moreFound, Indexed, Scanned};
 use crate::Found;
+use crate::Geometry;
 use crate::Header;
 use crate::Id;
 use crate::Sector;
 use cells::Side;
+
+// Cells of a header, from its first sync byte to its CRC.
+const HEADER_CELLS: usize = 160;
+
+// Bytes of a data field before its CRC: three sync bytes, the mark and a sector; and its cells with the CRC.
+const FIELD_BYTES: usize = 4 + Geometry::SECTOR_BYTES;
+
+const FIELD_CELLS: usize = 16 * (FIELD_BYTES + 2);
+
+// The field begins at most this many cells after the header.
+const GAP_CELLS: usize = 688;
+
+// The highest R of a side.
+const LAST_SECTOR: u8 = Geometry::SECTORS as u8;
 
 // Whether the CRC of the n bytes from place i on follows them.
 fn crc_holds(part: &[u8], side: Side, i: usize, n: usize) -> bool
@@ -26,7 +41,7 @@ fn crc_holds(part: &[u8], side: Side, i: usize, n: usize) -> bool
 pub fn header_at(part: &[u8], side: Side, i: usize) -> Header
     ensures { λ r. ⌜ r ≡ headerOf (from (stream (now (part .entry)) side) i) ⌝ }
 {
-    if cells::cells_from(side, i) < 160 {
+    if cells::cells_from(side, i) < HEADER_CELLS {
         return Header::Absent;
     }
     if cells::three_sync(part, side, i) {
@@ -64,14 +79,14 @@ fn sector_index(header: Header, track: u8, head: u8) -> usize
             let sector = id.r;
             if (id.c == track) & (id.h == head) & (id.n == 2) {
                 if 1 <= sector {
-                    if sector <= 9 {
+                    if sector <= LAST_SECTOR {
                         return (sector - 1) as usize;
                     }
                 }
             }
-            9
+            Geometry::SECTORS
         }
-        Header::Absent => 9,
+        Header::Absent => Geometry::SECTORS,
     }
 }
 
@@ -83,7 +98,7 @@ pub fn scan(part: &[u8], side: Side, track: u8, head: u8) -> [Found; 9]
     let places = cells::cells_from(side, 0);
     for i in 0..places {
         let k = sector_index(header_at(part, side, i), track, head);
-        if k < 9 {
+        if k < Geometry::SECTORS {
             let f = found[k];
             found[k] = more(f, i);
         }
@@ -96,11 +111,11 @@ fn field_at(part: &[u8], side: Side, j: usize) -> Sector
     requires { ⌜ j < 2 ^ 33 ⌝ }
     ensures { λ r. ⌜ r ≡ fieldAt (stream (now (part .entry)) side) j ⌝ }
 {
-    if cells::cells_from(side, j) < 8288 {
+    if cells::cells_from(side, j) < FIELD_CELLS {
         return Sector::Fieldless;
     }
     if cells::data_byte(part, side, j, 48) == 0xFB {
-        if crc_holds(part, side, j, 516) {
+        if crc_holds(part, side, j, FIELD_BYTES) {
             return Sector::Delivered(j + 64);
         }
         return Sector::Damaged;
@@ -115,9 +130,9 @@ fn field_of(part: &[u8], side: Side, i: usize) -> Sector
     if side.cells as usize <= i {
         return Sector::Fieldless;
     }
-    for k in 0..689usize {
-        if cells::three_sync(part, side, i + 160 + k) {
-            return field_at(part, side, i + 160 + k);
+    for k in 0..GAP_CELLS + 1 {
+        if cells::three_sync(part, side, i + HEADER_CELLS + k) {
+            return field_at(part, side, i + HEADER_CELLS + k);
         }
     }
     Sector::Fieldless

@@ -59,7 +59,7 @@ fn judge_found(part: &[u8], side: Side, found: [Found; 9], places: &mut [usize],
     requires { ⌜ (length (now places) ≡ 1440) × (at + 9 ≤ 1440) ⌝ }
     ensures { λ r. ⌜ FoundJudged (stream (now (part .entry)) side) found (now (places .entry)) (now (places .exit)) at r ⌝ }
 {
-    for k in 0..9usize {
+    for k in 0..Geometry::SECTORS {
         let f = found[k];
         let sector = sector_found(part, side, f);
         if is_bad(sector) {
@@ -88,7 +88,7 @@ fn judge_all(hfe: &[u8], places: &mut [usize]) -> Fault
     requires { ⌜ (tableFault (now hfe) ≡ Fault.Sound) × (length (now places) ≡ 1440) ⌝ }
     ensures { λ r. ⌜ AllJudged (now (hfe .entry)) (now (places .exit)) r ⌝ }
 {
-    for n in 0..160usize {
+    for n in 0..Geometry::TRACKS * Geometry::SIDES {
         match judge_side(hfe, n, places) {
             Fault::At(m) => return Fault::At(m),
             Fault::Sound => {}
@@ -143,7 +143,7 @@ fn write_sector(part: &[u8], side: Side, p: usize, image: &mut [u8], at: usize)
     requires { ⌜ at + 512 ≤ length (now image) ⌝ }
     ensures { λ _. ⌜ now (image .exit) ≡ overlay (now (image .entry)) at 512 (λ (k : ℕ). dataByte (from (stream (now (part .entry)) side) p) (16 * k)) ⌝ }
 {
-    for k in 0..512usize {
+    for k in 0..Geometry::SECTOR_BYTES {
         image[at + k] = cells::data_byte(part, side, p, 16 * k);
     }
 }
@@ -167,7 +167,7 @@ fn unpack_sectors(hfe: &[u8], image: &mut [u8]) -> Reply
     requires { ⌜ (tableFault (now hfe) ≡ Fault.Sound) × (length (now image) ≡ imageBytes) ⌝ }
     ensures { λ r. ⌜ SectorsUnpacked (now (hfe .entry)) (now (image .entry)) (now (image .exit)) r ⌝ }
 {
-    let mut places = [0usize; 1440];
+    let mut places = [0usize; Geometry::ALL_SECTORS];
     match judge_all(hfe, &mut places) {
         Fault::At(m) => sector_reply(m, judge_sector(hfe, m)),
         Fault::Sound => {

@@ -14,9 +14,17 @@ use cells::Item;
 const GAP: u8 = 0x4E;
 
 // The items of one sector: sync runs, header, gap and data field.
-const SECTOR_ITEMS: usize = 658;
+const SECTOR_ITEMS: usize = FIELD_END + 84;
 
-// The running number of the first byte of sector R of a side in the block image.
+// Where a sector's data field begins, at its mark, and where it ends: mark, data and CRC.
+const FIELD_START: usize = 59;
+
+// Where the CRC's high byte stands, counted from the mark.
+const HIGH_CRC: usize = 1 + Geometry::SECTOR_BYTES;
+
+const FIELD_END: usize = FIELD_START + 1 + Geometry::SECTOR_BYTES + 2;
+
+// Where sector R of a side begins in the block image.
 fn sector_start(t: usize, s: usize, r: usize) -> usize
     requires { ⌜ (t < 80) × (s < 2) × (1 ≤ r) × (r ≤ 9) ⌝ }
     ensures { λ k. ⌜ k ≡ 512 * (18 * t + 9 * s + (r - 1)) ⌝ }
@@ -57,7 +65,7 @@ fn field_byte(image: &[u8], at: usize, k: usize) -> u8
         cells::crc_row(cells::START, b"\xA1\xA1\xA1\xFB"),
         &image[at..end],
     );
-    if k == 513 {
+    if k == HIGH_CRC {
         (crc / 256) as u8
     } else {
         (crc % 256) as u8
@@ -92,11 +100,11 @@ fn sector_item(image: &[u8], t: usize, s: usize, r: usize, o: usize) -> Item
     requires { ⌜ (length (now image) ≡ imageBytes) × (t < 80) × (s < 2) × (1 ≤ r) × (r ≤ 9) ⌝ }
     ensures { λ x. ⌜ x ≡ sectorItem t s r (sectorData (now (image .entry)) t s r) o ⌝ }
 {
-    if o < 59 {
+    if o < FIELD_START {
         return header_item(t, s, r, o);
     }
-    if o < 574 {
-        return Item::Plain(field_byte(image, sector_start(t, s, r), o - 59));
+    if o < FIELD_END {
+        return Item::Plain(field_byte(image, sector_start(t, s, r), o - FIELD_START));
     }
     Item::Plain(GAP)
 }
