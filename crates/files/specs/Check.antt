@@ -5,12 +5,10 @@ use mathlib.Core.List.{List, [], _∷_}
 use mathlib.Core.Option.{Option, none, some, Option·map}
 use Prim.Native.Nat.{ℕ, _+_, _*_, _%_}
 use lib.Dec.{leb, ltb, eqb}
-use lib.ListN.{length}
 use Rattle.laws.specs.Tests.{orElse}
-use Rattle.laws.specs.Tab.{tab}
 use Rattle.laws.specs.Below.{all}
 use Rattle.laws.specs.Lowest.{lowest}
-use Rattle.laws.specs.Same.{same}
+use Rattle.laws.specs.Same.{bytesAre}
 use Rattle.laws.specs.Count.{count}
 use Rattle.laws.specs.Numbers.{at16, up}
 use Rattle.sectors.specs.declared.Reply.{Reply}
@@ -27,10 +25,6 @@ use Rattle.files.specs.Directory.{nameEq, slotEntry, slotName, held, dir
 -- the bytes QL5A
 unfoldable pub signature : List ℕ
 signature = 0x51 ∷ 0x4C ∷ 0x35 ∷ 0x41 ∷ []
-
--- whether these bytes stand at o
-unfoldable pub bytesAre : (ℕ → ℕ) → ℕ → List ℕ → Bool
-bytesAre f o xs = same (tab (λ (i : ℕ). f (o + i)) (length xs)) xs
 
 -- 34 to 37: a multiple of 64, at least 64, and bytes over below a block
 unfoldable pub lengthRight : Disk → Bool

@@ -15,7 +15,7 @@ use Rattle.laws.specs.Count.{count, count-cong, count-one, sum-at}
 use Rattle.laws.specs.Lowest.{lowest, lowest-none}
 use Rattle.laws.specs.Numbers.{at16, at32, up, at16-is, high2-at, high4-at}
 use Rattle.laws.specs.Order.{by-order}
-use Rattle.laws.specs.Same.{same}
+use Rattle.laws.specs.Same.{same, bytesAre}
 use Rattle.laws.specs.Search.{lowest-hit, lowest-only, lowest-cong, all-false, tab-self, take-tab}
 use Rattle.laws.specs.Tab.{tab, tab-in, tab-ext}
 use Rattle.laws.specs.Tests.{lt-true, lt-false, le-true, eq-true, eq-false, true-eq, true≢false, by-equal, cond-true, cond-false, and-true, and-false-left, and-false-right, isSome, orElse}
@@ -26,7 +26,7 @@ use Rattle.sectors.specs.Replies.{reply, refusal}
 use Rattle.files.specs.declared.Record.{Record}
 use Rattle.files.specs.declared.Record.the-variants.{Free, System, File, Other}
 use Rattle.files.specs.Calls.{Outcome, kept, unless, deliver, entries, listDisk, dataOf, readDisk}
-use Rattle.files.specs.Check.{signature, bytesAre, lengthRight, wrong, headerFault, recordFault, mapFault, partsRight, unborne, newName, entryRight, fileRight, fileFault, freeRight, refusal8, refusal9, refusal10, refusal11, judged}
+use Rattle.files.specs.Check.{signature, lengthRight, wrong, headerFault, recordFault, mapFault, partsRight, unborne, newName, entryRight, fileRight, fileFault, freeRight, refusal8, refusal9, refusal10, refusal11, judged}
 use Rattle.files.specs.Directory.{nameEq, nameRight, entryOf, entryByte, nameOf, entryFor, slotByte, slotEntry, slotName, held, dirBytes, dirEnd, findName, vacantSlot}
 use Rattle.files.specs.Disk.{Disk}
 use Rattle.files.specs.Laws.Inner.{Inner, fileBlocks, header, render, findM, emptyLine, freeOf, listM, readM}

@@ -10,8 +10,8 @@ use native.Mathlib.Omega.{arith}
 use lib.Dec.{leb, eqb}
 use lib.ListN.{length, getD}
 use Rattle.laws.specs.Numbers.{at16}
-use Rattle.laws.specs.Same.{same, standsAt}
-use Rattle.laws.specs.Tab.{tab, window, elementAt, tab-ext}
+use Rattle.laws.specs.Same.{same, bytesAre, standsAt}
+use Rattle.laws.specs.Tab.{tab-ext}
 use Rattle.laws.specs.Tests.{orElse, le-true}
 use Rattle.sectors.specs.declared.Fault.{Fault}
 use Rattle.sectors.specs.declared.Fault.the-variants.{At, Sound}
@@ -23,7 +23,7 @@ use Rattle.sectors.specs.Laws.Geometry.{image-first}
 use Rattle.files.specs.declared.Verdict.{Verdict}
 use Rattle.files.specs.declared.Verdict.the-variants.{Passed, Refused}
 use Rattle.files.specs.Disk.{Disk, byteOf, diskOf}
-use Rattle.files.specs.Check.{signature, bytesAre, lengthRight, wrong, headerFault, refusal8}
+use Rattle.files.specs.Check.{signature, lengthRight, wrong, headerFault, refusal8}
 use Rattle.files.specs.Laws.Blocks.{disk-in}
 
 -- ---- a verdict
@@ -123,7 +123,7 @@ pub first-byte : (l : List ℕ) (o : ℕ) → o < 512 → diskOf l 0 o ≡ getD 
 first-byte l o h = disk-in l 0 o (omega arith) (omega arith) ∙ ap (λ (i : ℕ). getD l i 0) (first-place o h)
 
 pub bytes-stand : (l : List ℕ) (o : ℕ) (xs : List ℕ) → 512 ≤ length l → o + length xs ≤ 512 → standsAt l o xs ≡ bytesAre (diskOf l 0) o xs
-unfolding standsAt bytesAre window elementAt
+unfolding standsAt bytesAre
 bytes-stand l o xs h k =
     ap₂ (λ (x : Bool) (y : List ℕ). x && same y xs)
     (le-true {a = o + length xs} {b = length l} (omega arith))

@@ -11,7 +11,7 @@ use lib.ListN.{length, getD, set, replicate, getD-replicate}
 use lib.Seq.{getD-set-same, getD-set-other}
 use borrow.Author.Tests.{le-leb, lt-leb, eq-eqb, ne-eqb}
 use Rattle.laws.specs.Numbers.{at16-is}
-use Rattle.laws.specs.Order.{by-equal}
+use Rattle.laws.specs.Tests.{by-equal}
 use Rattle.cells.specs.Crc.{crc}
 use Rattle.cells.specs.Stream.{from, dataByte, dataBytes}
 use Rattle.cells.specs.Sync.{threeSync}

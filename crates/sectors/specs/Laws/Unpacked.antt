@@ -10,7 +10,8 @@ use lib.Dec.{eqb}
 use lib.ListN.{length, getD, set, length-set}
 use lib.Seq.{getD-set-same, getD-set-other}
 use borrow.Author.Tests.{lt-ltb, le-ltb, eq-eqb, ne-eqb}
-use Rattle.laws.specs.Order.{by-order, by-equal}
+use Rattle.laws.specs.Order.{by-order}
+use Rattle.laws.specs.Tests.{by-equal}
 use Rattle.laws.specs.Lowest.{lowest-none, lowest-some}
 use Rattle.laws.specs.Tab.{tab}
 use Rattle.cells.specs.Stream.{stream, hfeSide, from, dataByte}
