@@ -21,12 +21,14 @@ use Rattle.laws.specs.Tab.{tab, tab-in, tab-ext}
 use Rattle.laws.specs.Tests.{lt-true, lt-false, le-true, eq-true, eq-false, true-eq, true≢false, by-equal, cond-true, cond-false, and-true, and-false-left, and-false-right, isSome, orElse}
 use Rattle.laws.specs.Truth.{and-left, and-right, by-test}
 use Rattle.laws.specs.Words.{bigEndian, highByte}
+use Rattle.sectors.specs.declared.Fault.the-variants.{At, Sound}
+use Rattle.sectors.specs.Faults.{faultBelow, refusalAt}
 use Rattle.sectors.specs.Geometry.{blockSectors, blocks, sidePlace, backward}
 use Rattle.sectors.specs.Replies.{reply, refusal}
 use Rattle.files.specs.declared.Record.{Record}
 use Rattle.files.specs.declared.Record.the-variants.{Free, System, File, Other}
 use Rattle.files.specs.Calls.{Outcome, kept, unless, deliver, entries, listDisk, dataOf, readDisk}
-use Rattle.files.specs.Check.{signature, lengthRight, wrong, headerFault, recordFault, mapFault, partsRight, unborne, newName, entryRight, fileRight, fileFault, freeRight, refusal8, refusal9, refusal10, refusal11, judged}
+use Rattle.files.specs.Check.{signature, lengthRight, sizesFault, headerFault, recordFault, mapFault, partsRight, unborne, newName, entryRight, fileRight, fileFault, freeRight, refusal8, refusal9, refusal10, refusal11, judged}
 use Rattle.files.specs.Directory.{nameEq, nameRight, entryOf, entryByte, nameOf, entryFor, slotByte, slotEntry, slotName, held, dirBytes, dirEnd, findName, vacantSlot}
 use Rattle.files.specs.Disk.{Disk}
 use Rattle.files.specs.Laws.Inner.{Inner, fileBlocks, header, render, findM, emptyLine, freeOf, listM, readM}
@@ -198,8 +200,8 @@ module _ (m : Inner) (v : Inv m) where
   fixed : (o w : ℕ) → o + 1 < mapStart → at16 (header m) o ≡ w → eqb (at16 (d 0) o) w ≡ true
   fixed o w h e = eq-true (head16 o h ∙ e)
 
-  header-right : headerFault d ≡ none
-  unfolding headerFault orElse wrong
+  header-right : headerFault d ≡ Sound
+  unfolding headerFault sizesFault
   header-right =
       rw (
         sign-right,
@@ -447,15 +449,15 @@ module _ (m : Inner) (v : Inv m) where
 
   eight-right : refusal8 d ≡ none
   unfolding refusal8
-  eight-right = ap (Option·map (λ (o : ℕ). reply 8 o 0 0)) header-right
+  eight-right = ap (refusalAt 8) header-right
 
   nine-right : refusal9 d ≡ none
-  unfolding refusal9
-  nine-right = cond-false _ _ (lt-false {a = mapFault d} {b = blocks} (omega (arith, map-right)))
+  unfolding refusal9 faultBelow
+  nine-right = ap (refusalAt 9) (cond-false (At (mapFault d)) Sound (lt-false {a = mapFault d} {b = blocks} (omega (arith, map-right))))
 
   ten-right : refusal10 d ≡ none
-  unfolding refusal10
-  ten-right = cond-false _ _ (lt-false {a = fileFault d} {b = slotCount} (omega (arith, files-right)))
+  unfolding refusal10 faultBelow
+  ten-right = ap (refusalAt 10) (cond-false (At (fileFault d)) Sound (lt-false {a = fileFault d} {b = slotCount} (omega (arith, files-right))))
 
   eleven-right : refusal11 d ≡ none
   unfolding refusal11 freeRight freeWord
