@@ -1,8 +1,9 @@
 -- The CRC: polynomial 1021 (hex), start FFFF, highest bit first. Document 01, "Cells and sectors", first paragraph.
 -- Assumes nothing: these are definitions.
 use mathlib.Core.List.{List, [], _∷_}
-use Prim.Native.Nat.{ℕ, zero, suc, _+_, _-_, _*_, _/_, _%_, _^_}
+use Prim.Native.Nat.{ℕ, zero, suc, _+_, _*_, _/_, _%_}
 use lib.Bits.{bitXor}
+use Rattle.cells.specs.Mfm.{bitOf}
 
 -- the register's start
 abbrev pub crcStart : ℕ
@@ -15,7 +16,7 @@ crcBit s b = bitXor (0x1021 * ((s / 0x8000 + b) % 2)) (s * 2 % 0x10000)
 -- after the first k bits of the byte x, highest bit first
 unfoldable pub crcBits : ℕ → ℕ → ℕ → ℕ
 crcBits s x zero = s
-crcBits s x (suc k) = crcBit (crcBits s x k) (x / 2 ^ (7 - k) % 2)
+crcBits s x (suc k) = crcBit (crcBits s x k) (bitOf x k)
 
 -- after the bytes of a list
 unfoldable pub crcFrom : ℕ → List ℕ → ℕ

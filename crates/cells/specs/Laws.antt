@@ -1,4 +1,4 @@
--- Laws of the definitions: what proofs cite, so that no proof elsewhere opens a definition. A reader need not read them.
+-- Laws of the definitions: what proofs cite, so that no proof elsewhere opens a definition. No contract and no statement outside cites them.
 pub mod Stream
 pub mod Number
 pub mod Sync

@@ -3,8 +3,6 @@
 use mathlib.Core.Bool.{cond, _&&_}
 use Prim.Native.Nat.{ℕ, zero, suc, _-_, _/_, _%_, _^_}
 use lib.Dec.{eqb}
-use Rattle.laws.specs.Tab.{tab}
-use Rattle.cells.specs.Stream.{word}
 
 -- bit k of a byte, highest first
 unfoldable pub bitOf : ℕ → ℕ → ℕ
@@ -22,7 +20,3 @@ before p x (suc k) = bitOf x k
 -- cell j of the byte x that follows the bit p: each data bit is a clock cell, then a data cell
 unfoldable pub mfmCell : ℕ → ℕ → ℕ → ℕ
 mfmCell p x j = cond (eqb (j % 2) 0) (clock (before p x (j / 2)) (bitOf x (j / 2))) (bitOf x (j / 2))
-
--- its 16 cells as a number, first cell highest
-unfoldable pub encoded : ℕ → ℕ → ℕ
-encoded p x = word (tab (mfmCell p x) 16) 0

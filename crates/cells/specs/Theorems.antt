@@ -7,16 +7,16 @@ use Prim.Native.Nat.{ℕ, _*_, _/_, _<_}
 use native.Mathlib.Nat.{add-zero}
 use Rattle.laws.specs.Tab.{tab}
 use Rattle.cells.specs.Stream.{bytePlace, cellAt, stream, hfeSide, from, number, word, dataByte, packedBits, packed}
-use Rattle.cells.specs.Mfm.{bitOf, clock, before, mfmCell, encoded}
+use Rattle.cells.specs.Mfm.{bitOf, clock, before, mfmCell}
 use Rattle.cells.specs.Sync.{syncWord, syncAt, threeSync}
 use Rattle.cells.specs.Crc.{crcBit, crcBits, crcFrom, crc}
-use Rattle.cells.specs.Written.{byteOf, itemCell, itemWord, written}
+use Rattle.cells.specs.Written.{byteOf, itemCell, itemWord, written, Triple}
 use Rattle.cells.specs.declared.Item.{Item}
-use Rattle.cells.specs.declared.Item.the-variants.{Sync, Index}
+use Rattle.cells.specs.declared.Item.the-variants.{Plain, Sync, Index}
 use Rattle.cells.specs.Laws.Number.{byte-from}
 use Rattle.cells.specs.Laws.Sync.{sync-from, three-first, three-second, three-third}
 use Rattle.cells.specs.Laws.Written.{byte-at, sync-here}
-use Rattle.cells.specs.Laws.Triple.{Triple, triple-at}
+use Rattle.cells.specs.Laws.Triple.{triple-at}
 
 -- any row of n items
 module _ (items : ℕ → Item) (n : ℕ) where
@@ -40,16 +40,16 @@ module _ (items : ℕ → Item) (n : ℕ) where
 
 -- the CRC of a header
 pub header-crc : crc (0xA1 ∷ 0xA1 ∷ 0xA1 ∷ 0xFE ∷ 0 ∷ 0 ∷ 1 ∷ 2 ∷ []) ≡ 0xCA6F
-unfolding crc crcFrom crcBits crcBit
+unfolding crc crcFrom crcBits crcBit bitOf
 header-crc = refl
 
 -- 4E after a 0, and as it is stored
-pub gap-cells : encoded 0 0x4E ≡ 0x9254
-unfolding encoded word number tab mfmCell before clock bitOf
+pub gap-cells : itemWord 0 (Plain 0x4E) ≡ 0x9254
+unfolding itemWord word number tab itemCell mfmCell before clock bitOf
 gap-cells = refl
 
-pub gap-stored : tab (packed (mfmCell 0 0x4E)) 2 ≡ 0x49 ∷ 0x2A ∷ []
-unfolding tab packed packedBits mfmCell before clock bitOf
+pub gap-stored : tab (packed (itemCell 0 (Plain 0x4E))) 2 ≡ 0x49 ∷ 0x2A ∷ []
+unfolding tab packed packedBits itemCell mfmCell before clock bitOf
 gap-stored = refl
 
 -- the marks, whatever bit they follow, and the sync mark as it is stored

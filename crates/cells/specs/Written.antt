@@ -1,8 +1,9 @@
 -- A written row of bytes and marks, and its cells. Document 01, "Cells and sectors", first paragraph and the written side.
 -- Assumes nothing: these are definitions.
 use mathlib.Core.List.{List}
+use mathlib.Core.Path.{_≡_}
 use mathlib.Core.Bool.{cond}
-use Prim.Native.Nat.{ℕ, zero, suc, _*_, _/_, _%_}
+use Prim.Native.Nat.{ℕ, zero, suc, _+_, _*_, _/_, _%_}
 use lib.Dec.{eqb}
 use Rattle.laws.specs.Tab.{tab}
 use Rattle.cells.specs.Stream.{word}
@@ -16,7 +17,8 @@ byteOf (Plain x) = x
 byteOf Sync = 0xA1
 byteOf Index = 0xC2
 
--- which of an item's 16 cells is a clock that is left out; 16, so none, for a plain byte
+-- which of an item's 16 cells is a clock that is left out, so that the marks have the cells 4489 and 5224 (sync-cells, index-cells in Theorems);
+-- 16, so none, for a plain byte
 abbrev pub leftOut : Item → ℕ
 leftOut (Plain x) = 16
 leftOut Sync = 10
@@ -42,3 +44,9 @@ writtenCell items m = itemCell (bitBefore items (m / 16)) (items (m / 16)) (m % 
 -- the cells of a row of n items
 unfoldable pub written : (ℕ → Item) → ℕ → List ℕ
 written items n = tab (writtenCell items) (16 * n)
+
+-- three sync marks, one after the other, from item q on
+pub record Triple (items : ℕ → Item) (q : ℕ) : Type 0 where
+  pub first : items q ≡ Sync
+  pub second : items (q + 1) ≡ Sync
+  pub third : items (q + 2) ≡ Sync

@@ -3,7 +3,7 @@ ghost use mathlib.Core.Path.{_≡_};
 ghost use Prim.Native.Nat.{_<_, _≤_};
 ghost use mathlib.Core.Bool.{cond};
 ghost use Rattle.cells.specs.Stream.{packed, packedBits};
-ghost use Rattle.cells.specs.Mfm.{bitOf, before, mfmCell, encoded};
+ghost use Rattle.cells.specs.Mfm.{bitOf, before, mfmCell};
 ghost use Rattle.cells.specs.Mfm as Mfm;
 ghost use Rattle.cells.specs.Written.{byteOf, leftOut, itemCell, itemWord};
 use crate::Item;
@@ -122,7 +122,7 @@ fn stored_byte(p: u8, item: Item, start: usize) -> u8
 
 // The 16 cells of the byte x that follows the bit p, first cell highest.
 pub fn encode_byte(p: u8, x: u8) -> u16
-    ensures { λ r. ⌜ r ≡ encoded p x ⌝ }
+    ensures { λ r. ⌜ r ≡ itemWord p (Item.Plain x) ⌝ }
 {
     encode_item(p, Item::Plain(x))
 }

@@ -11,12 +11,13 @@ use lib.ListN.{length, take, getD}
 use lib.Seq.{take-suc}
 use Rattle.laws.specs.Tab.{tab}
 use Rattle.cells.specs.Stream.{dataByte, dataBytes}
+use Rattle.cells.specs.Mfm.{bitOf}
 use Rattle.cells.specs.Crc.{crcStart, crcBit, crcBits, crcFrom, crc}
 use Rattle.cells.specs.Laws.Number.{bytes-more}
 
 -- one more bit of a byte
 pub crcBits-more : (s x k : ℕ) → crcBits s x (k + 1) ≡ crcBit (crcBits s x k) (x / 2 ^ (7 - k) % 2)
-unfolding crcBits
+unfolding crcBits bitOf
 crcBits-more s x k = rw add-one
 
 crcFrom-snoc : (s : ℕ) (xs : List ℕ) (x : ℕ) → crcFrom s (xs ++ (x ∷ [])) ≡ crcBits (crcFrom s xs) x 8

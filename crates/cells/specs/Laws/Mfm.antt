@@ -6,12 +6,9 @@ use Prim.Native.Nat.{ℕ, zero, suc, _-_, _%_, _<_}
 use native.Mathlib.Nat.{mod-lt, zero-lt-suc}
 use native.Mathlib.Omega.{arith}
 use lib.Dec.{eqb, lit<}
-use borrow.Author.Tests.{ne-eqb}
-use Rattle.laws.specs.Tab.{tab-ext}
-use Rattle.cells.specs.Mfm.{bitOf, clock, before, mfmCell, encoded}
-use Rattle.cells.specs.Written.{byteOf, leftOut, itemCell, itemWord}
+use Rattle.cells.specs.Mfm.{bitOf, clock, before, mfmCell}
+use Rattle.cells.specs.Written.{byteOf, leftOut, itemCell}
 use Rattle.cells.specs.declared.Item.{Item}
-use Rattle.cells.specs.declared.Item.the-variants.{Plain}
 
 bitOf-bit : (x k : ℕ) → bitOf x k < 2
 unfolding bitOf
@@ -38,9 +35,3 @@ pub before-later : (p x k : ℕ) → (k ≡ 0 → ⊥) → bitOf x (k - 1) ≡ b
 unfolding before
 before-later p x zero h = absurd (h refl)
 before-later p x (suc k) h = let e : suc k - 1 ≡ k = omega arith in rw e
-
--- a plain byte leaves no clock out
-pub plain-word : (p x : ℕ) → itemWord p (Plain x) ≡ encoded p x
-unfolding itemWord encoded itemCell
-plain-word p x =
-    rw (tab-ext (itemCell p (Plain x)) (mfmCell p x) 16 (λ k h. let n : k ≡ 16 → ⊥ = λ (e : k ≡ 16). omega arith in rw (ne-eqb _ _ n)))

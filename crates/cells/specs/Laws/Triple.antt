@@ -11,7 +11,7 @@ use Rattle.laws.specs.Tab.{tab-in}
 use Rattle.cells.specs.Stream.{number, word}
 use Rattle.cells.specs.Mfm.{bitOf}
 use Rattle.cells.specs.Sync.{syncWord, syncAt}
-use Rattle.cells.specs.Written.{leftOut, writtenCell, written}
+use Rattle.cells.specs.Written.{leftOut, writtenCell, written, Triple}
 use Rattle.cells.specs.declared.Item.{Item}
 use Rattle.cells.specs.declared.Item.the-variants.{Plain, Sync, Index}
 use Rattle.cells.specs.Laws.Number.{number-cell}
@@ -94,12 +94,6 @@ no-odd-pair items n i s t od = go (sync-odd items n i s od) (sync-odd items n (i
         let r : i + 14 ≡ 16 * next + (2 * 1 + 1) = omega arith in
         let z : _≡_ {A = ℕ} 0 1 = sym (sync-cell items n i s 14 (lit< tt)) ∙ rw r (data-cell items next 1 (lit< tt) ∙ rw (b .1)) in
         omega arith
-
--- three sync items from item q on
-pub record Triple (items : ℕ → Item) (q : ℕ) : Type 0 where
-  pub first : items q ≡ Sync
-  pub second : items (q + 1) ≡ Sync
-  pub third : items (q + 2) ≡ Sync
 
 -- three sync bytes in a row stand only where they were written
 pub triple-at : (items : ℕ → Item) (n i : ℕ)

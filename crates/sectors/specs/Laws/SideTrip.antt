@@ -14,7 +14,7 @@ use Rattle.laws.specs.Truth.{and-left, and-right}
 use Rattle.laws.specs.Words.{highByte}
 use Rattle.cells.specs.Stream.{from, dataByte, dataBytes}
 use Rattle.cells.specs.Sync.{syncAt, threeSync}
-use Rattle.cells.specs.Written.{byteOf, written}
+use Rattle.cells.specs.Written.{byteOf, written, Triple}
 use Rattle.cells.specs.declared.Item.{Item}
 use Rattle.cells.specs.declared.Item.the-variants.{Plain, Sync, Index}
 use Rattle.cells.specs.Theorems.{triple-only}
@@ -22,7 +22,6 @@ use Rattle.cells.specs.Laws.Stream.{from-length}
 use Rattle.cells.specs.Laws.Number.{byte-from, bytes-list}
 use Rattle.cells.specs.Laws.Sync.{sync-from}
 use Rattle.cells.specs.Laws.Written.{byte-at, sync-here, written-length}
-use Rattle.cells.specs.Laws.Triple.{Triple}
 use Rattle.sectors.specs.Search.{crcHolds, headerMark, isHeader, idOf, headerOf, headerAt, first}
 use Rattle.sectors.specs.Packed.{span, row, fieldCrc, withCrc, headerRow, sectorItem, sideItem, sideItems}
 use Rattle.sectors.specs.Laws.Search.{crc-two}

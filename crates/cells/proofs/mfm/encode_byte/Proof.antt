@@ -1,8 +1,6 @@
 -- `cells::encode_byte` meets its contract.
 -- Assumes nothing.
-use mathlib.Core.Path.{_∙_}
 use borrow.Author.Needs.{needs}
-use Rattle.cells.specs.Laws.Mfm.{plain-word}
 use Rattle.cells.proofs.mfm.encode_byte.Statement.{statement}
 use Rattle.cells.proofs.mfm.encode_byte.Tie as tie
 
@@ -10,7 +8,7 @@ encode-item-requires : tie.Need-encode-item-requires
 encode-item-requires c κs = search needs
 
 returns : tie.Need-returns
-returns c = c .encode-item .ensures ∙ plain-word _ _
+returns c = c .encode-item .ensures
 
 pub encode-byte-spec : {M : Type 1} → statement M
 encode-byte-spec = tie.close (tie.spec encode-item-requires returns)
