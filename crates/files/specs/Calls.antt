@@ -11,6 +11,7 @@ use Rattle.laws.specs.Overlay.{put}
 use Rattle.laws.specs.Firsts.{firsts}
 use Rattle.sectors.specs.declared.Reply.{Reply}
 use Rattle.sectors.specs.Replies.{reply, done, refusal}
+pub use Rattle.sectors.specs.Replies.{wrongLength}
 unfoldable pub use Rattle.sectors.specs.Replies.{unless}
 use Rattle.sectors.specs.Geometry.{blockSectors, blocks, imageBytes}
 use Rattle.files.specs.declared.Record.{Record}
@@ -49,13 +50,9 @@ unwritten image r = record { answer = r; image = image }
 
 -- ---- 1: the block image has another length
 
--- the block image has 737,280 bytes
+-- the block image has 737,280 bytes; else wrongLength
 unfoldable pub imageRight : List ℕ → Bool
 imageRight image = eqb (length image) imageBytes
-
--- else 1, which 2: the block image, or the first track
-abbrev pub wrongLength : Reply
-wrongLength = reply 1 2 0 0
 
 -- ---- format
 

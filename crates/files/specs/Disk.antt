@@ -1,5 +1,6 @@
 -- The disk in block order, and the block image that it is stored in. Document 01, "Place of a block".
--- Every rule on header, map, directory and files is stated on the disk; only this file knows of the placement.
+-- Every rule on header, map, directory and files is stated on the disk; only this file places blocks in the image. The header repeats the placement's
+-- numbers and tables as bytes (Check, Written).
 -- Assumes nothing: these are definitions.
 use mathlib.Core.Bool.{cond, _&&_}
 use mathlib.Core.List.{List}

@@ -20,7 +20,7 @@ decode x y z =
     (cond (eqb x 0xFD && (eqb y 0xFF && eqb z 0xFF)) Free
     (cond (eqb x 0xF8 && (eqb y 0x00 && eqb z 0x00)) System Other))
 
--- byte i of a record as written
+-- byte i of a record as written; one of none of the kinds never is
 unfoldable pub encode : Record → ℕ → ℕ
 encode Free zero = 0xFD
 encode Free (suc i) = 0xFF

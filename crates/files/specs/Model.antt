@@ -158,7 +158,7 @@ modelFormat title number = record { title = title; number = number; updates = 0;
 
 -- ---- names and result buffers
 
--- whether a name has 1 to 36 bytes
+-- whether a name has 1 to 36 bytes; written out, as the model's own rule
 unfoldable pub acceptable : List ℕ → Bool
 acceptable name = leb 1 (length name) && leb (length name) 36
 

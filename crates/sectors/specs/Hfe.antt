@@ -2,10 +2,11 @@
 -- Assumes nothing: these are definitions.
 use mathlib.Core.Bool.{Bool, _&&_, _||_, not}
 use mathlib.Core.List.{List, [], _∷_}
-use Prim.Native.Nat.{ℕ, _+_, _-_, _*_, _/_, _%_}
+use Prim.Native.Nat.{ℕ, _+_, _*_, _%_}
 use lib.Dec.{leb, ltb, eqb}
 use lib.ListN.{length, getD, take, drop}
 use Rattle.laws.specs.Same.{standsAt}
+use Rattle.laws.specs.Numbers.{up}
 use Rattle.laws.specs.Words.{lowFirst}
 use Rattle.cells.specs.Stream.{stream, hfeSide}
 use Rattle.sectors.specs.declared.Fault.{Fault}
@@ -67,7 +68,7 @@ trackLength h t = lowFirst h (entryPlace h t + 2) 2
 
 -- the bytes of its units, rounded up
 unfoldable pub trackBytes : List ℕ → ℕ → ℕ
-trackBytes h t = unitBytes * ((trackLength h t + (unitBytes - 1)) / unitBytes)
+trackBytes h t = unitBytes * up (trackLength h t) unitBytes
 
 -- an entry is good if it is wholly within the image, the length is even and not 0, and the track's units end within the image
 unfoldable pub trackGood : List ℕ → ℕ → Bool

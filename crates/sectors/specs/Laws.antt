@@ -1,4 +1,5 @@
--- Laws of the definitions: what proofs cite. A reader need not read them.
+-- Laws of the definitions: what proofs cite. No public contract and no statement outside cites them. Search (moreFound, Indexed, Scanned) and Unpacked
+-- (placeOf, Judged and its instances, SectorsUnpacked) also define what contracts of private functions cite.
 pub mod Geometry
 pub mod Search
 pub mod Hfe

@@ -13,7 +13,7 @@ use Rattle.cells.specs.Written.{writtenCell, written}
 use Rattle.cells.specs.declared.Item.{Item}
 use Rattle.cells.specs.declared.Item.the-variants.{Plain, Sync, Index}
 use Rattle.sectors.specs.declared.Reply.{Reply}
-use Rattle.sectors.specs.Replies.{reply, done}
+use Rattle.sectors.specs.Replies.{done, wrongHfe, wrongLength}
 use Rattle.sectors.specs.Geometry.{tracks, sides, sectors, trackSectors, sectorBytes, imageBytes}
 use Rattle.sectors.specs.Search.{headerMark, dataMark}
 use Rattle.sectors.specs.Hfe.{signature, unitBytes}
@@ -47,7 +47,7 @@ headerRow t s r = headerMark ∷ (t ∷ (s ∷ (r ∷ (2 ∷ []))))
 abbrev pub gapByte : ℕ
 gapByte = 0x4E
 
--- the items of a sector with the data d: 12 of 00, three sync, the header, 22 of 4E, 12 of 00, three sync, FB and the data, 84 of 4E
+-- the items of a sector with the data d: 12 of 00, three sync, FE C H R N and CRC, 22 of 4E, 12 of 00, three sync, FB, the data and CRC, then 4E
 unfoldable pub sectorItem : ℕ → ℕ → ℕ → List ℕ → ℕ → Item
 sectorItem t s r d =
     span 12 (each (Plain 0))
@@ -59,6 +59,7 @@ sectorItem t s r d =
     (span 515 (row (withCrc (dataMark ∷ d)))
     (each (Plain gapByte))))))))
 
+-- of these a sector has as many as bring 84 of 4E at its end
 abbrev pub sectorItems : ℕ
 sectorItems = 658
 
@@ -78,7 +79,7 @@ abbrev pub sideItems : ℕ
 sideItems = 6250
 
 abbrev pub sideBytes : ℕ
-sideBytes = 12500
+sideBytes = 2 * sideItems
 
 -- the bytes of sector R of this track and side in the block image
 unfoldable pub sectorData : List ℕ → ℕ → ℕ → ℕ → List ℕ
@@ -110,7 +111,7 @@ fillByte = 0xFF
 -- signature, revision 0, 80 tracks, 2 sides, encoding 0, rate 250, rpm 300, mode 07, FF, table offset 1; the rest is FF,
 -- write-allowed and single-step among it
 unfoldable pub headerRest : List ℕ
-headerRest = 0 ∷ tracks ∷ sides ∷ 0 ∷ 250 ∷ 0 ∷ 300 % 256 ∷ 300 / 256 ∷ 7 ∷ fillByte ∷ 1 ∷ 0 ∷ []
+headerRest = 0 ∷ tracks ∷ sides ∷ 0 ∷ lowByte 250 0 ∷ lowByte 250 1 ∷ lowByte 300 0 ∷ lowByte 300 1 ∷ 7 ∷ fillByte ∷ lowByte 1 0 ∷ lowByte 1 1 ∷ []
 
 unfoldable pub headerByte : ℕ → ℕ
 headerByte k = getD (signature ++ headerRest) k fillByte
@@ -136,9 +137,9 @@ hfeByte image k =
     (cond (ltb k (firstUnit * unitBytes)) (tableByte (k - unitBytes))
     (trackByte image ((k - firstUnit * unitBytes) / (trackUnits * unitBytes)) ((k - firstUnit * unitBytes) % (trackUnits * unitBytes))))
 
--- the reply for a block image and an HFE image of these lengths; 1 names which is wrong: 1 the HFE image, 2 the block image; HFE first
+-- the reply for a block image and an HFE image of these lengths; HFE first
 unfoldable pub packReply : ℕ → ℕ → Reply
-packReply n m = cond (eqb m hfeBytes) (cond (eqb n imageBytes) done (reply 1 2 0 0)) (reply 1 1 0 0)
+packReply n m = cond (eqb m hfeBytes) (cond (eqb n imageBytes) done wrongLength) wrongHfe
 
 -- the lent HFE image afterwards: unchanged on a refusal
 unfoldable pub packHfe : List ℕ → List ℕ → List ℕ

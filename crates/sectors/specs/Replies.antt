@@ -16,6 +16,13 @@ done = reply 0 0 0 0
 abbrev pub refusal : ℕ → Reply
 refusal n = reply n 0 0 0
 
+-- 1, a length is wrong; which: 1 the HFE image, 2 the block image or the first track
+abbrev pub wrongHfe : Reply
+wrongHfe = reply 1 1 0 0
+
+abbrev pub wrongLength : Reply
+wrongLength = reply 1 2 0 0
+
 -- the refusal, or what is done where there is none
 unfoldable pub unless : {A : Type 0} → Option Reply → (Reply → A) → A → A
 unless none f a = a

@@ -10,6 +10,7 @@ use Rattle.laws.specs.Numbers.{at16}
 use Rattle.cells.specs.Stream.{from, dataByte, dataBytes}
 use Rattle.cells.specs.Sync.{threeSync}
 use Rattle.cells.specs.Crc.{crc}
+use Rattle.sectors.specs.Geometry.{sectorBytes}
 use Rattle.sectors.specs.declared.Id.{Id}
 use Rattle.sectors.specs.declared.Header.{Header}
 use Rattle.sectors.specs.declared.Header.the-variants.{Is, Absent}
@@ -35,7 +36,7 @@ headerCells = 160
 
 -- a data field's cells: three sync bytes, the mark, 512 bytes and a CRC
 abbrev pub fieldCells : ℕ
-fieldCells = 8288
+fieldCells = 16 * (4 + sectorBytes + 2)
 
 -- a header stands at the list's start: three sync bytes, FE, four bytes and a CRC that holds, all before the end
 unfoldable pub isHeader : List ℕ → Bool
@@ -85,7 +86,7 @@ gapCells = 688
 unfoldable pub fieldAt : List ℕ → ℕ → Sector
 fieldAt c j =
     cond (leb fieldCells (length (from c j)) && eqb (dataByte (from c j) 48) dataMark)
-    (cond (crcHolds (from c j) 516) (Delivered (j + 64)) Damaged)
+    (cond (crcHolds (from c j) (4 + sectorBytes)) (Delivered (j + 64)) Damaged)
     Fieldless
 
 -- the field of the header at cell place i: the first run of three sync bytes that begins at the end of its CRC or at most 688 cells after it

@@ -11,7 +11,7 @@ use Rattle.laws.specs.Tests.{orElse}
 use Rattle.sectors.specs.declared.Reply.{Reply}
 use Rattle.sectors.specs.declared.Sector.{Sector}
 use Rattle.sectors.specs.declared.Sector.the-variants.{Delivered, Missing, Repeated, Fieldless, Damaged}
-use Rattle.sectors.specs.Replies.{reply, done, unless}
+use Rattle.sectors.specs.Replies.{reply, done, wrongHfe, wrongLength, unless}
 use Rattle.sectors.specs.Faults.{refusalAt}
 use Rattle.sectors.specs.Geometry.{sectors, trackSectors, allSectors, sectorBytes, imageBytes}
 use Rattle.sectors.specs.Search.{sectorOf, bytesOf}
@@ -60,14 +60,13 @@ sectorsReply h = cond (ltb (firstBad h) allSectors) (sectorReply (firstBad h) (s
 abbrev pub leastHfe : ℕ
 leastHfe = 1024
 
--- the reply for an HFE image h and a block image of n bytes: tests run from 1 upwards; 1 names which length is wrong, 1 the HFE image,
--- 2 the block image
+-- the reply for an HFE image h and a block image of n bytes: tests run from 1 upwards, HFE first
 unfoldable pub unpackReply : List ℕ → ℕ → Reply
 unpackReply h n =
-    cond (ltb (length h) leastHfe) (reply 1 1 0 0)
+    cond (ltb (length h) leastHfe) wrongHfe
     (cond (eqb n imageBytes)
     (unless (orElse (refusalAt 2 (headerFault h)) (refusalAt 3 (tableFault h))) (λ (r : Reply). r) (sectorsReply h))
-    (reply 1 2 0 0))
+    wrongLength)
 
 -- byte k of the block image: the sectors' bytes in image-sector order
 unfoldable pub unpackedByte : List ℕ → ℕ → ℕ

@@ -197,7 +197,7 @@ module _ (image : List ℕ) (at : ℕ) where
 -- ---- the bytes of the image
 
 header-same : all (λ (i : ℕ). eqb (getD (signature ++ headerRest) i 0) (getD (signature ++ headerRest) i fillByte)) 20 ≡ true
-unfolding all signature headerRest
+unfolding all signature headerRest lowByte
 header-same = refl
 
 pub header-in : (k : ℕ) → k < 20 → getD (signature ++ headerRest) k 0 ≡ headerByte k
@@ -208,7 +208,7 @@ header-in k h = all-eq (λ (i : ℕ). getD (signature ++ headerRest) i 0) (λ (i
     all-same = header-same
 
 pub header-out : (k : ℕ) → 20 ≤ k → headerByte k ≡ fillByte
-unfolding headerByte signature headerRest
+unfolding headerByte signature headerRest lowByte
 header-out k h = List·getD-eq-default (signature ++ headerRest) fillByte h
 
 module _ (j : ℕ) where

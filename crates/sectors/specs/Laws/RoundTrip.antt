@@ -13,8 +13,9 @@ use borrow.Author.Tests.{le-leb}
 use Rattle.laws.specs.Order.{by-order}
 use Rattle.laws.specs.Below.{all, all-eq}
 use Rattle.laws.specs.Tab.{tab, tab-length, tab-in, eq-tab, getD-past, window, window-in, window-length}
+use Rattle.laws.specs.Numbers.{up}
 use Rattle.laws.specs.Same.{standsAt, stands-all}
-use Rattle.laws.specs.Words.{lowFirst}
+use Rattle.laws.specs.Words.{lowFirst, lowByte}
 use Rattle.laws.specs.Lowest.{lowest-none}
 use Rattle.cells.specs.Stream.{bytePlace, cellAt, stream, hfeSide, packed}
 use Rattle.cells.specs.Written.{writtenCell, written}
@@ -34,7 +35,7 @@ use Rattle.sectors.specs.Laws.SideTrip.{writtenSide}
 use Rattle.sectors.specs.Laws.FieldTrip.{sector-back, bytes-back}
 
 sign-all : all (λ (k : ℕ). eqb (headerByte k) (getD signature k 0)) 8 ≡ true
-unfolding all headerByte signature headerRest
+unfolding all headerByte signature headerRest lowByte
 sign-all = refl
 
 sign-row : (k : ℕ) → k < 8 → headerByte k ≡ getD signature k 0
@@ -66,11 +67,11 @@ module _ (image : List ℕ) where
       each k h = rw zero-add (front k (omega arith) ∙ sign-row k h)
 
   table-unit : lowFirst packedImage 18 2 ≡ 1
-  unfolding lowFirst headerByte signature headerRest
+  unfolding lowFirst headerByte signature headerRest lowByte
   table-unit = rw (front 18 (lit< tt), front 19 (lit< tt))
 
   header-sound : headerFault packedImage ≡ Sound
-  unfolding headerFault formatFault flagFault lowFirst headerByte signature headerRest
+  unfolding headerFault formatFault flagFault lowFirst headerByte signature headerRest lowByte
   header-sound =
       rw (
         signed,
@@ -122,7 +123,7 @@ module _ (image : List ℕ) where
     track-long = rw (entry, long)
 
     track-size : trackBytes packedImage t ≡ 25088
-    unfolding trackBytes
+    unfolding trackBytes up
     track-size = rw track-long
 
     good : trackGood packedImage t ≡ true

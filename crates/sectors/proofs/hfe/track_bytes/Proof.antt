@@ -2,6 +2,7 @@
 -- Assumes nothing.
 use native.Mathlib.Omega.{arith}
 use borrow.Author.Needs.{needs}
+use Rattle.laws.specs.Numbers.{up}
 use Rattle.sectors.specs.Hfe.{trackBytes}
 use Rattle.sectors.proofs.hfe.track_bytes.Statement.{statement}
 use Rattle.sectors.proofs.hfe.track_bytes.Tie as tie
@@ -22,7 +23,7 @@ mul-result : tie.Need-mul-result
 mul-result c = search needs
 
 returns : tie.Need-returns
-unfolding trackBytes
+unfolding trackBytes up
 returns c = (rw (← c .track-length .ensures), omega arith)
 
 pub track-bytes-spec : {M : Type 1} → statement M

@@ -3,6 +3,7 @@
 use mathlib.Core.Path.{sym}
 use native.Mathlib.Omega.{arith}
 use borrow.Author.Needs.{needs}
+use Rattle.laws.specs.Words.{lowByte}
 use Rattle.sectors.specs.Hfe.{signature}
 use Rattle.sectors.specs.Packed.{headerRest}
 use Rattle.sectors.specs.Laws.Packed.{header-in, header-out}
@@ -13,7 +14,7 @@ array-read-result : tie.Need-array-read-result
 array-read-result c = search needs
 
 returns : tie.Need-returns
-unfolding signature headerRest
+unfolding signature headerRest lowByte
 returns c = header-in _ (omega arith)
 
 returns-2 : tie.Need-returns-2
