@@ -1,25 +1,20 @@
 -- The one way to write into a list: some elements from a place on are replaced.
 -- Assumes nothing.
 use mathlib.Core.Path.{_≡_, refl, _∙_, ap, sym}
-use mathlib.Core.Bool.{cond, _&&_}
 use mathlib.Core.List.{List}
 use Prim.Native.Nat.{ℕ, _+_, _-_, _<_, _≤_, min}
 use native.Mathlib.Nat.{zero-add}
 use native.Mathlib.Omega.{arith}
-use lib.Dec.{leb, ltb}
 use lib.ListN.{length, getD, set, length-set, List·getD-eq-default}
 use lib.Seq.{getD-set-same, getD-set-other}
 use borrow.Author.Tests.{lt-ltb, le-ltb, le-leb, lt-leb}
+use Rattle.laws.specs.Change.{patch}
 use Rattle.laws.specs.Order.{by-order}
 use Rattle.laws.specs.Tab.{tab, tab-length, tab-in, tab-out, eq-tab, elementAt}
 
--- element k of d with g 0, g 1, .., g (n - 1) from at on
-unfoldable pub overlayAt : List ℕ → ℕ → ℕ → (ℕ → ℕ) → ℕ → ℕ
-overlayAt d at n g k = cond (leb at k && ltb k (at + n)) (g (k - at)) (getD d k 0)
-
 -- d with g 0, g 1, .., g (n - 1) from at on; what would stand past the end of d is left out
 unfoldable pub overlay : List ℕ → ℕ → ℕ → (ℕ → ℕ) → List ℕ
-overlay d at n g = tab (overlayAt d at n g) (length d)
+overlay d at n g = tab (patch (λ (i : ℕ). getD d i 0) at n g) (length d)
 
 -- d with the list vs from at on
 unfoldable pub put : List ℕ → ℕ → List ℕ → List ℕ
@@ -28,30 +23,30 @@ put d at vs = overlay d at (length vs) (elementAt vs 0)
 module _ (d : List ℕ) (at n : ℕ) (g : ℕ → ℕ) where
   pub overlay-length : length (overlay d at n g) ≡ length d
   unfolding overlay
-  overlay-length = tab-length (overlayAt d at n g) (length d)
+  overlay-length = tab-length (patch (λ (i : ℕ). getD d i 0) at n g) (length d)
 
-  new : (k : ℕ) → at ≤ k → k < at + n → overlayAt d at n g k ≡ g (k - at)
-  unfolding overlayAt
+  new : (k : ℕ) → at ≤ k → k < at + n → patch (λ (i : ℕ). getD d i 0) at n g k ≡ g (k - at)
+  unfolding patch
   new k h l = rw (le-leb at k h, lt-ltb k (at + n) l)
 
-  low : (k : ℕ) → k < at → overlayAt d at n g k ≡ getD d k 0
-  unfolding overlayAt
+  low : (k : ℕ) → k < at → patch (λ (i : ℕ). getD d i 0) at n g k ≡ getD d k 0
+  unfolding patch
   low k h = rw (lt-leb at k h)
 
-  high : (k : ℕ) → at + n ≤ k → overlayAt d at n g k ≡ getD d k 0
-  unfolding overlayAt
+  high : (k : ℕ) → at + n ≤ k → patch (λ (i : ℕ). getD d i 0) at n g k ≡ getD d k 0
+  unfolding patch
   high k h = rw (le-leb at k (omega arith), le-ltb k (at + n) h)
 
   -- the new elements
   pub overlay-in : (k : ℕ) → at ≤ k → k < at + n → k < length d → getD (overlay d at n g) k 0 ≡ g (k - at)
   unfolding overlay
-  overlay-in k h l b = tab-in (overlayAt d at n g) (length d) k b ∙ new k h l
+  overlay-in k h l b = tab-in (patch (λ (i : ℕ). getD d i 0) at n g) (length d) k b ∙ new k h l
 
-  same : (k : ℕ) → overlayAt d at n g k ≡ getD d k 0 → getD (overlay d at n g) k 0 ≡ getD d k 0
+  same : (k : ℕ) → patch (λ (i : ℕ). getD d i 0) at n g k ≡ getD d k 0 → getD (overlay d at n g) k 0 ≡ getD d k 0
   unfolding overlay
   same k e =
-      by-order k (length d) (λ b. tab-in (overlayAt d at n g) (length d) k b ∙ e)
-      (λ b. tab-out (overlayAt d at n g) (length d) k b ∙ sym (List·getD-eq-default d 0 b))
+      by-order k (length d) (λ b. tab-in (patch (λ (i : ℕ). getD d i 0) at n g) (length d) k b ∙ e)
+      (λ b. tab-out (patch (λ (i : ℕ). getD d i 0) at n g) (length d) k b ∙ sym (List·getD-eq-default d 0 b))
 
   -- the old ones, before and after them
   pub overlay-before : (k : ℕ) → k < at → getD (overlay d at n g) k 0 ≡ getD d k 0
@@ -67,7 +62,7 @@ module _ (d : List ℕ) (at n : ℕ) (g : ℕ → ℕ) where
       → ((k : ℕ) → at + n ≤ k → getD out k 0 ≡ getD d k 0) → out ≡ overlay d at n g
   unfolding overlay
   overlay-is out e in-new in-low in-high =
-      eq-tab out (overlayAt d at n g) (length d) e
+      eq-tab out (patch (λ (i : ℕ). getD d i 0) at n g) (length d) e
       (λ k b.
       by-order k at (λ l. in-low k l ∙ sym (low k l))
       (λ h. by-order k (at + n) (λ l. in-new k h l b ∙ sym (new k h l)) (λ l. in-high k l ∙ sym (high k l))))

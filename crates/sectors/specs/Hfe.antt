@@ -19,6 +19,7 @@ use Rattle.sectors.specs.Geometry.{tracks, sides}
 unfoldable pub signature : List ℕ
 signature = 0x48 ∷ 0x58 ∷ 0x43 ∷ 0x50 ∷ 0x49 ∷ 0x43 ∷ 0x46 ∷ 0x45 ∷ []
 
+-- byte o
 abbrev pub byteAt : List ℕ → ℕ → ℕ
 byteAt h o = getD h o 0
 
@@ -38,6 +39,7 @@ formatFault h =
     (orFault (wrongAt 10 (eqb (byteAt h 10) sides))
     (orFault (wrongAt 11 (eqb (byteAt h 11) 0)) (wrongAt 12 (eqb (lowFirst h 12 2) 250)))))
 
+-- such a byte at o, and the one after it
 unfoldable pub flagFault : List ℕ → ℕ → Fault
 flagFault h o = orFault (wrongAt o (flagRight h o)) (wrongAt (o + 1) (afterFlagRight h o))
 
@@ -51,10 +53,11 @@ headerFault h =
 
 -- ---- the track table
 
+-- table and tracks stand at units of 512 bytes
 abbrev pub unitBytes : ℕ
 unitBytes = 512
 
--- where the four bytes of a track stand
+-- where the four bytes of a track stand in the image
 unfoldable pub entryPlace : List ℕ → ℕ → ℕ
 entryPlace h t = unitBytes * lowFirst h 18 2 + 4 * t
 

@@ -44,6 +44,7 @@ withCrc xs = xs ++ tab (highByte 2 (fieldCrc xs)) 2
 abbrev pub headerRow : ℕ → ℕ → ℕ → List ℕ
 headerRow t s r = headerMark ∷ (t ∷ (s ∷ (r ∷ (2 ∷ []))))
 
+-- gaps are 4E
 abbrev pub gapByte : ℕ
 gapByte = 0x4E
 
@@ -56,12 +57,12 @@ sectorItem t s r d =
     (span 22 (each (Plain gapByte))
     (span 12 (each (Plain 0))
     (span 3 (each Sync)
-    (span 515 (row (withCrc (dataMark ∷ d)))
+    (span (1 + sectorBytes + 2) (row (withCrc (dataMark ∷ d)))
     (each (Plain gapByte))))))))
 
--- of these a sector has as many as bring 84 of 4E at its end
+-- a sector has 658 of them, so that 84 of 4E are its last
 abbrev pub sectorItems : ℕ
-sectorItems = 658
+sectorItems = 12 + 3 + 7 + 22 + 12 + 3 + (1 + sectorBytes + 2) + 84
 
 -- the items of a side whose sector R has the data d R: 80 of 4E, 12 of 00, three C2, FC, 50 of 4E, nine sectors, then 4E
 unfoldable pub sideItem : ℕ → ℕ → (ℕ → List ℕ) → ℕ → Item
@@ -85,6 +86,7 @@ sideBytes = 2 * sideItems
 unfoldable pub sectorData : List ℕ → ℕ → ℕ → ℕ → List ℕ
 sectorData image t s r = window image (sectorBytes * (trackSectors * t + sectors * s + (r - 1))) sectorBytes
 
+-- the items of a side of the block image
 unfoldable pub imageSide : List ℕ → ℕ → ℕ → ℕ → Item
 imageSide image t s = sideItem t s (sectorData image t s)
 

@@ -46,6 +46,7 @@ isHeader f = leb headerCells (length f) && threeSync f && eqb (dataByte f 48) he
 unfoldable pub idOf : List ℕ → Id
 idOf f = record { c = dataByte f 64; h = dataByte f 80; r = dataByte f 96; n = dataByte f 112 }
 
+-- the header at the list's start, or none
 unfoldable pub headerOf : List ℕ → Header
 headerOf f = cond (isHeader f) (Is (idOf f)) Absent
 

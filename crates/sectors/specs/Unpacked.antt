@@ -42,6 +42,7 @@ sectorReply m Repeated = reply 5 (trackOf m) (sideOf m) (rOf m)
 sectorReply m Fieldless = reply 6 (trackOf m) (sideOf m) (rOf m)
 sectorReply m Damaged = reply 7 (trackOf m) (sideOf m) (rOf m)
 
+-- whether it is bad: it gives a refusal
 abbrev pub isBad : Sector → Bool
 isBad (Delivered p) = false
 isBad Missing = true
@@ -53,10 +54,11 @@ isBad Damaged = true
 unfoldable pub firstBad : List ℕ → ℕ
 firstBad h = lowest (λ (m : ℕ). isBad (sectorAt h m)) allSectors
 
+-- its reply; done where no sector is bad
 unfoldable pub sectorsReply : List ℕ → Reply
 sectorsReply h = cond (ltb (firstBad h) allSectors) (sectorReply (firstBad h) (sectorAt h (firstBad h))) done
 
--- an HFE image to read has at least 1024 bytes
+-- an HFE image to read has at least 1024 bytes (1)
 abbrev pub leastHfe : ℕ
 leastHfe = 1024
 

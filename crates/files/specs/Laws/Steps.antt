@@ -13,7 +13,7 @@ use Rattle.laws.specs.Count.{count, count-cong}
 use Rattle.laws.specs.Numbers.{at32}
 use Rattle.laws.specs.Words.{bigEndian, highByte}
 use Rattle.laws.specs.Order.{by-order}
-use Rattle.laws.specs.Overlay.{overlay, overlayAt, overlay-cong, put}
+use Rattle.laws.specs.Overlay.{overlay, overlay-cong, put}
 use Rattle.laws.specs.Tab.{tab, tab-length, tab-in, tab-ext, elementAt}
 use Rattle.laws.specs.Tests.{lt-true, lt-false, by-equal, cond-true, cond-false}
 use Rattle.sectors.specs.Geometry.{blockSectors, blocks}
@@ -37,11 +37,11 @@ Packs Other = Unit {0}
 -- ---- a row that is written field by field
 
 pub overlay-tab : (f : ℕ → ℕ) (m at n : ℕ) (g : ℕ → ℕ) (l : List ℕ) → l ≡ tab f m → overlay l at n g ≡ tab (patch f at n g) m
-unfolding overlay overlayAt patch
+unfolding overlay patch
 overlay-tab f m at n g l e =
     ap (λ (r : List ℕ). overlay r at n g) e
-    ∙ ap (tab (overlayAt (tab f m) at n g)) (tab-length f m)
-    ∙ tab-ext (overlayAt (tab f m) at n g) (patch f at n g) m (λ k h. ap (λ (x : ℕ). cond (leb at k && ltb k (at + n)) (g (k - at)) x) (tab-in f m k h))
+    ∙ ap (tab (patch (λ (i : ℕ). getD (tab f m) i 0) at n g)) (tab-length f m)
+    ∙ tab-ext (patch (λ (i : ℕ). getD (tab f m) i 0) at n g) (patch f at n g) m (λ k h. ap (λ (x : ℕ). cond (leb at k && ltb k (at + n)) (g (k - at)) x) (tab-in f m k h))
 
 -- a list of n elements, as a row
 pub put-row : (l : List ℕ) (at : ℕ) (vs : List ℕ) (n : ℕ) → length vs ≡ n → put l at vs ≡ overlay l at n (λ (i : ℕ). getD vs i 0)
