@@ -4,7 +4,10 @@ pub mod Blocks
 pub mod Verdict
 pub mod Loops
 pub mod Loaded
+pub mod Tally
+pub mod Parts
 pub mod Slots
+pub mod Marks
 pub mod Sound
 pub mod Track
 pub mod Delivered

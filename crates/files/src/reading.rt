@@ -17,7 +17,8 @@ use crate::directory::read_entry;
 use crate::directory::slot_place;
 use crate::header::dir_end;
 use crate::map::load_map;
-use crate::map::part_block;
+use crate::parts::file_blocks;
+use crate::parts::nth_block;
 use crate::sizes::BLOCK_BYTES;
 use crate::sizes::NAME_MOST;
 use crate::sizes::SLOT_BYTES;
@@ -84,10 +85,11 @@ fn copy_data(image: &[u8], k: usize, n: usize, out: &mut [u8])
     ensures { λ _. ⌜ now (out .exit) ≡ overlay (now (out .entry)) 0 n (λ (i : ℕ). fileByte (diskOf (now (image .entry))) k (64 + i)) ⌝ }
 {
     let map = load_map(image);
+    let row = file_blocks(&map, k);
     let mut i = 0;
     while i < n {
         let at = SLOT_BYTES + i;
-        let b = part_block(&map, k, at / BLOCK_BYTES);
+        let b = nth_block(&map, &row, k, at / BLOCK_BYTES);
         let run = run_length(at % BLOCK_BYTES, n - i);
         copy_run(image, b, at % BLOCK_BYTES, run, out, i);
         i += run;

@@ -10,8 +10,8 @@ use Rattle.laws.specs.Below.{all-is}
 use Rattle.laws.specs.Search.{all-false}
 use Rattle.files.specs.Disk.{diskOf}
 use Rattle.files.specs.Directory.{nameEq, held, slotName}
-use Rattle.files.proofs.checking.new_name.Statement.{statement}
-use Rattle.files.proofs.checking.new_name.Tie as tie
+use Rattle.files.proofs.names.new_name.Statement.{statement}
+use Rattle.files.proofs.names.new_name.Tie as tie
 
 abbrev Inv-loop : tie.InvT-loop
 Inv-loop image dir k name j₀ j = (j ≤ k) × ((i : ℕ) → i < j → not (held (diskOf image) i && nameEq (slotName (diskOf image) i) name) ≡ true)
