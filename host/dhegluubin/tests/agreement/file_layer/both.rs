@@ -2,6 +2,7 @@
 //! and every lent byte must be the same, a refusal changes nothing, and no
 //! call changes what it may only read.
 
+use super::program;
 use crate::lent::Lent;
 use dhegluubin::{raw, FIRST_TRACK_LEN};
 
@@ -98,7 +99,7 @@ pub fn read(image: &[u8], name: &[u8], buffer: &[u8]) -> (Parts, Vec<u8>) {
     )
 }
 
-/// Reply and counts for a first track.
+/// Reply and counts for a first track, of which the program prints the same.
 pub fn first_track(track: &[u8]) -> (Parts, [usize; 3]) {
     let lent = track.to_vec();
     let (reply, counts) = raw::first_track(&lent);
@@ -111,6 +112,7 @@ pub fn first_track(track: &[u8]) -> (Parts, [usize; 3]) {
         (expected.reply.parts(), counts),
         "library, then reference"
     );
+    program::printed(track);
     library
 }
 

@@ -1,6 +1,7 @@
 //! Corrupted block images with the answers of an independent program.
 
 use super::call::{expected_reply, Call};
+use super::program;
 use dhegluubin::{raw, Reply, FIRST_TRACK_LEN, IMAGE_LEN};
 use support::hex::from_hex;
 use support::json::{parse_lines, Value};
@@ -30,7 +31,7 @@ fn compare(case: &Value, call: &str, reply: Reply, hash: &str, lent: &[u8]) {
     assert_eq!(sha256_hex(lent), case.get(hash).text(), "{call}");
 }
 
-/// What the program prints for the first track.
+/// What the library says of the first track, as the program prints it.
 fn first_track_text(track: &[u8]) -> String {
     match dhegluubin::first_track(track) {
         Ok(counts) => format!(
@@ -63,8 +64,10 @@ fn run(case: &Value) {
     let reply = raw::remove(&mut changed, &name);
     compare(case, "remove", reply, "remove_image", &changed);
 
-    let text = first_track_text(&image[..FIRST_TRACK_LEN]);
-    assert_eq!(text, case.get("first_track").text());
+    let track = &image[..FIRST_TRACK_LEN];
+    let expected = case.get("first_track").text();
+    assert_eq!(first_track_text(track), expected);
+    assert_eq!(program::printed(track), expected);
 }
 
 /// Runs every second case from `first` on.

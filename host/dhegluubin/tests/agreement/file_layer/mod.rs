@@ -15,6 +15,7 @@ mod growth;
 mod histories;
 mod map;
 mod named;
+mod program;
 mod random_histories;
 mod secrets;
 mod values;
