@@ -50,6 +50,11 @@ mod files;
 mod reply;
 mod sectors;
 
+/// The readme's example is tested with those of this documentation.
+#[cfg(doctest)]
+#[doc = include_str!("../../../README.md")]
+struct Readme;
+
 pub use files::{
     add, check, first_track, format, list, read, remove, DISK_NAME_LEN, ENTRY_LEN, FILE_NAME_LEN,
     FIRST_TRACK_LEN,

@@ -137,15 +137,3 @@ impl Drop for Bench {
         let _ = fs::remove_dir_all(&self.folder);
     }
 }
-
-/// Bytes without a pattern that a disk would have.
-pub fn noise(count: usize, seed: u64) -> Vec<u8> {
-    let mut state = seed | 1;
-    let next = || {
-        state ^= state << 13;
-        state ^= state >> 7;
-        state ^= state << 17;
-        (state >> 32) as u8
-    };
-    std::iter::repeat_with(next).take(count).collect()
-}

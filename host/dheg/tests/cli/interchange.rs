@@ -4,8 +4,9 @@ use std::io::{ErrorKind, Write};
 use std::process::Command;
 
 use dhegluubin::IMAGE_LEN;
+use support::noise::noise;
 
-use crate::bench::{noise, Bench};
+use crate::bench::Bench;
 
 /// How its releases call a conversion, the newer ones first.
 const VERBS: [&str; 2] = ["flopconvert", "convert"];
@@ -28,10 +29,10 @@ fn floptool_reads_a_packed_image() {
         other => other.unwrap(),
     };
     let bench = Bench::with_disk();
-    bench.write("data", &noise(300_000, 3));
+    bench.write("data", &noise(3, 300_000));
     bench.quiet("put disk.img data data");
     bench.quiet("format fresh.img --name FRESH");
-    bench.write("noise.img", &noise(IMAGE_LEN, 4));
+    bench.write("noise.img", &noise(4, IMAGE_LEN));
     for name in ["fresh.img", "disk.img", "noise.img"] {
         bench.quiet(&format!("pack {name} packed.hfe"));
         let raw = converted(&bench);

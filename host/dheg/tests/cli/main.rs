@@ -6,6 +6,7 @@ mod files;
 mod help;
 mod images;
 mod interchange;
+mod readme;
 mod several;
 mod usage;
 mod writing;
