@@ -5,6 +5,7 @@
 #![warn(missing_docs)]
 
 mod bits;
+pub mod cases;
 pub mod fenced;
 pub mod gzip;
 pub mod hex;

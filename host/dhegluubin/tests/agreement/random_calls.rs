@@ -3,12 +3,12 @@
 //!
 //! `DHEG_CASES=100000 cargo test -p dhegluubin random_calls` makes as many.
 
-use crate::cases::cases;
 use crate::file_layer::both as files;
 use crate::sector_layer::both as sectors;
 use crate::sector_layer::build::{empty_tracks, packed, sides, track_0};
 use dhegluubin::{raw, FIRST_TRACK_LEN, HFE_LEN, IMAGE_LEN};
 use std::collections::BTreeMap;
+use support::cases::cases;
 use support::noise::{noise, Generator};
 
 /// A length at or about an interesting one, or any below 2^21.

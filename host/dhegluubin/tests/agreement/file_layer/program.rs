@@ -4,7 +4,7 @@
 //! `both::first_track` runs it too, so that it is fed every first track of
 //! the other tests.
 
-use super::build::{fresh, record, set_record, set_word, three_files, word, FREE};
+use super::shared::build::{fresh, record, set_record, set_word, three_files, word, FREE};
 use dhegluubin::{FIRST_TRACK_LEN, IMAGE_LEN};
 use std::fs::File;
 use std::io::{ErrorKind, Write};

@@ -5,7 +5,7 @@ use super::build::{
     append, disk, empty_tracks, move_track, packed, set_entry, set_table_unit, sides, track_0,
     units, written_unit, TRACK_0_GOOD, UNIT, WRITTEN,
 };
-use crate::cases::cases;
+use support::cases::cases;
 use support::noise::{noise, Generator};
 
 #[test]

@@ -2,8 +2,8 @@
 
 use super::both::{assert_unpacks, pack_into, pattern, unpack};
 use super::build::{disk, packed};
-use crate::cases::cases;
 use dhegluubin::{HFE_LEN, IMAGE_LEN};
+use support::cases::cases;
 use support::noise::noise;
 
 /// Packs with both, and unpacks what was written.

@@ -2,7 +2,7 @@
 
 use super::both::unpack;
 use super::build::{empty_tracks, set_entry, set_table_unit, EMPTY, UNIT};
-use crate::cases::cases;
+use support::cases::cases;
 use support::noise::Generator;
 
 fn bad(track: usize) -> [usize; 4] {

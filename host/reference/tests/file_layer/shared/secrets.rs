@@ -1,9 +1,9 @@
 //! Old bytes: none is left by format, and none of a file by remove.
 
-use super::both::{add, format, remove};
+use super::answer::{add, format, remove};
 use super::build::{fresh, patch, record_of, FREE};
-use dhegluubin::IMAGE_LEN;
 use reference::book::Book;
+use reference::geometry::IMAGE_LEN;
 
 /// A byte that stands nowhere on a disk without files.
 const SECRET: u8 = 0xEE;

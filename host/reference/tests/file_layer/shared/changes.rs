@@ -1,8 +1,13 @@
 //! What accepted calls write, byte by byte, and which slots and blocks they
 //! take.
 
-use crate::build::{add_file, entry, fresh, peek, record, record_of, three_files, word, FREE};
-use reference::{list, read, remove};
+use super::answer::{add, list, read, remove};
+use super::build::{entry, fresh, peek, record, record_of, three_files, word, FREE};
+
+/// Adds a file that must be accepted.
+fn add_file(image: &mut [u8], name: &[u8], data: &[u8]) {
+    assert_eq!(add(image, name, 0x0102_0304, data), [0; 4]);
+}
 
 #[test]
 fn add_writes_entry_file_and_header() {
@@ -29,7 +34,7 @@ fn remove_undoes_add_but_for_counts() {
     let mut image = fresh();
     let mut expected = image.clone();
     add_file(&mut image, b"name", &[7; 10_000]);
-    assert_eq!(remove(&mut image, b"name").parts(), [0; 4]);
+    assert_eq!(remove(&mut image, b"name"), [0; 4]);
     expected[19] = 2;
     expected[37] = 128;
     assert!(image == expected);
@@ -40,25 +45,24 @@ fn lowest_vacant_slot_and_lowest_free_blocks() {
     let mut image = three_files();
     // `f2` leaves slot 2 and blocks 3 and 4; the next file takes blocks
     // 3, 4 and 9.
-    assert_eq!(remove(&mut image, b"f2").parts(), [0; 4]);
+    assert_eq!(remove(&mut image, b"f2"), [0; 4]);
     add_file(&mut image, b"g", &[8; 4000]);
     for (block, sequence) in [(3, 0), (4, 1), (9, 2)] {
         assert_eq!(record_of(&image, block), record(2, sequence));
     }
     assert_eq!(record_of(&image, 10), FREE);
     assert_eq!(word(&image, 36), 4 * 64);
-    let mut out = vec![0; 4000];
-    assert_eq!(read(&image, b"g", &mut out).parts(), [0, 4000, 0, 0]);
-    assert_eq!(out, [8; 4000]);
+    let (reply, out) = read(&image, b"g", &[0; 4000]);
+    assert_eq!((reply, out), ([0, 4000, 0, 0], vec![8; 4000]));
 }
 
 #[test]
 fn list_is_in_slot_order() {
     let mut image = three_files();
-    assert_eq!(remove(&mut image, b"f1").parts(), [0; 4]);
+    assert_eq!(remove(&mut image, b"f1"), [0; 4]);
     add_file(&mut image, b"z", &[]);
-    let mut out = vec![0; 192];
-    assert_eq!(list(&image, &mut out).parts(), [0, 192, 0, 0]);
+    let (reply, out) = list(&image, &[0; 192]);
+    assert_eq!(reply, [0, 192, 0, 0]);
     let names: Vec<u8> = out.chunks(64).map(|slot| slot[16]).collect();
     assert_eq!(names, b"zff");
 }
@@ -70,7 +74,7 @@ fn directory_block_is_taken_before_the_files_blocks() {
         add_file(&mut image, &[index], &[]);
     }
     assert_eq!((word(&image, 34), word(&image, 36)), (1, 0));
-    assert_eq!(remove(&mut image, &[4]).parts(), [0; 4]);
+    assert_eq!(remove(&mut image, &[4]), [0; 4]);
     add_file(&mut image, b"again", &[]);
     assert_eq!((word(&image, 34), word(&image, 36)), (1, 0));
     add_file(&mut image, b"next", &[1; 1500]);
@@ -78,18 +82,4 @@ fn directory_block_is_taken_before_the_files_blocks() {
     assert_eq!(record_of(&image, 25), record(0, 1));
     assert_eq!(record_of(&image, 26), record(24, 0));
     assert_eq!(record_of(&image, 27), record(24, 1));
-}
-
-#[test]
-fn no_removed_byte_stays() {
-    let mut image = fresh();
-    for name in [b"a", b"b", b"c"] {
-        add_file(&mut image, name, &[0xEE; 20_000]);
-    }
-    for name in [b"b", b"a", b"c"] {
-        assert_eq!(remove(&mut image, name).parts(), [0; 4]);
-    }
-    for block in 1..480 {
-        assert!(peek(&image, block, 0, 1536).iter().all(|&byte| byte == 0));
-    }
 }

@@ -1,10 +1,11 @@
 //! Disks as other programs may leave them: what is not judged, and that it
 //! stays as it is.
 
-use super::both::{add, all_calls, check, list, read, remove};
+use super::all_calls::all_calls;
+use super::answer::{add, check, list, read, remove};
 use super::build::{
-    count_free, entry, fresh, long_directory, patch, peek, record, scattered, set_record, set_word,
-    three_files, word,
+    count_free, entry, fresh, long_directory, patch, peek, record, record_of, scattered,
+    set_record, set_word, three_files, word, FREE,
 };
 use support::noise::noise;
 
@@ -81,8 +82,44 @@ fn blocks_are_followed_by_sequence() {
 }
 
 #[test]
-fn calls_on_a_scattered_disk_change_only_what_they_must() {
-    // The reference decides on every byte.
+fn remove_changes_only_what_it_must() {
+    let mut image = scattered();
+    patch(&mut image, 50, 0, &[0x44; 1536]);
+    let mut expected = image.clone();
+    for block in [30, 31] {
+        patch(&mut expected, block, 0, &[0; 1536]);
+        set_record(&mut expected, block, FREE);
+    }
+    patch(&mut expected, 20, 0, &[0; 64]);
+    set_word(&mut expected, 18, 1);
+    set_word(&mut expected, 20, word(&image, 20) + 6);
+    assert_eq!(remove(&mut image, b"b"), [0; 4]);
+    assert!(image == expected);
+}
+
+#[test]
+fn add_changes_only_what_it_must() {
+    let mut image = scattered();
+    // Free blocks with old bytes; block 1 and 2 are taken, 3 is not.
+    for block in [1, 2, 3] {
+        patch(&mut image, block, 0, &[0x44; 1536]);
+    }
+    patch(&mut image, 300, 0, &[0x55; 64]);
+    let mut expected = image.clone();
+    let new = entry(64 + 1500, 3, b"new");
+    patch(&mut expected, 300, 2 * 64, &new);
+    set_record(&mut expected, 1, record(2, 0));
+    set_record(&mut expected, 2, record(2, 1));
+    patch(&mut expected, 1, 0, &[&new[..], &[9; 1472]].concat());
+    patch(&mut expected, 2, 0, &[&[9; 28][..], &[0; 1508]].concat());
+    set_word(&mut expected, 18, 1);
+    set_word(&mut expected, 20, word(&image, 20) - 6);
+    assert_eq!(add(&mut image, b"new", 0, &[9; 1500]), [0; 4]);
+    assert!(image == expected);
+}
+
+#[test]
+fn calls_on_a_scattered_disk() {
     let mut image = scattered();
     for block in [1, 2, 3, 50, 400] {
         patch(&mut image, block, 0, &[0x44; 1536]);
@@ -117,6 +154,8 @@ fn new_directory_block_is_zero_but_for_its_slot() {
     let slot_and_zeros = [&entry(64, 3, b"new")[..], &[0; 1472]].concat();
     assert_eq!(peek(&image, 2, 0, 1536), slot_and_zeros);
     assert_eq!(peek(&image, 3, 0, 1536), slot_and_zeros);
+    assert_eq!(record_of(&image, 2), record(0, 1));
+    assert_eq!(record_of(&image, 3), record(24, 0));
     assert_eq!((word(&image, 34), word(&image, 36)), (1, 64));
 }
 

@@ -1,4 +1,5 @@
-use crate::build::{checked, fresh, set_record, set_word, three_files};
+//! Map records and their bytes.
+
 use reference::layout::record::Record;
 
 #[test]
@@ -44,38 +45,5 @@ fn bytes_and_back() {
     }
     for record in [Record::Free, Record::System] {
         assert_eq!(Record::read(record.bytes()), Some(record));
-    }
-}
-
-#[test]
-fn block_0_is_system_and_no_other() {
-    for wrong in [[0xFD, 0xFF, 0xFF], [0, 0, 1], [0xF8, 0, 1]] {
-        let mut image = fresh();
-        set_record(&mut image, 0, wrong);
-        assert_eq!(checked(&image), [9, 0, 0, 0]);
-    }
-    for block in [1, 2, 100, 479] {
-        let mut image = fresh();
-        set_record(&mut image, block, [0xF8, 0, 0]);
-        assert_eq!(checked(&image), [9, block, 0, 0]);
-    }
-}
-
-#[test]
-fn lowest_block_is_named() {
-    let mut image = three_files();
-    for block in [479, 300, 7, 1, 0] {
-        set_record(&mut image, block, [0xFF, 0, 0]);
-        assert_eq!(checked(&image), [9, block, 0, 0]);
-    }
-}
-
-#[test]
-fn free_word() {
-    for word in [0, 1, 1413, 1415, 1434, 65_535] {
-        let mut image = three_files();
-        set_word(&mut image, 20, word);
-        let expected = if word == 1413 { [0; 4] } else { [11, 0, 0, 0] };
-        assert_eq!(checked(&image), expected, "{word}");
     }
 }

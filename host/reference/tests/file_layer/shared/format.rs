@@ -1,11 +1,15 @@
-use crate::build::{checked, peek};
-use reference::format;
+//! Format: names, numbers and old contents.
+
+use super::answer::{check, format};
+use super::build::peek;
+use reference::book::Book;
 use reference::geometry::IMAGE_LEN;
 use support::noise::noise;
 
+/// A disk that is formatted over old bytes.
 fn formatted(name: &[u8], number: u16) -> Vec<u8> {
     let mut image = noise(3, IMAGE_LEN);
-    assert_eq!(format(&mut image, name, number).parts(), [0; 4]);
+    assert_eq!(format(&mut image, name, number), [0; 4]);
     image
 }
 
@@ -41,35 +45,49 @@ fn map_and_zero_bytes() {
 
 #[test]
 fn names_of_up_to_ten_bytes() {
-    for len in 0..=10 {
-        let image = formatted(&[b'N'; 10][..len], 1);
-        let mut field = vec![b'N'; len];
+    for len in 0..=12 {
+        let mut image = noise(len as u32, IMAGE_LEN);
+        let name = &b"NAME OF 12 B"[..len];
+        let reply = format(&mut image, name, 300 * len as u16);
+        if len > 10 {
+            assert_eq!(reply, [12, 0, 0, 0]);
+            continue;
+        }
+        assert_eq!(reply, [0; 4]);
+        let mut field = name.to_vec();
         field.resize(10, b' ');
         assert_eq!(image[4..14], field);
-        assert_eq!(checked(&image), [0; 4]);
+        let book = Book::format(name, 300 * len as u16).unwrap();
+        assert!(image == book.image());
+        assert_eq!(check(&image), [0; 4]);
+    }
+}
+
+#[test]
+fn numbers() {
+    for number in [0, 1, 0xFF, 0x100, 0x1234, 0xFFFF] {
+        let mut image = vec![0xE5; IMAGE_LEN];
+        assert_eq!(format(&mut image, b"DISK", number), [0; 4]);
+        assert_eq!(peek(&image, 0, 14, 2), number.to_be_bytes());
+        // What the image held before does not matter.
+        assert!(image == formatted(b"DISK", number));
     }
 }
 
 #[test]
 fn refusals_change_nothing() {
-    let old = noise(4, IMAGE_LEN + 1);
     for (image_len, name_len, expected) in [
         (IMAGE_LEN, 11, [12, 0, 0, 0]),
-        (IMAGE_LEN, 300, [12, 0, 0, 0]),
+        (IMAGE_LEN, 256, [12, 0, 0, 0]),
+        (IMAGE_LEN, 300_000, [12, 0, 0, 0]),
         (IMAGE_LEN - 1, 4, [1, 2, 0, 0]),
         (IMAGE_LEN + 1, 4, [1, 2, 0, 0]),
+        (2 * IMAGE_LEN, 4, [1, 2, 0, 0]),
         (0, 11, [1, 2, 0, 0]),
+        (0, 0, [1, 2, 0, 0]),
     ] {
-        let mut image = old[..image_len].to_vec();
+        let mut image = noise(4, image_len);
         let reply = format(&mut image, &vec![b'x'; name_len], 5);
-        assert_eq!(reply.parts(), expected);
-        assert!(image == old[..image_len]);
+        assert_eq!(reply, expected);
     }
-}
-
-#[test]
-fn old_contents_do_not_matter() {
-    let mut other = vec![0xE5; IMAGE_LEN];
-    format(&mut other, b"DISK", 9);
-    assert!(other == formatted(b"DISK", 9));
 }

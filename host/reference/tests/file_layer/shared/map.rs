@@ -1,8 +1,9 @@
 //! Refusals 9 and 11: map records and the free word.
 
-use super::both::{all_calls, check, first_track};
+use super::all_calls::all_calls;
+use super::answer::{check, first_track};
 use super::build::{count_free, fresh, set_record, set_word, three_files};
-use dhegluubin::FIRST_TRACK_LEN;
+use reference::geometry::TRACK_LEN;
 
 /// Records of none of the kinds.
 const NONE: [[u8; 3]; 12] = [
@@ -53,7 +54,7 @@ fn lowest_block_is_named() {
     for block in [479, 300, 7, 1, 0] {
         set_record(&mut image, block, [0xFF, 0, 0]);
         assert_eq!(check(&image), [9, block, 0, 0]);
-        let (track, _) = first_track(&image[..FIRST_TRACK_LEN]);
+        let (track, _) = first_track(&image[..TRACK_LEN]);
         assert_eq!(track, [9, block, 0, 0]);
     }
 }

@@ -1,10 +1,10 @@
-//! Random histories: the calls on an image against the book, and the book
-//! against demand 3's own count.
+//! Random histories: the calls on an image, the book, and demand 3's own
+//! count.
 
-use crate::build::{checked, word};
-use crate::call::Call;
+use super::answer::{cases, check, format};
+use super::build::word;
+use super::call::Call;
 use reference::book::Book;
-use reference::format;
 use reference::geometry::IMAGE_LEN;
 use std::collections::BTreeMap;
 use support::noise::{noise, Generator};
@@ -21,48 +21,50 @@ struct Kind {
     calls: usize,
 }
 
-const KINDS: [Kind; 5] = [
-    // Few files, all calls.
-    Kind {
-        names: 6,
-        lengths: &[1, 100, 1472, 3008, 5000],
-        adds: 40,
-        removes: 20,
-        calls: 60,
-    },
-    // The disk is full of long files.
-    Kind {
-        names: 12,
-        lengths: &[1, 1472, 60_000, 150_000, 300_000],
-        adds: 55,
-        removes: 25,
-        calls: 80,
-    },
-    // The directory grows and its slots are used again.
-    Kind {
-        names: 80,
-        lengths: &[1, 1472],
-        adds: 65,
-        removes: 25,
-        calls: 200,
-    },
-    // Many files until the disk is full.
-    Kind {
-        names: 600,
-        lengths: &[1, 1472, 1473, 3000],
-        adds: 94,
-        removes: 3,
-        calls: 500,
-    },
-    // Almost only removes and reads of what is not there.
-    Kind {
-        names: 4,
-        lengths: &[500],
-        adds: 15,
-        removes: 45,
-        calls: 40,
-    },
-];
+/// Few files, all calls.
+const FEW: Kind = Kind {
+    names: 6,
+    lengths: &[1, 100, 1472, 3008, 5000],
+    adds: 40,
+    removes: 20,
+    calls: 60,
+};
+
+/// The disk is full of long files.
+const LONG: Kind = Kind {
+    names: 12,
+    lengths: &[1, 1472, 60_000, 150_000, 300_000],
+    adds: 55,
+    removes: 25,
+    calls: 80,
+};
+
+/// The directory grows and its slots are used again.
+const GROWING: Kind = Kind {
+    names: 80,
+    lengths: &[1, 1472],
+    adds: 65,
+    removes: 25,
+    calls: 200,
+};
+
+/// Many files until the disk is full.
+const MANY: Kind = Kind {
+    names: 600,
+    lengths: &[1, 1472, 1473, 3000],
+    adds: 94,
+    removes: 3,
+    calls: 500,
+};
+
+/// Almost only removes and reads of what is not there.
+const REFUSED: Kind = Kind {
+    names: 4,
+    lengths: &[500],
+    adds: 15,
+    removes: 45,
+    calls: 40,
+};
 
 impl Kind {
     /// A name of the kind; now and then one of a wrong or extreme length.
@@ -79,7 +81,7 @@ impl Kind {
     /// A buffer of a fitting length, or a short one.
     fn buffer(&self, generator: &mut Generator) -> Vec<u8> {
         let longest = self.lengths[self.lengths.len() - 1];
-        let lengths = [0, 64, 128, longest - 1, longest + 1, 40_000];
+        let lengths = [0, 64, 128, longest - 1, longest, longest + 1, 40_000];
         vec![generator.byte(); *generator.choice(&lengths)]
     }
 
@@ -144,11 +146,12 @@ impl Present {
 }
 
 fn run(kind: &Kind, seed: u32) {
+    println!("seed {seed}");
     let mut generator = Generator::new(seed);
     let name = &b"random dsk"[..generator.below(11)];
     let number = generator.below(65_536) as u16;
     let mut image = noise(seed, IMAGE_LEN);
-    assert_eq!(format(&mut image, name, number).parts(), [0; 4]);
+    assert_eq!(format(&mut image, name, number), [0; 4]);
     let mut book = Book::format(name, number).unwrap();
     let mut present = Present::default();
     assert!(book.image() == image);
@@ -156,7 +159,7 @@ fn run(kind: &Kind, seed: u32) {
         let call = kind.call(&mut generator);
         let answer = call.on_image(&mut image);
         assert!(answer == call.in_book(&mut book), "call {index}");
-        if answer.0.number == 0 {
+        if answer.0[0] == 0 {
             present.accept(&call);
         }
         assert_eq!(word(&image, 20), present.free_word());
@@ -165,25 +168,41 @@ fn run(kind: &Kind, seed: u32) {
         }
     }
     assert!(book.image() == image, "image at the end");
-    assert_eq!(checked(&image), [0; 4]);
+    assert_eq!(check(&image), [0; 4]);
     present.assert_same_files(&book);
 }
 
-/// Histories of each kind; `DHEG_CASES` asks for another number.
-fn cases() -> u32 {
-    match std::env::var("DHEG_CASES") {
-        Ok(text) => text.parse().expect("a number of cases"),
-        Err(_) => 12,
+#[test]
+fn few_files() {
+    for case in 0..cases(6) {
+        run(&FEW, 1000 * case);
     }
 }
 
 #[test]
-fn image_and_book_agree() {
-    for case in 0..cases() {
-        for (index, kind) in KINDS.iter().enumerate() {
-            let seed = 1000 * case + index as u32;
-            println!("kind {index}, seed {seed}");
-            run(kind, seed);
-        }
+fn long_files() {
+    for case in 0..cases(4) {
+        run(&LONG, 1000 * case + 1);
+    }
+}
+
+#[test]
+fn growing_directory() {
+    for case in 0..cases(3) {
+        run(&GROWING, 1000 * case + 2);
+    }
+}
+
+#[test]
+fn many_files() {
+    for case in 0..cases(2) {
+        run(&MANY, 1000 * case + 3);
+    }
+}
+
+#[test]
+fn mostly_refused() {
+    for case in 0..cases(4) {
+        run(&REFUSED, 1000 * case + 4);
     }
 }

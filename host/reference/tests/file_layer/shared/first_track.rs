@@ -1,12 +1,12 @@
 //! The first track, judged alone.
 
-use super::both::first_track;
+use super::answer::first_track;
 use super::build::{fresh, patch, set_record, set_word, three_files};
-use dhegluubin::FIRST_TRACK_LEN;
+use reference::geometry::TRACK_LEN;
 use support::noise::noise;
 
 fn judged(image: &[u8]) -> ([usize; 4], [usize; 3]) {
-    first_track(&image[..FIRST_TRACK_LEN])
+    first_track(&image[..TRACK_LEN])
 }
 
 #[test]
@@ -54,7 +54,7 @@ fn only_block_0_of_the_track_matters() {
 #[test]
 fn random_tracks() {
     for seed in 0..200 {
-        let mut track = noise(seed, FIRST_TRACK_LEN);
+        let mut track = noise(seed, TRACK_LEN);
         track[..96].copy_from_slice(&fresh()[..96]);
         first_track(&track);
     }

@@ -1,8 +1,9 @@
 //! The calls' own refusals, their order, and lent buffers.
 
-use super::both::{add, all_calls, check, list, read, remove};
+use super::all_calls::all_calls;
+use super::answer::{add, check, list, read, remove};
 use super::build::{fresh, set_word, three_files};
-use dhegluubin::IMAGE_LEN;
+use reference::geometry::IMAGE_LEN;
 
 #[test]
 fn image_of_a_wrong_length() {

@@ -1,11 +1,11 @@
 //! Disks with random faults, and images of random bytes.
 
-use super::both::all_calls;
+use super::all_calls::all_calls;
+use super::answer::cases;
 use super::build::{
     count_free, fresh, patch, record, scattered, set_record, set_word, three_files,
 };
-use crate::cases::cases;
-use dhegluubin::IMAGE_LEN;
+use reference::geometry::IMAGE_LEN;
 use std::collections::BTreeMap;
 use support::noise::{noise, Generator};
 

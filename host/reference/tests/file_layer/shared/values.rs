@@ -1,48 +1,7 @@
 //! Document 01's values that are run and compared, on an image and in the
 //! book.
 
-use super::both::{add, check, remove};
-use super::build::{fresh, word};
-use reference::book::Book;
-
-/// A disk and its book.
-struct Disk {
-    image: Vec<u8>,
-    book: Book,
-}
-
-impl Disk {
-    fn fresh() -> Disk {
-        Disk {
-            image: fresh(),
-            book: Book::format(b"DISK", 7).unwrap(),
-        }
-    }
-
-    fn add(&mut self, name: &[u8], data: &[u8]) -> [usize; 4] {
-        let reply = add(&mut self.image, name, 1, data);
-        assert_eq!(reply, self.book.add(name, 1, data).parts());
-        reply
-    }
-
-    fn remove(&mut self, name: &[u8]) -> [usize; 4] {
-        let reply = remove(&mut self.image, name);
-        assert_eq!(reply, self.book.remove(name).parts());
-        reply
-    }
-
-    /// The free word, which the book shares.
-    fn free(&self) -> usize {
-        let free = word(&self.image, 20);
-        assert_eq!(free, self.book.free_word());
-        free
-    }
-
-    fn assert_is_the_books(&self) {
-        assert!(self.image == self.book.image(), "another image");
-        assert_eq!(check(&self.image), [0; 4]);
-    }
-}
+use super::disk::Disk;
 
 /// Name of the file with this index.
 fn name(index: usize) -> Vec<u8> {

@@ -1,7 +1,8 @@
 //! Disks for the tests, and changes to them by block and offset.
 
-use reference::geometry::{BLOCKS, IMAGE_LEN};
-use reference::{add, check, format, place, Reply};
+use reference::geometry::BLOCKS;
+use reference::geometry::IMAGE_LEN;
+use reference::{add, format, place, Reply};
 
 /// An empty disk.
 pub fn fresh() -> Vec<u8> {
@@ -10,22 +11,19 @@ pub fn fresh() -> Vec<u8> {
     image
 }
 
-/// A disk with files `f1` (0 bytes), `f2` (1,500) and `f3` (5,000).
+/// A disk with files `f1` (0 bytes), `f2` (1,500) and `f3` (5,000). The
+/// directory has block 1, the files have 2, then 3 and 4, then 5 to 8.
 pub fn three_files() -> Vec<u8> {
     let mut image = fresh();
     for (name, len) in [(b"f1", 0), (b"f2", 1500), (b"f3", 5000)] {
-        add_file(&mut image, name, &vec![name[1]; len]);
+        let reply = add(&mut image, name, 0x0102_0304, &vec![name[1]; len]);
+        assert_eq!(reply, Reply::DONE);
     }
     image
 }
 
-/// Adds a file that must be accepted.
-pub fn add_file(image: &mut [u8], name: &[u8], data: &[u8]) {
-    assert_eq!(add(image, name, 0x0102_0304, data), Reply::DONE);
-}
-
 /// Where a byte of a block stands in the image.
-pub fn at(block: usize, offset: usize) -> usize {
+fn at(block: usize, offset: usize) -> usize {
     512 * place(block, offset / 512).first + offset % 512
 }
 
@@ -89,7 +87,34 @@ pub fn entry(len: u32, name_len: u16, name: &[u8]) -> [u8; 64] {
     bytes
 }
 
-/// What check answers.
-pub fn checked(image: &[u8]) -> [usize; 4] {
-    check(image).parts()
+/// A disk whose directory has the blocks from 1 on, all slots vacant.
+pub fn long_directory(blocks: usize) -> Vec<u8> {
+    let mut image = fresh();
+    for sequence in 0..blocks {
+        set_record(&mut image, 1 + sequence, record(0, sequence));
+    }
+    set_word(&mut image, 34, blocks);
+    set_word(&mut image, 36, 0);
+    count_free(&mut image);
+    image
+}
+
+/// A directory of two blocks, 300 before 20, with a file in slots 1 and 24;
+/// the file in slot 24 has its blocks in backward order.
+pub fn scattered() -> Vec<u8> {
+    let mut image = fresh();
+    set_record(&mut image, 1, FREE);
+    set_record(&mut image, 300, record(0, 0));
+    set_record(&mut image, 20, record(0, 1));
+    set_word(&mut image, 34, 1);
+    set_word(&mut image, 36, 64);
+    patch(&mut image, 300, 64, &entry(64, 1, b"a"));
+    set_record(&mut image, 479, record(1, 0));
+    patch(&mut image, 20, 0, &entry(64 + 3000, 1, b"b"));
+    set_record(&mut image, 31, record(24, 0));
+    set_record(&mut image, 30, record(24, 1));
+    patch(&mut image, 31, 0, &[1; 1536]);
+    patch(&mut image, 30, 0, &[2; 1536]);
+    count_free(&mut image);
+    image
 }

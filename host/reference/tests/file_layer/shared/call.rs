@@ -1,8 +1,8 @@
 //! Calls of a history: on an image, and in the book.
 
-use super::both::{self, Parts};
-use dhegluubin::raw;
+use super::answer::{self, Parts};
 use reference::book::Book;
+use reference::Reply;
 use support::hex::from_hex;
 use support::json::Value;
 use support::noise::noise;
@@ -60,37 +60,13 @@ impl Call {
         }
     }
 
-    /// The library's answer.
-    pub fn by_library(&self, image: &mut [u8]) -> Answer {
+    /// The answer that is given on an image.
+    pub fn on_image(&self, image: &mut [u8]) -> Answer {
         match self {
-            Call::Add { name, date, data } => (raw::add(image, name, *date, data).parts(), None),
-            Call::Remove { name } => (raw::remove(image, name).parts(), None),
-            Call::Read { name, buffer } => {
-                let mut out = buffer.clone();
-                let reply = raw::read(image, name, &mut out).parts();
-                (reply, Some(out))
-            }
-            Call::List { buffer } => {
-                let mut out = buffer.clone();
-                let reply = raw::list(image, &mut out).parts();
-                (reply, Some(out))
-            }
-        }
-    }
-
-    /// The answer that library and reference share.
-    pub fn by_both(&self, image: &mut [u8]) -> Answer {
-        match self {
-            Call::Add { name, date, data } => (both::add(image, name, *date, data), None),
-            Call::Remove { name } => (both::remove(image, name), None),
-            Call::Read { name, buffer } => {
-                let (reply, out) = both::read(image, name, buffer);
-                (reply, Some(out))
-            }
-            Call::List { buffer } => {
-                let (reply, out) = both::list(image, buffer);
-                (reply, Some(out))
-            }
+            Call::Add { name, date, data } => (answer::add(image, name, *date, data), None),
+            Call::Remove { name } => (answer::remove(image, name), None),
+            Call::Read { name, buffer } => filled(answer::read(image, name, buffer)),
+            Call::List { buffer } => filled(answer::list(image, buffer)),
         }
     }
 
@@ -99,21 +75,19 @@ impl Call {
         match self {
             Call::Add { name, date, data } => (book.add(name, *date, data).parts(), None),
             Call::Remove { name } => (book.remove(name).parts(), None),
-            Call::Read { name, buffer } => {
-                let mut out = buffer.clone();
-                let reply = book.read(name, &mut out).parts();
-                (reply, Some(out))
-            }
-            Call::List { buffer } => {
-                let mut out = buffer.clone();
-                let reply = book.list(&mut out).parts();
-                (reply, Some(out))
-            }
+            Call::Read { name, buffer } => lent(buffer, |out| book.read(name, out)),
+            Call::List { buffer } => lent(buffer, |out| book.list(out)),
         }
     }
 }
 
-/// A reply of the data.
-pub fn expected_reply(value: &Value) -> Vec<usize> {
-    value.list().iter().map(Value::size).collect()
+fn filled((reply, buffer): (Parts, Vec<u8>)) -> Answer {
+    (reply, Some(buffer))
+}
+
+/// The book's answer in a copy of the buffer.
+fn lent(buffer: &[u8], call: impl FnOnce(&mut [u8]) -> Reply) -> Answer {
+    let mut out = buffer.to_vec();
+    let reply = call(&mut out).parts();
+    (reply, Some(out))
 }
