@@ -1,4 +1,5 @@
-use crate::build::{assert_refused, assert_unpacks, disk, packed};
+use crate::answer::{assert_refused, assert_unpacks};
+use crate::shared::build::{disk, packed};
 use reference::hfe::{judge_header, written_header};
 use reference::reply::Refusal;
 

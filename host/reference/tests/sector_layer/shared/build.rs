@@ -1,8 +1,10 @@
 //! HFE images for the tests.
 
-use dhegluubin::{HFE_LEN, IMAGE_LEN};
 use reference::cells::{place_in_part, side_bytes};
+use reference::geometry::IMAGE_LEN;
 use reference::hfe::written_header;
+use reference::pack::HFE_LEN;
+use reference::Reply;
 use std::sync::OnceLock;
 use support::noise::noise;
 
@@ -18,12 +20,18 @@ pub fn disk() -> &'static [u8] {
     DISK.get_or_init(|| noise(70, IMAGE_LEN))
 }
 
-/// The HFE image that the reference packs it to.
+/// Another one: what a block image holds before it is lent.
+pub fn pattern() -> &'static [u8] {
+    static PATTERN: OnceLock<Vec<u8>> = OnceLock::new();
+    PATTERN.get_or_init(|| noise(11, IMAGE_LEN))
+}
+
+/// The HFE image that the reference packs the disk to.
 pub fn packed() -> Vec<u8> {
     static PACKED: OnceLock<Vec<u8>> = OnceLock::new();
     let packed = PACKED.get_or_init(|| {
         let mut hfe = vec![0x55; HFE_LEN];
-        assert_eq!(reference::pack(disk(), &mut hfe), reference::Reply::DONE);
+        assert_eq!(reference::pack(disk(), &mut hfe), Reply::DONE);
         hfe
     });
     packed.clone()

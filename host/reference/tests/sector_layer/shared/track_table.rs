@@ -1,6 +1,6 @@
 //! Refusal 3: the track table, wherever it stands.
 
-use super::both::unpack;
+use super::answer::unpack;
 use super::build::{empty_tracks, set_entry, set_table_unit, EMPTY, UNIT};
 use support::cases::cases;
 use support::noise::Generator;

@@ -1,6 +1,6 @@
 //! Tracks and tables elsewhere than `pack` puts them.
 
-use super::both::{assert_refused, assert_unpacks, unpack};
+use super::answer::{assert_refused, assert_unpacks, unpack};
 use super::build::{
     append, disk, empty_tracks, move_track, packed, set_entry, set_table_unit, sides, track_0,
     units, written_unit, TRACK_0_GOOD, UNIT, WRITTEN,
