@@ -2,6 +2,7 @@
 
 use std::ffi::OsStr;
 use std::fs;
+use std::io::Write;
 use std::path::{Path, PathBuf};
 use std::process::{Command, Output, Stdio};
 use std::sync::atomic::{AtomicUsize, Ordering};
@@ -73,6 +74,21 @@ impl Bench {
         command
     }
 
+    /// A shell, to be run in the folder, that finds the tool and the program
+    /// `first_track` before all others.
+    pub fn shell(&self) -> Command {
+        let package = Path::new(env!("CARGO_MANIFEST_DIR"));
+        let tool = Path::new(env!("CARGO_BIN_EXE_dheg")).parent().unwrap();
+        let own = [tool.to_path_buf(), package.join("../../target/bin")];
+        let others = std::env::var_os("PATH").unwrap_or_default();
+        let paths = own.into_iter().chain(std::env::split_paths(&others));
+        let mut command = Command::new("sh");
+        command.current_dir(&self.folder).stdin(Stdio::null());
+        command.env("PATH", std::env::join_paths(paths).unwrap());
+        command.arg("-c");
+        command
+    }
+
     /// Runs the tool with these arguments.
     pub fn dheg<S: AsRef<OsStr>>(&self, args: impl IntoIterator<Item = S>) -> Ended {
         self.command().args(args).output().unwrap().into()
@@ -129,6 +145,12 @@ impl Bench {
         assert_eq!(self.line(line), Ended::failed(status, err), "{line}");
         assert!(self.all() == before, "{line} changed a file");
     }
+}
+
+/// Tells of a test that passes. Written past the macros, whose output a
+/// passing test hides.
+pub fn tell(words: &str) {
+    writeln!(std::io::stderr(), "{words}").unwrap();
 }
 
 impl Drop for Bench {

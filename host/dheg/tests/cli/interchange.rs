@@ -1,12 +1,12 @@
 //! MAME's `floptool` reads what `pack` writes.
 
-use std::io::{ErrorKind, Write};
+use std::io::ErrorKind;
 use std::process::Command;
 
 use dhegluubin::IMAGE_LEN;
 use support::noise::noise;
 
-use crate::bench::Bench;
+use crate::bench::{tell, Bench};
 
 /// How its releases call a conversion, the newer ones first.
 const VERBS: [&str; 2] = ["flopconvert", "convert"];
@@ -15,16 +15,11 @@ const VERBS: [&str; 2] = ["flopconvert", "convert"];
 /// do: floptool takes some HFE images for another computer's raw ones.
 const FORMATS: [&str; 2] = ["hfe", "ql"];
 
-/// Written past the macros, whose output a passing test hides.
-fn tell(words: &str) {
-    writeln!(std::io::stderr(), "interchange: {words}").unwrap();
-}
-
 #[test]
 fn floptool_reads_a_packed_image() {
     match Command::new("floptool").output() {
         Err(error) if error.kind() == ErrorKind::NotFound => {
-            return tell("floptool is not installed, NOT RUN");
+            return tell("interchange: floptool is not installed, NOT RUN");
         }
         other => other.unwrap(),
     };
@@ -42,7 +37,7 @@ fn floptool_reads_a_packed_image() {
     bench.quiet("edit in.hfe packed.hfe -- rm data");
     bench.quiet("rm disk.img data");
     assert!(converted(&bench) == bench.read("disk.img"));
-    tell("floptool gives the same raw images");
+    tell("interchange: floptool gives the same raw images");
 }
 
 /// The raw image that floptool makes of `packed.hfe`, by the first verb that

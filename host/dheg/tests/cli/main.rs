@@ -6,6 +6,7 @@ mod files;
 mod help;
 mod images;
 mod interchange;
+mod progress;
 mod readme;
 mod several;
 mod usage;

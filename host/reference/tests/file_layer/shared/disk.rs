@@ -1,8 +1,10 @@
 //! A disk and its book, which get the same calls.
 
-use super::answer::{add, check, remove, Parts};
-use super::build::{fresh, word};
+use super::answer::{add, check, format, remove, Parts};
+use super::build::word;
 use reference::book::Book;
+use reference::geometry::IMAGE_LEN;
+use support::noise::noise;
 
 pub struct Disk {
     pub image: Vec<u8>,
@@ -11,10 +13,17 @@ pub struct Disk {
 
 impl Disk {
     pub fn fresh() -> Disk {
-        Disk {
-            image: fresh(),
-            book: Book::format(b"DISK", 7).unwrap(),
-        }
+        Disk::formatted(b"DISK", 7, 0)
+    }
+
+    /// A disk that is formatted over the bytes of a seed.
+    pub fn formatted(name: &[u8], number: u16, seed: u32) -> Disk {
+        let mut image = noise(seed, IMAGE_LEN);
+        assert_eq!(format(&mut image, name, number), [0; 4]);
+        let book = Book::format(name, number).unwrap();
+        let disk = Disk { image, book };
+        disk.assert_is_the_books();
+        disk
     }
 
     pub fn add(&mut self, name: &[u8], data: &[u8]) -> Parts {

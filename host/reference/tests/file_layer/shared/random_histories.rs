@@ -1,12 +1,11 @@
 //! Random histories: the calls on an image, the book, and demand 3's own
 //! count.
 
-use super::answer::{cases, check, format};
-use super::build::word;
+use super::answer::cases;
 use super::call::Call;
+use super::disk::Disk;
 use reference::book::Book;
-use reference::geometry::IMAGE_LEN;
-use std::collections::BTreeMap;
+use std::collections::{BTreeMap, BTreeSet};
 use support::noise::{noise, Generator};
 
 /// What a history is made of.
@@ -107,11 +106,13 @@ impl Kind {
     }
 }
 
-/// The files that accepted calls leave, and how many there were at most.
+/// The files that accepted calls leave, how many there were at most, and how
+/// many were added.
 #[derive(Default)]
 struct Present {
     files: BTreeMap<Vec<u8>, (u32, Vec<u8>)>,
     most: usize,
+    added: usize,
 }
 
 impl Present {
@@ -119,6 +120,7 @@ impl Present {
         match call {
             Call::Add { name, date, data } => {
                 self.files.insert(name.clone(), (*date, data.clone()));
+                self.added += 1;
             }
             Call::Remove { name } => {
                 self.files.remove(name);
@@ -145,64 +147,91 @@ impl Present {
     }
 }
 
-fn run(kind: &Kind, seed: u32) {
-    println!("seed {seed}");
-    let mut generator = Generator::new(seed);
-    let name = &b"random dsk"[..generator.below(11)];
-    let number = generator.below(65_536) as u16;
-    let mut image = noise(seed, IMAGE_LEN);
-    assert_eq!(format(&mut image, name, number), [0; 4]);
-    let mut book = Book::format(name, number).unwrap();
-    let mut present = Present::default();
-    assert!(book.image() == image);
-    for index in 0..kind.calls {
-        let call = kind.call(&mut generator);
-        let answer = call.on_image(&mut image);
-        assert!(answer == call.in_book(&mut book), "call {index}");
-        if answer.0[0] == 0 {
-            present.accept(&call);
+/// What the histories of a kind came to, all taken together.
+#[derive(Default)]
+struct Shown {
+    /// Numbers of replies.
+    numbers: BTreeSet<usize>,
+    /// Most slots of a directory.
+    slots: usize,
+    /// Most adds of a history that took a slot for the second time or later.
+    again: usize,
+    /// Whether there were as many as usual.
+    enough: bool,
+}
+
+impl Shown {
+    /// Runs the usual number of histories, or as many as are asked for.
+    fn of(kind: &Kind, usual: u32, seed: u32) -> Shown {
+        let mut shown = Shown::default();
+        let runs = cases(usual);
+        for case in 0..runs {
+            shown.run(kind, 1000 * case + seed);
         }
-        assert_eq!(word(&image, 20), present.free_word());
-        if index % 16 == 0 {
-            assert!(book.image() == image, "image after call {index}");
+        shown.enough = runs >= usual;
+        shown
+    }
+
+    fn run(&mut self, kind: &Kind, seed: u32) {
+        println!("seed {seed}");
+        let mut generator = Generator::new(seed);
+        let name = &b"random dsk"[..generator.below(11)];
+        let mut disk = Disk::formatted(name, generator.below(65_536) as u16, seed);
+        let mut present = Present::default();
+        for index in 0..kind.calls {
+            let call = kind.call(&mut generator);
+            let answer = call.on_image(&mut disk.image);
+            assert!(answer == call.in_book(&mut disk.book), "call {index}");
+            self.numbers.insert(answer.0[0]);
+            if answer.0[0] == 0 {
+                present.accept(&call);
+            }
+            assert_eq!(disk.free(), present.free_word());
+            if index % 16 == 0 {
+                disk.assert_is_the_books();
+            }
+        }
+        disk.assert_is_the_books();
+        present.assert_same_files(&disk.book);
+        self.slots = self.slots.max(disk.slots());
+        self.again = self.again.max(present.added - (disk.slots() - 1));
+    }
+
+    /// Asserts that these numbers were given, that a directory had so many
+    /// blocks and that so many slots were taken again. Too few histories need
+    /// not show all that.
+    fn assert(&self, numbers: &[usize], blocks: usize, again: usize) {
+        let Shown { slots, .. } = self;
+        println!("{:?}, {slots} slots, {} again", self.numbers, self.again);
+        if self.enough {
+            assert!(numbers.iter().all(|number| self.numbers.contains(number)));
+            assert!(slots.div_ceil(24) >= blocks);
+            assert!(self.again >= again);
         }
     }
-    assert!(book.image() == image, "image at the end");
-    assert_eq!(check(&image), [0; 4]);
-    present.assert_same_files(&book);
 }
 
 #[test]
 fn few_files() {
-    for case in 0..cases(6) {
-        run(&FEW, 1000 * case);
-    }
+    Shown::of(&FEW, 6, 0).assert(&[0, 12, 13, 14, 16], 1, 5);
 }
 
 #[test]
 fn long_files() {
-    for case in 0..cases(4) {
-        run(&LONG, 1000 * case + 1);
-    }
+    Shown::of(&LONG, 4, 1).assert(&[0, 12, 13, 14, 15, 16], 1, 5);
 }
 
 #[test]
 fn growing_directory() {
-    for case in 0..cases(3) {
-        run(&GROWING, 1000 * case + 2);
-    }
+    Shown::of(&GROWING, 3, 2).assert(&[0, 12, 13, 14, 16], 3, 5);
 }
 
 #[test]
 fn many_files() {
-    for case in 0..cases(2) {
-        run(&MANY, 1000 * case + 3);
-    }
+    Shown::of(&MANY, 2, 3).assert(&[0, 12, 13, 14, 15, 16], 10, 1);
 }
 
 #[test]
 fn mostly_refused() {
-    for case in 0..cases(4) {
-        run(&REFUSED, 1000 * case + 4);
-    }
+    Shown::of(&REFUSED, 4, 4).assert(&[0, 12, 13, 14, 16], 1, 1);
 }
