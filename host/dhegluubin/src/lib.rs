@@ -47,6 +47,7 @@
 #[allow(unsafe_code)]
 mod ffi;
 mod files;
+mod refusal;
 mod reply;
 mod sectors;
 
@@ -59,7 +60,8 @@ pub use files::{
     add, check, first_track, format, list, read, remove, DISK_NAME_LEN, ENTRY_LEN, FILE_NAME_LEN,
     FIRST_TRACK_LEN,
 };
-pub use reply::{FirstTrack, Lent, Refusal, Reply};
+pub use refusal::Refusal;
+pub use reply::{FirstTrack, Lent, Reply};
 pub use sectors::{pack, place, unpack, HFE_LEN, IMAGE_LEN, SHORTEST_HFE_LEN};
 
 /// The same calls with the answer as the library gives it, a number and three

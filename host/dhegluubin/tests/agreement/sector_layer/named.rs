@@ -15,58 +15,53 @@ fn wrong_lengths() {
     assert_eq!(pack(disk(), &mut []), hfe_wrong);
 }
 
+/// The refusal of an HFE image, which changes nothing.
+fn refusal(hfe: &[u8]) -> Refusal {
+    let mut image = vec![0x55; IMAGE_LEN];
+    let refusal = unpack(hfe, &mut image).unwrap_err();
+    assert!(image.iter().all(|&byte| byte == 0x55));
+    refusal
+}
+
 #[test]
-fn wrong_images() {
-    let named = |hfe: &[u8]| {
-        let mut image = vec![0x55; IMAGE_LEN];
-        let refusal = unpack(hfe, &mut image).unwrap_err();
-        assert!(image.iter().all(|&byte| byte == 0x55));
-        refusal
-    };
+fn wrong_sectors() {
     let (track, side, sector) = (1, 1, 4);
-    for (number, expected) in [
-        (
-            4,
-            Refusal::NoHeader {
-                track,
-                side,
-                sector,
-            },
-        ),
-        (
-            5,
-            Refusal::SeveralHeaders {
-                track,
-                side,
-                sector,
-            },
-        ),
-        (
-            6,
-            Refusal::NoDataField {
-                track,
-                side,
-                sector,
-            },
-        ),
-        (
-            7,
-            Refusal::DataCrc {
-                track,
-                side,
-                sector,
-            },
-        ),
-    ] {
+    let expected = [
+        Refusal::NoHeader {
+            track,
+            side,
+            sector,
+        },
+        Refusal::SeveralHeaders {
+            track,
+            side,
+            sector,
+        },
+        Refusal::NoDataField {
+            track,
+            side,
+            sector,
+        },
+        Refusal::DataCrc {
+            track,
+            side,
+            sector,
+        },
+    ];
+    for (number, expected) in (4..).zip(expected) {
         let mut hfe = packed();
         spoil(&mut hfe, number, track, side, sector);
-        assert_eq!(named(&hfe), expected);
+        assert_eq!(refusal(&hfe), expected);
     }
+}
+
+#[test]
+fn wrong_header_and_table() {
     let mut hfe = packed();
     set_entry(&mut hfe, 1, 33, 2, 1);
-    assert_eq!(named(&hfe), Refusal::TrackTable { track: 33 });
+    assert_eq!(refusal(&hfe), Refusal::TrackTable { track: 33 });
     hfe[10] = 1;
-    assert_eq!(named(&hfe), Refusal::HfeHeader { offset: 10 });
+    assert_eq!(refusal(&hfe), Refusal::HfeHeader { offset: 10 });
 }
 
 #[test]
