@@ -1,3 +1,5 @@
+//! Placement and its tables: document 01, "Place of a block".
+
 use reference::geometry::{
     image_sector, running_at, running_sector, REMAINDER, SECTORS, SIDE_AND_PLACE,
 };

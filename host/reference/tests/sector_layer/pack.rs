@@ -1,3 +1,6 @@
+//! A written image byte by byte: document 01, "Cells and sectors", fourth
+//! paragraph.
+
 use crate::answer::{assert_unpacks, pack_into};
 use crate::shared::build::{disk, packed};
 use reference::cells::side_cells;

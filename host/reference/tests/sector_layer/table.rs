@@ -1,3 +1,5 @@
+//! Track tables of written and of cut images.
+
 use crate::answer::assert_refused;
 use crate::shared::build::packed;
 use reference::track_table::{judge_table, Track};
