@@ -1,7 +1,6 @@
 //! unpack, pack, place, format.
 
 use dhegluubin::{HFE_LEN, IMAGE_LEN};
-
 use support::noise::noise;
 
 use crate::bench::{Bench, Ended};
