@@ -3,7 +3,7 @@
 //!
 //! - [`unpack`] reads an HFE image of version 1 into a block image, and
 //!   [`pack`] writes one.
-//! - [`format`], [`check`], [`list`], [`read`], [`add`] and [`remove`] work on
+//! - [`format()`], [`check`], [`list`], [`read`], [`add`] and [`remove`] work on
 //!   a block image and the files in it.
 //! - [`first_track`] judges the first track alone, and [`place`] tells where a
 //!   sector of a block stands in a block image.
