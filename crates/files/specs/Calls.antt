@@ -3,7 +3,6 @@
 -- Assumes nothing: these are definitions.
 use mathlib.Core.Bool.{Bool, cond, _&&_}
 use mathlib.Core.List.{List, [], _∷_, _++_}
-use mathlib.Core.Option.{Option, none, some}
 use Prim.Native.Nat.{ℕ, zero, suc, _+_, _-_, _*_, _/_, _%_}
 use lib.Dec.{leb, ltb, eqb}
 use lib.ListN.{length}
@@ -12,6 +11,7 @@ use Rattle.laws.specs.Overlay.{put}
 use Rattle.laws.specs.Firsts.{firsts}
 use Rattle.sectors.specs.declared.Reply.{Reply}
 use Rattle.sectors.specs.Replies.{reply, done, refusal}
+unfoldable pub use Rattle.sectors.specs.Replies.{unless}
 use Rattle.sectors.specs.Geometry.{blockSectors, blocks, imageBytes}
 use Rattle.files.specs.declared.Record.{Record}
 use Rattle.files.specs.declared.Record.the-variants.{Free, System, File, Other}
@@ -46,11 +46,6 @@ refused d r = record { answer = r; disk = d }
 
 unfoldable pub unwritten : List ℕ → Reply → Written
 unwritten image r = record { answer = r; image = image }
-
--- the refusal, or what is done where there is none
-unfoldable pub unless : {A : Type 0} → Option Reply → (Reply → A) → A → A
-unless none f a = a
-unless (some r) f a = f r
 
 -- ---- 1: the block image has another length
 

@@ -1,20 +1,20 @@
 -- What check, list, read, add and remove judge after 1 and before their own refusals: 8 to 11. Document 01, "Numbered replies".
 -- Assumes nothing: these are definitions.
-use mathlib.Core.Bool.{Bool, true, false, not, cond, _&&_, _||_}
+use mathlib.Core.Bool.{Bool, not, cond, _&&_, _||_}
 use mathlib.Core.List.{List, [], _∷_}
-use mathlib.Core.Option.{Option, none, some, Option·map}
+use mathlib.Core.Option.{Option, none, some}
 use Prim.Native.Nat.{ℕ, _+_, _*_, _%_}
 use lib.Dec.{leb, ltb, eqb}
-use lib.ListN.{length}
 use Rattle.laws.specs.Tests.{orElse}
-use Rattle.laws.specs.Tab.{tab}
 use Rattle.laws.specs.Below.{all}
 use Rattle.laws.specs.Lowest.{lowest}
-use Rattle.laws.specs.Same.{same}
+use Rattle.laws.specs.Same.{bytesAre}
 use Rattle.laws.specs.Count.{count}
 use Rattle.laws.specs.Numbers.{at16, up}
+use Rattle.sectors.specs.declared.Fault.{Fault}
 use Rattle.sectors.specs.declared.Reply.{Reply}
-use Rattle.sectors.specs.Replies.{reply, done, refusal}
+use Rattle.sectors.specs.Replies.{refusal}
+use Rattle.sectors.specs.Faults.{wrongAt, orFault, faultBelow, refusalAt}
 use Rattle.sectors.specs.Geometry.{tracks, sectors, blockSectors, turn, trackSectors, allSectors, blocks, sidePlace, backward}
 use Rattle.files.specs.declared.Record.{Record}
 use Rattle.files.specs.Sizes.{blockBytes, slotBytes, slotCount, nameMost}
@@ -28,33 +28,27 @@ use Rattle.files.specs.Directory.{nameEq, slotEntry, slotName, held, dir
 unfoldable pub signature : List ℕ
 signature = 0x51 ∷ 0x4C ∷ 0x35 ∷ 0x41 ∷ []
 
--- whether these bytes stand at o
-unfoldable pub bytesAre : (ℕ → ℕ) → ℕ → List ℕ → Bool
-bytesAre f o xs = same (tab (λ (i : ℕ). f (o + i)) (length xs)) xs
-
 -- 34 to 37: a multiple of 64, at least 64, and bytes over below a block
 unfoldable pub lengthRight : Disk → Bool
 lengthRight d = ltb (at16 (d 0) 36) blockBytes && (eqb (dirBytes d % slotBytes) 0 && leb slotBytes (dirBytes d))
 
--- the offset, unless the test holds
-unfoldable pub wrong : ℕ → Bool → Option ℕ
-wrong o true = none
-wrong o false = some o
+-- 22 to 32: good and total sectors, 9, 18, 80, 3
+unfoldable pub sizesFault : Disk → Fault
+sizesFault d =
+    orFault (wrongAt 22 (eqb (at16 (d 0) 22) allSectors))
+    (orFault (wrongAt 24 (eqb (at16 (d 0) 24) allSectors))
+    (orFault (wrongAt 26 (eqb (at16 (d 0) 26) sectors))
+    (orFault (wrongAt 28 (eqb (at16 (d 0) 28) trackSectors))
+    (orFault (wrongAt 30 (eqb (at16 (d 0) 30) tracks)) (wrongAt 32 (eqb (at16 (d 0) 32) blockSectors))))))
 
--- the offset of the lowest wrong field; 4-19 and 76-95 are not judged
-unfoldable pub headerFault : Disk → Option ℕ
+-- the lowest wrong field; 4-19 and 76-95 are not judged
+unfoldable pub headerFault : Disk → Fault
 headerFault d =
-    orElse (wrong 0 (bytesAre (d 0) 0 signature))
-    (orElse (wrong 22 (eqb (at16 (d 0) 22) allSectors))
-    (orElse (wrong 24 (eqb (at16 (d 0) 24) allSectors))
-    (orElse (wrong 26 (eqb (at16 (d 0) 26) sectors))
-    (orElse (wrong 28 (eqb (at16 (d 0) 28) trackSectors))
-    (orElse (wrong 30 (eqb (at16 (d 0) 30) tracks))
-    (orElse (wrong 32 (eqb (at16 (d 0) 32) blockSectors))
-    (orElse (wrong 34 (lengthRight d))
-    (orElse (wrong 38 (eqb (at16 (d 0) 38) turn))
-    (orElse (wrong 40 (bytesAre (d 0) 40 sidePlace))
-    (wrong 58 (bytesAre (d 0) 58 backward)))))))))))
+    orFault (wrongAt 0 (bytesAre (d 0) 0 signature))
+    (orFault (sizesFault d)
+    (orFault (wrongAt 34 (lengthRight d))
+    (orFault (wrongAt 38 (eqb (at16 (d 0) 38) turn))
+    (orFault (wrongAt 40 (bytesAre (d 0) 40 sidePlace)) (wrongAt 58 (bytesAre (d 0) 58 backward))))))
 
 -- ---- 9: the map
 
@@ -110,15 +104,15 @@ freeRight d = eqb (at16 (d 0) 20) (blockSectors * freeCount d)
 
 -- 8 with the offset of the lowest wrong field
 unfoldable pub refusal8 : Disk → Option Reply
-refusal8 d = Option·map (λ (o : ℕ). reply 8 o 0 0) (headerFault d)
+refusal8 d = refusalAt 8 (headerFault d)
 
 -- 9 with the lowest block
 unfoldable pub refusal9 : Disk → Option Reply
-refusal9 d = cond (ltb (mapFault d) blocks) (some (reply 9 (mapFault d) 0 0)) none
+refusal9 d = refusalAt 9 (faultBelow blocks (mapFault d))
 
 -- 10 with the lowest file number
 unfoldable pub refusal10 : Disk → Option Reply
-refusal10 d = cond (ltb (fileFault d) slotCount) (some (reply 10 (fileFault d) 0 0)) none
+refusal10 d = refusalAt 10 (faultBelow slotCount (fileFault d))
 
 -- 11, with no place
 unfoldable pub refusal11 : Disk → Option Reply

@@ -4,11 +4,11 @@ ghost use Prim.Native.Nat.{_≤_, _<_, _^_};
 ghost use lib.Dec.{eqb};
 ghost use lib.ListN.{length};
 ghost use Rattle.laws.specs.Numbers.{at16};
-ghost use Rattle.sectors.specs.Hfe.{wrongAt};
+ghost use Rattle.sectors.specs.Faults.{wrongAt};
 ghost use Rattle.files.specs.Disk.{diskOf};
 ghost use Rattle.files.specs.Directory.{dirBytes, dirEnd};
-ghost use Rattle.files.specs.Check.{lengthRight, headerFault, refusal8};
-ghost use Rattle.files.specs.Laws.Verdict.{faultOf, sizesFault, verdictOf};
+ghost use Rattle.files.specs.Check.{lengthRight, sizesFault, headerFault, refusal8};
+ghost use Rattle.files.specs.Laws.Verdict.{verdictOf};
 use crate::Verdict;
 use crate::blocks::block_word2;
 use crate::sizes::BLOCK_BYTES;
@@ -77,7 +77,7 @@ fn sizes_fault(image: &[u8]) -> Fault
 // The lowest wrong field of the header; its fields stand in the first sector of block 0, which is the image's first.
 pub fn header_fault(image: &[u8]) -> Fault
     requires { ⌜ 512 ≤ length (now image) ⌝ }
-    ensures { λ r. ⌜ r ≡ faultOf (headerFault (diskOf (now (image .entry)))) ⌝ }
+    ensures { λ r. ⌜ r ≡ headerFault (diskOf (now (image .entry))) ⌝ }
 {
     let backward = wrong_at(58, fields::stands_at(image, 58, &BACKWARD));
     let table = wrong_at(40, fields::stands_at(image, 40, &SIDE_PLACE));

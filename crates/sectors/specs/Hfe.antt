@@ -1,32 +1,16 @@
 -- The HFE image to read: its header, track table and sides. Document 01, "The HFE image", and refusals 2 and 3.
 -- Assumes nothing: these are definitions.
-use mathlib.Core.Bool.{Bool, cond, _&&_, _||_, not}
+use mathlib.Core.Bool.{Bool, _&&_, _||_, not}
 use mathlib.Core.List.{List, [], _∷_}
 use Prim.Native.Nat.{ℕ, _+_, _-_, _*_, _/_, _%_}
 use lib.Dec.{leb, ltb, eqb}
 use lib.ListN.{length, getD, take, drop}
 use Rattle.laws.specs.Same.{standsAt}
 use Rattle.laws.specs.Words.{lowFirst}
-use Rattle.laws.specs.Lowest.{lowest}
 use Rattle.cells.specs.Stream.{stream, hfeSide}
 use Rattle.sectors.specs.declared.Fault.{Fault}
-use Rattle.sectors.specs.declared.Fault.the-variants.{At, Sound}
+use Rattle.sectors.specs.Faults.{wrongAt, orFault, lowestFault}
 use Rattle.sectors.specs.Geometry.{tracks, sides}
-
--- ---- faults
-
--- a field at offset o that is right or wrong
-abbrev pub wrongAt : ℕ → Bool → Fault
-wrongAt o right = cond right Sound (At o)
-
--- the first of two faults
-abbrev pub orFault : Fault → Fault → Fault
-orFault (At o) f = At o
-orFault Sound f = f
-
--- the lowest number below n at which the test holds
-unfoldable pub lowestFault : (ℕ → Bool) → ℕ → Fault
-lowestFault p n = cond (ltb (lowest p n) n) (At (lowest p n)) Sound
 
 -- ---- the header
 

@@ -1,5 +1,6 @@
--- The definitions: replies and the disk kind, the sector rules, the HFE image, unpacking and packing; then what is promised of them alone; then their laws.
+-- The definitions: replies, faults and the disk kind, the sector rules, the HFE image, unpacking and packing; then what is promised of them alone; then their laws.
 pub mod Replies
+pub mod Faults
 pub mod Geometry
 pub mod Search
 pub mod Hfe

@@ -6,7 +6,7 @@ use Prim.Native.Nat.{ℕ, _+_, _-_, _*_, _/_, _%_}
 use lib.Dec.{ltb, eqb}
 use lib.ListN.{length, getD}
 use Rattle.laws.specs.Tab.{tab, window}
-use Rattle.laws.specs.Words.{lowByte}
+use Rattle.laws.specs.Words.{highByte, lowByte}
 use Rattle.cells.specs.Stream.{packed}
 use Rattle.cells.specs.Crc.{crc}
 use Rattle.cells.specs.Written.{writtenCell, written}
@@ -38,7 +38,7 @@ fieldCrc xs = crc (0xA1 ∷ (0xA1 ∷ (0xA1 ∷ xs)))
 
 -- a mark and what follows, with the CRC, high byte first
 unfoldable pub withCrc : List ℕ → List ℕ
-withCrc xs = xs ++ (fieldCrc xs / 256 ∷ (fieldCrc xs % 256 ∷ []))
+withCrc xs = xs ++ tab (highByte 2 (fieldCrc xs)) 2
 
 -- FE C H R N
 abbrev pub headerRow : ℕ → ℕ → ℕ → List ℕ

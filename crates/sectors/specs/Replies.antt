@@ -1,5 +1,6 @@
 -- Numbered replies. Document 01, "Numbered replies".
 -- Assumes nothing: these are definitions.
+use mathlib.Core.Option.{Option, none, some}
 use Prim.Native.Nat.{ℕ}
 use Rattle.sectors.specs.declared.Reply.{Reply}
 
@@ -14,3 +15,8 @@ done = reply 0 0 0 0
 -- a refusal that names no place
 abbrev pub refusal : ℕ → Reply
 refusal n = reply n 0 0 0
+
+-- the refusal, or what is done where there is none
+unfoldable pub unless : {A : Type 0} → Option Reply → (Reply → A) → A → A
+unless none f a = a
+unless (some r) f a = f r

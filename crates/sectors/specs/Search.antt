@@ -6,6 +6,7 @@ use mathlib.Core.List.{List, [], _∷_, _++_}
 use Prim.Native.Nat.{ℕ, zero, suc, _+_, _*_}
 use lib.Dec.{leb, eqb}
 use lib.ListN.{length}
+use Rattle.laws.specs.Numbers.{at16}
 use Rattle.laws.specs.Tab.{tab}
 use Rattle.cells.specs.Stream.{from, dataByte, dataBytes}
 use Rattle.cells.specs.Sync.{threeSync}
@@ -21,7 +22,7 @@ use Rattle.sectors.specs.declared.Sector.the-variants.{Delivered, Missin
 
 -- the CRC of the n bytes at the list's start follows them, high byte first
 unfoldable pub crcHolds : List ℕ → ℕ → Bool
-crcHolds f n = eqb (crc (dataBytes f 0 n)) (dataByte f (16 * n) * 256 + dataByte f (16 * n + 16))
+crcHolds f n = eqb (crc (dataBytes f 0 n)) (at16 (λ (j : ℕ). dataByte f (16 * j)) n)
 
 -- the marks after three sync bytes
 abbrev pub headerMark : ℕ

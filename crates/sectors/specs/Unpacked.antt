@@ -7,12 +7,12 @@ use lib.Dec.{ltb, eqb}
 use lib.ListN.{length, getD}
 use Rattle.laws.specs.Tab.{tab}
 use Rattle.laws.specs.Lowest.{lowest}
+use Rattle.laws.specs.Tests.{orElse}
 use Rattle.sectors.specs.declared.Reply.{Reply}
-use Rattle.sectors.specs.declared.Fault.{Fault}
-use Rattle.sectors.specs.declared.Fault.the-variants.{At, Sound}
 use Rattle.sectors.specs.declared.Sector.{Sector}
 use Rattle.sectors.specs.declared.Sector.the-variants.{Delivered, Missing, Repeated, Fieldless, Damaged}
-use Rattle.sectors.specs.Replies.{reply, done}
+use Rattle.sectors.specs.Replies.{reply, done, unless}
+use Rattle.sectors.specs.Faults.{refusalAt}
 use Rattle.sectors.specs.Geometry.{sectors, trackSectors, allSectors, sectorBytes, imageBytes}
 use Rattle.sectors.specs.Search.{sectorOf, bytesOf}
 use Rattle.sectors.specs.Hfe.{headerFault, tableFault, sideStream}
@@ -56,11 +56,6 @@ firstBad h = lowest (λ (m : ℕ). isBad (sectorAt h m)) allSectors
 unfoldable pub sectorsReply : List ℕ → Reply
 sectorsReply h = cond (ltb (firstBad h) allSectors) (sectorReply (firstBad h) (sectorAt h (firstBad h))) done
 
--- a fault gives its number and place; where there is none the next test decides
-abbrev pub orReply : ℕ → Fault → Reply → Reply
-orReply n (At o) r = reply n o 0 0
-orReply n Sound r = r
-
 -- an HFE image to read has at least 1024 bytes
 abbrev pub leastHfe : ℕ
 leastHfe = 1024
@@ -70,7 +65,9 @@ leastHfe = 1024
 unfoldable pub unpackReply : List ℕ → ℕ → Reply
 unpackReply h n =
     cond (ltb (length h) leastHfe) (reply 1 1 0 0)
-    (cond (eqb n imageBytes) (orReply 2 (headerFault h) (orReply 3 (tableFault h) (sectorsReply h))) (reply 1 2 0 0))
+    (cond (eqb n imageBytes)
+    (unless (orElse (refusalAt 2 (headerFault h)) (refusalAt 3 (tableFault h))) (λ (r : Reply). r) (sectorsReply h))
+    (reply 1 2 0 0))
 
 -- byte k of the block image: the sectors' bytes in image-sector order
 unfoldable pub unpackedByte : List ℕ → ℕ → ℕ

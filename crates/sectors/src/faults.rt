@@ -1,6 +1,6 @@
 // What a judgement finds.
 ghost use mathlib.Core.Path.{_≡_};
-ghost use Rattle.sectors.specs.Hfe.{wrongAt, orFault};
+ghost use Rattle.sectors.specs.Faults.{wrongAt, orFault};
 use crate::Fault;
 
 // The fault of a field at offset o that is right or wrong.

@@ -13,6 +13,8 @@ use Rattle.laws.specs.Order.{by-order}
 use Rattle.laws.specs.Tests.{orElse, lt-true, cond-true}
 use Rattle.laws.specs.Truth.{and-right}
 use Rattle.sectors.specs.Replies.{reply}
+use Rattle.sectors.specs.declared.Fault.the-variants.{At, Sound}
+use Rattle.sectors.specs.Faults.{faultBelow, refusalAt}
 use Rattle.sectors.specs.Geometry.{blocks}
 use Rattle.files.specs.Sizes.{blockBytes, slotCount}
 use Rattle.files.specs.Disk.{Disk}
@@ -38,11 +40,11 @@ or-none-right none b e = e
 or-none-right (some x) b e = let z : _≡_ {A = ℕ} 0 1 = cc in absurd (omega arith)
 
 pub files-right : (d : Disk) → refusal10 d ≡ none → slotCount ≤ fileFault d
-unfolding refusal10
+unfolding refusal10 faultBelow
 files-right d e =
     by-order (fileFault d) slotCount
     (λ h.
-    let q : some (reply 10 (fileFault d) 0 0) ≡ none = sym (cond-true (some (reply 10 (fileFault d) 0 0)) none (lt-true h)) ∙ e in
+    let q : some (reply 10 (fileFault d) 0 0) ≡ none = sym (ap (refusalAt 10) (cond-true (At (fileFault d)) Sound (lt-true h))) ∙ e in
     let z : _≡_ {A = ℕ} 0 1 = cc in absurd (omega arith))
     (λ h. h)
 

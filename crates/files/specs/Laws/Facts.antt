@@ -13,20 +13,22 @@ use Rattle.laws.specs.Below.{all-is}
 use Rattle.laws.specs.Change.{patch, patch-in, patch-below}
 use Rattle.laws.specs.Count.{count, count-cong, count-one, sum-at}
 use Rattle.laws.specs.Lowest.{lowest, lowest-none}
-use Rattle.laws.specs.Numbers.{at16, at32, up, high2-at, high4-at}
+use Rattle.laws.specs.Numbers.{at16, at32, up, at16-is, high2-at, high4-at}
 use Rattle.laws.specs.Order.{by-order}
-use Rattle.laws.specs.Same.{same}
+use Rattle.laws.specs.Same.{same, bytesAre}
 use Rattle.laws.specs.Search.{lowest-hit, lowest-only, lowest-cong, all-false, tab-self, take-tab}
 use Rattle.laws.specs.Tab.{tab, tab-in, tab-ext}
 use Rattle.laws.specs.Tests.{lt-true, lt-false, le-true, eq-true, eq-false, true-eq, true≢false, by-equal, cond-true, cond-false, and-true, and-false-left, and-false-right, isSome, orElse}
 use Rattle.laws.specs.Truth.{and-left, and-right, by-test}
-use Rattle.laws.specs.Words.{highByte}
+use Rattle.laws.specs.Words.{bigEndian, highByte}
+use Rattle.sectors.specs.declared.Fault.the-variants.{At, Sound}
+use Rattle.sectors.specs.Faults.{faultBelow, refusalAt}
 use Rattle.sectors.specs.Geometry.{blockSectors, blocks, sidePlace, backward}
 use Rattle.sectors.specs.Replies.{reply, refusal}
 use Rattle.files.specs.declared.Record.{Record}
 use Rattle.files.specs.declared.Record.the-variants.{Free, System, File, Other}
 use Rattle.files.specs.Calls.{Outcome, kept, unless, deliver, entries, listDisk, dataOf, readDisk}
-use Rattle.files.specs.Check.{signature, bytesAre, lengthRight, wrong, headerFault, recordFault, mapFault, partsRight, unborne, newName, entryRight, fileRight, fileFault, freeRight, refusal8, refusal9, refusal10, refusal11, judged}
+use Rattle.files.specs.Check.{signature, lengthRight, sizesFault, headerFault, recordFault, mapFault, partsRight, unborne, newName, entryRight, fileRight, fileFault, freeRight, refusal8, refusal9, refusal10, refusal11, judged}
 use Rattle.files.specs.Directory.{nameEq, nameRight, entryOf, entryByte, nameOf, entryFor, slotByte, slotEntry, slotName, held, dirBytes, dirEnd, findName, vacantSlot}
 use Rattle.files.specs.Disk.{Disk}
 use Rattle.files.specs.Laws.Inner.{Inner, fileBlocks, header, render, findM, emptyLine, freeOf, listM, readM}
@@ -54,11 +56,11 @@ true-isPart f s Other e = true≢false false e refl
 
 module _ (name : List ℕ) (date size : ℕ) where
   entry-length : slotBytes + size < 4294967296 → at32 (entryByte (entryFor name date size)) 0 ≡ slotBytes + size
-  unfolding at32 entryByte entryFor patch
+  unfolding at32 bigEndian entryByte entryFor patch
   entry-length h = high4-at (slotBytes + size) h
 
   entry-name-length : length name ≤ nameMost → at16 (entryByte (entryFor name date size)) 14 ≡ length name
-  unfolding at16 entryByte entryFor patch
+  unfolding at16 bigEndian entryByte entryFor patch
   entry-name-length h = high2-at (length name) (omega arith)
 
   entry-name-byte : (i : ℕ) → i < nameMost → entryByte (entryFor name date size) (16 + i) ≡ getD name i 0
@@ -96,15 +98,15 @@ parts-dir m = omega arith
 
 module _ (m : Inner) where
   at-34 : m .peak ≤ 460 → at16 (header m) 34 ≡ suc (m .peak) * slotBytes / blockBytes
-  unfolding at16 header headerByte patch
+  unfolding at16 bigEndian header headerByte patch
   at-34 h = high2-at (suc (m .peak) * slotBytes / blockBytes) (omega arith)
 
   at-36 : at16 (header m) 36 ≡ suc (m .peak) * slotBytes % blockBytes
-  unfolding at16 header headerByte patch
+  unfolding at16 bigEndian header headerByte patch
   at-36 = high2-at (suc (m .peak) * slotBytes % blockBytes) (omega arith)
 
   at-20 : at16 (header m) 20 ≡ freeWord (m .peak) (fileBlocks m)
-  unfolding at16 header headerByte patch freeWord
+  unfolding at16 bigEndian header headerByte patch freeWord
   at-20 = high2-at (blockSectors * (usable - (dirBlocks (m .peak) + fileBlocks m))) (omega arith)
 
   signature-at : bytesAre (header m) 0 signature ≡ true
@@ -122,7 +124,7 @@ module _ (m : Inner) where
   fixed-at :
       (at16 (header m) 22 ≡ 1440) × (at16 (header m) 24 ≡ 1440) × (at16 (header m) 26 ≡ 9) × (at16 (header m) 28 ≡ 18)
       × (at16 (header m) 30 ≡ 80) × (at16 (header m) 32 ≡ 3) × (at16 (header m) 38 ≡ 5)
-  unfolding at16 header headerByte fixedByte patch highByte
+  unfolding at16 bigEndian header headerByte fixedByte patch highByte
   fixed-at = (refl, refl, refl, refl, refl, refl, refl)
 
 module _ (m : Inner) (v : Inv m) where
@@ -145,8 +147,7 @@ module _ (m : Inner) (v : Inv m) where
   -- ---- the header
 
   head16 : (o : ℕ) → o + 1 < mapStart → at16 (d 0) o ≡ at16 (header m) o
-  unfolding at16
-  head16 o h = ap₂ (λ (x y : ℕ). x * 256 + y) (P .head o (omega arith)) (P .head (o + 1) h)
+  head16 o h = at16-is (d 0) o ∙ ap₂ (λ (x y : ℕ). x * 256 + y) (P .head o (omega arith)) (P .head (o + 1) h) ∙ sym (at16-is (header m) o)
 
   word34 : at16 (d 0) 34 ≡ suc (m .peak) * slotBytes / blockBytes
   word34 = head16 34 (omega arith) ∙ at-34 m (v .peak-most)
@@ -199,8 +200,8 @@ module _ (m : Inner) (v : Inv m) where
   fixed : (o w : ℕ) → o + 1 < mapStart → at16 (header m) o ≡ w → eqb (at16 (d 0) o) w ≡ true
   fixed o w h e = eq-true (head16 o h ∙ e)
 
-  header-right : headerFault d ≡ none
-  unfolding headerFault orElse wrong
+  header-right : headerFault d ≡ Sound
+  unfolding headerFault sizesFault
   header-right =
       rw (
         sign-right,
@@ -283,13 +284,13 @@ module _ (m : Inner) (v : Inv m) where
       entry-is i l = slot-is k i h l ∙ ap (λ (y : Line). slotOf y i) e
 
       pub slotLength-is : (slotEntry d k .length) ≡ slotBytes + length (x .content)
-      unfolding slotEntry entryOf at32
+      unfolding slotEntry entryOf at32 bigEndian
       slotLength-is =
           rw (entry-is 0 (omega arith), entry-is 1 (omega arith), entry-is 2 (omega arith), entry-is 3 (omega arith))
           (entry-length (x .name) (x .date) (length (x .content)) (omega (arith, size-fits)))
 
       pub slotNameLength-is : (slotEntry d k .named) ≡ length (x .name)
-      unfolding slotEntry entryOf at16
+      unfolding slotEntry entryOf at16 bigEndian
       slotNameLength-is =
           rw (entry-is 14 (omega arith), entry-is 15 (omega arith))
           (entry-name-length (x .name) (x .date) (length (x .content)) (v .line-name k x e .1))
@@ -448,15 +449,15 @@ module _ (m : Inner) (v : Inv m) where
 
   eight-right : refusal8 d ≡ none
   unfolding refusal8
-  eight-right = ap (Option·map (λ (o : ℕ). reply 8 o 0 0)) header-right
+  eight-right = ap (refusalAt 8) header-right
 
   nine-right : refusal9 d ≡ none
-  unfolding refusal9
-  nine-right = cond-false _ _ (lt-false {a = mapFault d} {b = blocks} (omega (arith, map-right)))
+  unfolding refusal9 faultBelow
+  nine-right = ap (refusalAt 9) (cond-false (At (mapFault d)) Sound (lt-false {a = mapFault d} {b = blocks} (omega (arith, map-right))))
 
   ten-right : refusal10 d ≡ none
-  unfolding refusal10
-  ten-right = cond-false _ _ (lt-false {a = fileFault d} {b = slotCount} (omega (arith, files-right)))
+  unfolding refusal10 faultBelow
+  ten-right = ap (refusalAt 10) (cond-false (At (fileFault d)) Sound (lt-false {a = fileFault d} {b = slotCount} (omega (arith, files-right))))
 
   eleven-right : refusal11 d ≡ none
   unfolding refusal11 freeRight freeWord

@@ -10,7 +10,7 @@ use Rattle.laws.specs.Count.{count}
 use Rattle.laws.specs.Numbers.{at32, high4-at}
 use Rattle.laws.specs.Search.{lowest-only}
 use Rattle.laws.specs.Tests.{true≢false}
-use Rattle.laws.specs.Words.{highByte}
+use Rattle.laws.specs.Words.{bigEndian, highByte}
 use Rattle.sectors.specs.Geometry.{blockSectors, blocks}
 use Rattle.files.specs.declared.Record.{Record}
 use Rattle.files.specs.declared.Record.the-variants.{Free, System, File, Other}
@@ -71,7 +71,7 @@ module _ (title : List ℕ) (number : ℕ) where
       ∙ patch-twice (patch Y 34 2 a′) 36 2 b b′ o
 
   updates-at : (u w e : ℕ) → u < 4294967296 → at32 (headerByte title number u w e) 16 ≡ u
-  unfolding at32 headerByte patch
+  unfolding at32 bigEndian headerByte patch
   updates-at u w e h = high4-at u h
 
 wrap-bytes : (u i : ℕ) → u < 4294967296 → highByte 4 (u + 1) i ≡ highByte 4 (wrap (u + 1)) i
@@ -109,7 +109,7 @@ module _ (title : List ℕ) (number u w e : ℕ) (owner : ℕ → Record) (c : R
       (λ o k. set-end title number u w e e′ o) (λ x k. refl) (λ x o i j k. refl)
 
   pub update-step : u < 4294967296 → With (stepUpdate d) (headerByte title number (wrap (u + 1)) w e) owner c
-  unfolding stepUpdate at32
+  unfolding stepUpdate at32 bigEndian
   update-step small =
       let h : ℕ → ℕ = headerByte title number u w e in
       let n : at32 (d 0) 16 ≡ u = rw (p .head 16 (omega arith), p .head 17 (omega arith), p .head 18 (omega arith), p .head 19 (omega arith)) (updates-at title number u w e small) in

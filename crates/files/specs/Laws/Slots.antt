@@ -17,7 +17,7 @@ use Rattle.laws.specs.Same.{eq-same, ne-same}
 use Rattle.laws.specs.Search.{take-tab}
 use Rattle.laws.specs.Tab.{tab, tab-length, tab-in, tab-ext, eq-tab, elementAt, getD-past}
 use Rattle.laws.specs.Tests.{by-equal, lt-true, lt-false, cond-true, cond-false, and-false-right}
-use Rattle.laws.specs.Words.{highFirst}
+use Rattle.laws.specs.Words.{bigEndian, highFirst, high-row}
 use Rattle.sectors.specs.Geometry.{sectorBytes, blocks, imageBytes, running, imageSector}
 use Rattle.files.specs.declared.Entry.{Entry}
 use Rattle.files.specs.Sizes.{slotBytes, blockSlots, slotCount, nameMost}
@@ -91,7 +91,7 @@ module _ (image dir : List ℕ) (k : ℕ) (long : length image ≡ imageBytes) (
 -- ---- what is read of a slot is read of its row
 
 pub entry-cong : (f g : ℕ → ℕ) → ((i : ℕ) → i < slotBytes → f i ≡ g i) → entryOf f ≡ entryOf g
-unfolding entryOf at16 at32
+unfolding entryOf at16 at32 bigEndian
 entry-cong f g e =
     let n : tab (λ (i : ℕ). f (16 + i)) nameMost ≡ tab (λ (i : ℕ). g (16 + i)) nameMost =
     tab-ext (λ (i : ℕ). f (16 + i)) (λ (i : ℕ). g (16 + i)) nameMost (λ i h. e (16 + i) (omega arith)) in
@@ -120,12 +120,12 @@ held-zero d = refl
 -- ---- words and names of a row
 
 pub word2-row : (s : List ℕ) (at o : ℕ) → highFirst s (at + o) 2 ≡ at16 (elementAt s at) o
-unfolding highFirst at16 elementAt
-word2-row s at o = rw (add-zero (at + o), add-assoc at o 1) (omega arith)
+unfolding at16
+word2-row s at o = high-row s at o 2
 
 pub word4-row : (s : List ℕ) (at o : ℕ) → highFirst s (at + o) 4 ≡ at32 (elementAt s at) o
-unfolding highFirst at32 elementAt
-word4-row s at o = rw (add-zero (at + o), add-assoc at o 1, add-assoc at o 2, add-assoc at o 3) (omega arith)
+unfolding at32
+word4-row s at o = high-row s at o 4
 
 pub row-along : (s : List ℕ) (at n : ℕ) → tab (elementAt s (at + 16)) n ≡ tab (λ (i : ℕ). elementAt s at (16 + i)) n
 unfolding elementAt

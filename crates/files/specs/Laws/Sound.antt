@@ -19,6 +19,9 @@ use Rattle.laws.specs.Order.{by-order}
 use Rattle.laws.specs.Tests.{by-equal, true-le, lt-true, lt-false, eq-true, eq-false, cond-true, cond-false, and-false-left, and-false-right}
 use Rattle.laws.specs.Tab.{tab-length}
 use Rattle.laws.specs.Truth.{by-test, and-right}
+use Rattle.sectors.specs.declared.Fault.{Fault}
+use Rattle.sectors.specs.declared.Fault.the-variants.{At, Sound}
+use Rattle.sectors.specs.Faults.{faultBelow, refusalAt}
 use Rattle.sectors.specs.Geometry.{blocks, blockSectors, imageBytes}
 use Rattle.sectors.specs.Replies.{reply, refusal, done}
 use Rattle.sectors.specs.declared.Reply.{Reply}
@@ -233,13 +236,13 @@ module _ (d : Disk) where
 
 -- ---- the refusals
 
-lowest-refused : (b n k : ℕ) → b < n → Refused (reply k b 0 0) ≡ verdictOf (cond (ltb b n) (some (reply k b 0 0)) none)
-unfolding verdictOf
-lowest-refused b n k h = ap verdictOf (sym (cond-true (some (reply k b 0 0)) none (lt-true h)))
+lowest-refused : (b n k : ℕ) → b < n → Refused (reply k b 0 0) ≡ verdictOf (refusalAt k (faultBelow n b))
+unfolding verdictOf faultBelow
+lowest-refused b n k h = ap (λ (f : Fault). verdictOf (refusalAt k f)) (sym (cond-true (At b) Sound (lt-true h)))
 
-lowest-passed : (b n k : ℕ) → n ≤ b → Passed ≡ verdictOf (cond (ltb b n) (some (reply k b 0 0)) none)
-unfolding verdictOf
-lowest-passed b n k h = ap verdictOf (sym (cond-false (some (reply k b 0 0)) none (lt-false h)))
+lowest-passed : (b n k : ℕ) → n ≤ b → Passed ≡ verdictOf (refusalAt k (faultBelow n b))
+unfolding verdictOf faultBelow
+lowest-passed b n k h = ap (λ (f : Fault). verdictOf (refusalAt k f)) (sym (cond-false (At b) Sound (lt-false h)))
 
 module _ (d : Disk) (b : ℕ) where
   pub refused-map : b ≡ mapFault d → b < blocks → Refused (reply 9 b 0 0) ≡ verdictOf (refusal9 d)

@@ -11,7 +11,7 @@ use lib.ListN.{length, getD}
 use Rattle.laws.specs.Change.{upd, patch, upd₂-same, upd₂-other, patch-cong}
 use Rattle.laws.specs.Count.{count, count-cong}
 use Rattle.laws.specs.Numbers.{at32}
-use Rattle.laws.specs.Words.{highByte}
+use Rattle.laws.specs.Words.{bigEndian, highByte}
 use Rattle.laws.specs.Order.{by-order}
 use Rattle.laws.specs.Overlay.{overlay, overlayAt, overlay-cong, put}
 use Rattle.laws.specs.Tab.{tab, tab-length, tab-in, tab-ext, elementAt}
@@ -123,7 +123,7 @@ module _ (d e : Disk) (near : Near d e) where
   near-free b o hb ho = near-word 20 (blockSectors * freeCount d) b o hb ho ∙ ap (λ (n : ℕ). setWord e 20 (blockSectors * n) b o) near-count
 
   pub near-update : Near (stepUpdate d) (stepUpdate e)
-  unfolding stepUpdate at32
+  unfolding stepUpdate at32 bigEndian
   near-update b o hb ho =
       let count : at32 (d 0) 16 ≡ at32 (e 0) 16 =
       rw (near 0 16 (omega arith) (omega arith), near 0 17 (omega arith) (omega arith), near 0 18 (omega arith) (omega arith), near 0 19 (omega arith) (omega arith)) in

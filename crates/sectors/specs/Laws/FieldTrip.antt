@@ -22,7 +22,7 @@ use Rattle.sectors.specs.declared.Found.the-variants.{One}
 use Rattle.sectors.specs.declared.Sector.the-variants.{Delivered, Fieldless}
 use Rattle.sectors.specs.Search.{crcHolds, dataMark, headerAt, placesBelow, foundOf, findSector, fieldAt, fieldOf, sectorFound, sectorOf, sectorByte, bytesOf}
 use Rattle.sectors.specs.Packed.{fieldCrc, withCrc, sectorItem, sideItem}
-use Rattle.sectors.specs.Laws.Search.{first-is}
+use Rattle.sectors.specs.Laws.Search.{crc-two, first-is}
 use Rattle.sectors.specs.Laws.Packed.{sector-field, sector-mark, fieldCrc-lt, crc-before, crc-high, crc-low}
 use Rattle.sectors.specs.Laws.SideTrip.{writtenSide, runs, byte-at-item, sync-at-item, room, only, place, there}
 
@@ -136,7 +136,7 @@ module _ (t s : ℕ) (d : ℕ → List ℕ) (k : ℕ) (hk : k < 9) (len : length
       byte (suc (suc (suc j))) h = row-byte j (omega (arith, long)) (16 * (146 + 658 * k + 56)) (0 + 16 * suc (suc (suc j))) (omega arith)
 
   field-holds : crcHolds f 516 ≡ true
-  unfolding crcHolds fieldCrc f start xs
+  unfolding fieldCrc f start xs
   field-holds =
       let sum : ℕ = fieldCrc (dataMark ∷ d (k + 1)) in
       let low : sum < 65536 = fieldCrc-lt (dataMark ∷ d (k + 1)) in
@@ -144,7 +144,7 @@ module _ (t s : ℕ) (d : ℕ → List ℕ) (k : ℕ) (hk : k < 9) (len : length
       let el : getD (withCrc xs) 514 0 ≡ sum % 256 = crc-low xs 514 (omega (arith, long)) in
       let hi : dataByte f 8256 ≡ sum / 256 = field-byte 513 (lit< tt) (rw eh (omega arith)) (16 * (146 + 658 * k + 56)) 8256 (omega arith) ∙ eh in
       let lo : dataByte f 8272 ≡ sum % 256 = field-byte 514 (lit< tt) (rw el (omega arith)) (16 * (146 + 658 * k + 56)) 8272 (omega arith) ∙ el in
-      rw (hi, lo, field-list) (eq-eqb sum (sum / 256 * 256 + sum % 256) (omega arith))
+      rw (crc-two f 516, hi, lo, field-list) (eq-eqb sum (sum / 256 * 256 + sum % 256) (omega arith))
 
   -- the field of the header is the one that was written, and its CRC holds
   field-back : fieldOf c (16 * (146 + 658 * k + 12)) ≡ Delivered (16 * (146 + 658 * k + 60))

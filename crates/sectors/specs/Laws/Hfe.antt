@@ -13,22 +13,23 @@ use Rattle.laws.specs.Order.{by-order}
 use Rattle.laws.specs.Truth.{and-right}
 use Rattle.laws.specs.Lowest.{lowest, lowest-none, lowest-some, lowest-all}
 use Rattle.sectors.specs.declared.Fault.the-variants.{At, Sound}
-use Rattle.sectors.specs.Hfe.{lowestFault, entryPlace, trackLength, trackStart, trackBytes, trackGood, tableFault}
+use Rattle.sectors.specs.Faults.{faultBelow, lowestFault}
+use Rattle.sectors.specs.Hfe.{entryPlace, trackLength, trackStart, trackBytes, trackGood, tableFault}
 
 pub at-not-sound : (m : ℕ) → At m ≡ Sound → ⊥
 at-not-sound m e = let z : _≡_ {A = ℕ} 0 1 = cc in omega arith
 
 module _ (p : ℕ → Bool) (n : ℕ) where
   pub fault-none : ((k : ℕ) → k < n → p k ≡ false) → lowestFault p n ≡ Sound
-  unfolding lowestFault
+  unfolding lowestFault faultBelow
   fault-none h = rw (lowest-none p n h, le-ltb n n (le-refl n))
 
   pub fault-some : (m : ℕ) → m < n → ((k : ℕ) → k < m → p k ≡ false) → p m ≡ true → lowestFault p n ≡ At m
-  unfolding lowestFault
+  unfolding lowestFault faultBelow
   fault-some m l h t = rw (lowest-some p n m l h t, lt-ltb m n l)
 
   pub fault-all : lowestFault p n ≡ Sound → (k : ℕ) → k < n → p k ≡ false
-  unfolding lowestFault
+  unfolding lowestFault faultBelow
   fault-all e =
       by-order (lowest p n) n
       (λ l. let z : At (lowest p n) ≡ Sound = rw (lt-ltb (lowest p n) n l) at e in absurd (at-not-sound (lowest p n) z))

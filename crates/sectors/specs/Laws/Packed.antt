@@ -11,7 +11,7 @@ use lib.ListN.{length, getD, take, drop, List·getD-append, List·getD-eq-defaul
 use lib.Seq.{getD-append-add}
 use borrow.Author.Tests.{lt-ltb, le-ltb, eq-eqb, ne-eqb}
 use Rattle.laws.specs.Below.{all, all-eq}
-use Rattle.laws.specs.Words.{lowByte}
+use Rattle.laws.specs.Words.{highByte, lowByte}
 use Rattle.laws.specs.Tab.{tab, window, window-in, window-length, window-part}
 use Rattle.cells.specs.Stream.{packed}
 use Rattle.cells.specs.Written.{writtenCell}
@@ -139,19 +139,19 @@ fieldCrc-lt xs = crc-lt _
 
 module _ (xs : List ℕ) where
   tail : List ℕ
-  tail = fieldCrc xs / 256 ∷ (fieldCrc xs % 256 ∷ [])
+  tail = tab (highByte 2 (fieldCrc xs)) 2
 
   pub crc-before : (k : ℕ) → k < length xs → getD (withCrc xs) k 0 ≡ getD xs k 0
   unfolding withCrc
   crc-before k h = List·getD-append xs _ 0 k h
 
   pub crc-high : (k : ℕ) → k ≡ length xs → getD (withCrc xs) k 0 ≡ fieldCrc xs / 256
-  unfolding withCrc tail
-  crc-high k e = let z : k ≡ length xs + 0 = omega arith in rw z (getD-append-add xs tail 0 0)
+  unfolding withCrc tail tab highByte
+  crc-high k e = let z : k ≡ length xs + 0 = omega arith in rw z (getD-append-add xs tail 0 0 ∙ omega (arith, fieldCrc-lt xs))
 
   pub crc-low : (k : ℕ) → k ≡ length xs + 1 → getD (withCrc xs) k 0 ≡ fieldCrc xs % 256
-  unfolding withCrc tail
-  crc-low k e = rw e (getD-append-add xs tail 1 0)
+  unfolding withCrc tail tab highByte
+  crc-low k e = rw e (getD-append-add xs tail 1 0 ∙ omega arith)
 
 -- the CRC of a header row, and of a field whose 512 bytes stand in a list, as code computes them
 pub header-crc : (t s r : ℕ) → crcFrom crcStart (0xA1 ∷ (0xA1 ∷ (0xA1 ∷ headerRow t s r))) ≡ fieldCrc (headerRow t s r)

@@ -9,7 +9,9 @@ use native.Mathlib.Omega.{arith}
 use lib.Dec.{eqb, ltb, leb, lit<}
 use lib.ListN.{length, getD}
 use borrow.Author.Tests.{ltb-true, ltb-false, le-leb, eq-eqb, eqb-true}
+use Rattle.laws.specs.Tab.{tab}
 use Rattle.laws.specs.Truth.{and-left, and-right}
+use Rattle.laws.specs.Words.{highByte}
 use Rattle.cells.specs.Stream.{from, dataByte, dataBytes}
 use Rattle.cells.specs.Sync.{syncAt, threeSync}
 use Rattle.cells.specs.Written.{byteOf, written}
@@ -23,6 +25,7 @@ use Rattle.cells.specs.Laws.Written.{byte-at, sync-here, written-length}
 use Rattle.cells.specs.Laws.Triple.{Triple}
 use Rattle.sectors.specs.Search.{crcHolds, headerMark, isHeader, idOf, headerOf, headerAt, first}
 use Rattle.sectors.specs.Packed.{span, row, fieldCrc, withCrc, headerRow, sectorItem, sideItem, sideItems}
+use Rattle.sectors.specs.Laws.Search.{crc-two}
 use Rattle.sectors.specs.Laws.Packed.{sector-sync, side-sector, fieldCrc-lt}
 
 -- the cells of a written side
@@ -196,12 +199,13 @@ module _ (t s : ℕ) (ht : t < 256) (hs : s < 256) (d : ℕ → List ℕ) (k : �
       byte (suc (suc (suc (suc (suc (suc (suc (suc j)))))))) h = absurd (omega arith)
 
   header-holds : crcHolds f 8 ≡ true
-  unfolding crcHolds item sectorItem span withCrc fieldCrc
+  unfolding item sectorItem span withCrc tab highByte fieldCrc
   header-holds =
       let sum : ℕ = fieldCrc (headerRow t s (k + 1)) in
-      let x : dataByte f 128 ≡ sum / 256 = at 8 (lit< tt) (omega (arith, fieldCrc-lt (headerRow t s (k + 1)))) in
-      let y : dataByte f 144 ≡ sum % 256 = at 9 (lit< tt) (omega arith) in
-      rw (x, y, header-list) (eq-eqb sum (sum / 256 * 256 + sum % 256) (omega arith))
+      let small : sum < 65536 = fieldCrc-lt (headerRow t s (k + 1)) in
+      let x : dataByte f 128 ≡ sum / 256 % 256 = at 8 (lit< tt) (omega arith) in
+      let y : dataByte f 144 ≡ sum / 1 % 256 = at 9 (lit< tt) (omega arith) in
+      rw (crc-two f 8, x, y, header-list) (eq-eqb sum (sum / 256 % 256 * 256 + sum / 1 % 256) (omega arith))
 
   header-three : threeSync f ≡ true
   unfolding threeSync

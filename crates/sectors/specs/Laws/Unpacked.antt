@@ -10,7 +10,8 @@ use lib.Dec.{eqb}
 use lib.ListN.{length, getD, set, length-set}
 use lib.Seq.{getD-set-same, getD-set-other}
 use borrow.Author.Tests.{lt-ltb, le-ltb, eq-eqb, ne-eqb}
-use Rattle.laws.specs.Order.{by-order, by-equal}
+use Rattle.laws.specs.Order.{by-order}
+use Rattle.laws.specs.Tests.{by-equal, orElse}
 use Rattle.laws.specs.Lowest.{lowest-none, lowest-some}
 use Rattle.laws.specs.Tab.{tab, tab-in}
 use Rattle.cells.specs.Stream.{stream, hfeSide}
@@ -22,13 +23,14 @@ use Rattle.sectors.specs.declared.Fault.{Fault}
 use Rattle.sectors.specs.declared.Fault.the-variants.{At, Sound}
 use Rattle.sectors.specs.declared.Sector.{Sector}
 use Rattle.sectors.specs.declared.Sector.the-variants.{Delivered, Missing, Repeated, Fieldless, Damaged}
-use Rattle.sectors.specs.Replies.{reply, done}
+use Rattle.sectors.specs.Replies.{reply, done, unless}
+use Rattle.sectors.specs.Faults.{refusalAt}
 use Rattle.sectors.specs.Geometry.{imageBytes}
 use Rattle.sectors.specs.Search.{sectorFound, sectorOf, sectorByte, bytesOf}
 use Rattle.sectors.specs.Hfe.{headerFault, tableFault, trackLength, trackPart, sideStream}
 use Rattle.sectors.specs.Laws.Hfe.{at-not-sound}
 use Rattle.sectors.specs.Laws.Search.{Scanned}
-use Rattle.sectors.specs.Unpacked.{leastHfe, orReply, unpackReply, unpackImage, trackOf, sideOf, sectorBytesAt, sectorAt, isBad, sectorReply, firstBad, sectorsReply, unpackedByte}
+use Rattle.sectors.specs.Unpacked.{leastHfe, unpackReply, unpackImage, trackOf, sideOf, sectorBytesAt, sectorAt, isBad, sectorReply, firstBad, sectorsReply, unpackedByte}
 
 -- a row of sectors from `at` on, judged to the end of n, or to the first bad one: their places are in q, and what stood before them in p is kept
 pub record Judged (sector : ℕ → Sector) (p q : List ℕ) (at n : ℕ) (r : Fault) : Type 0 where
@@ -242,18 +244,21 @@ module _ (h : List ℕ) (n : ℕ) where
     length-reply e = rw (le-ltb (length h) leastHfe l, ne-eqb n imageBytes e)
 
     module _ (e : n ≡ imageBytes) where
-      later-reply : unpackReply h n ≡ orReply 2 (headerFault h) (orReply 3 (tableFault h) (sectorsReply h))
+      later-reply : unpackReply h n ≡ unless (orElse (refusalAt 2 (headerFault h)) (refusalAt 3 (tableFault h))) (λ (r : Reply). r) (sectorsReply h)
       unfolding unpackReply
       later-reply = rw (le-ltb (length h) leastHfe l, eq-eqb n imageBytes e)
 
       pub header-reply : (o : ℕ) → headerFault h ≡ At o → unpackReply h n ≡ reply 2 o 0 0
+      unfolding unless orElse
       header-reply o f = later-reply ∙ rw f
 
       module _ (f : headerFault h ≡ Sound) where
         pub table-reply : (t : ℕ) → tableFault h ≡ At t → unpackReply h n ≡ reply 3 t 0 0
+        unfolding unless orElse
         table-reply t g = later-reply ∙ rw (f, g)
 
         pub sound-reply : tableFault h ≡ Sound → unpackReply h n ≡ sectorsReply h
+        unfolding unless orElse
         sound-reply g = later-reply ∙ rw (f, g)
 
 -- the image afterwards: what the reply says

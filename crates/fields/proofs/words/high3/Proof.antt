@@ -2,7 +2,8 @@
 -- Assumes nothing.
 use native.Mathlib.Omega.{arith}
 use borrow.Author.Needs.{needs}
-use Rattle.laws.specs.Words.{highFirst}
+use Rattle.laws.specs.Tab.{elementAt}
+use Rattle.laws.specs.Words.{bigEndian, highFirst}
 use Rattle.fields.proofs.words.high3.Statement.{statement}
 use Rattle.fields.proofs.words.high3.Tie as tie
 
@@ -37,7 +38,7 @@ add-result-2 : tie.Need-add-result-2
 add-result-2 c = search needs
 
 returns : tie.Need-returns
-unfolding highFirst
+unfolding highFirst bigEndian elementAt
 returns c = (omega arith, omega arith)
 
 pub high3-spec : {M : Type 1} → statement M

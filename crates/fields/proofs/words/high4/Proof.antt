@@ -2,7 +2,8 @@
 -- Assumes nothing.
 use native.Mathlib.Omega.{arith}
 use borrow.Author.Needs.{needs}
-use Rattle.laws.specs.Words.{highFirst}
+use Rattle.laws.specs.Tab.{elementAt}
+use Rattle.laws.specs.Words.{bigEndian, highFirst}
 use Rattle.fields.proofs.words.high4.Statement.{statement}
 use Rattle.fields.proofs.words.high4.Tie as tie
 
@@ -22,7 +23,7 @@ add-result : tie.Need-add-result
 add-result c = search needs
 
 returns : tie.Need-returns
-unfolding highFirst
+unfolding highFirst bigEndian elementAt
 returns c = omega arith
 
 pub high4-spec : {M : Type 1} → statement M

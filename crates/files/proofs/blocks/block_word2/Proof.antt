@@ -1,7 +1,7 @@
 -- `block_word2` meets its contract.
 -- Assumes nothing.
 use borrow.Author.Needs.{needs}
-use Rattle.laws.specs.Numbers.{at16, at32}
+use Rattle.laws.specs.Numbers.{at16-is}
 use Rattle.files.proofs.blocks.block_word2.Statement.{statement}
 use Rattle.files.proofs.blocks.block_word2.Tie as tie
 
@@ -24,8 +24,7 @@ cast-result : tie.Need-cast-result
 cast-result c = search needs
 
 returns : tie.Need-returns
-unfolding at16 at32
-returns c = search needs
+returns c = rw at16-is (search needs)
 
 pub block-word2-spec : {M : Type 1} → statement M
 block-word2-spec =

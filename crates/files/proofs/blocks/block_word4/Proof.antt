@@ -1,7 +1,7 @@
 -- `block_word4` meets its contract.
 -- Assumes nothing.
 use borrow.Author.Needs.{needs}
-use Rattle.laws.specs.Numbers.{at16, at32}
+use Rattle.laws.specs.Numbers.{at32-is}
 use Rattle.files.proofs.blocks.block_word4.Statement.{statement}
 use Rattle.files.proofs.blocks.block_word4.Tie as tie
 
@@ -45,8 +45,7 @@ add-result-2 : tie.Need-add-result-2
 add-result-2 c = search needs
 
 returns : tie.Need-returns
-unfolding at16 at32
-returns c = search needs
+returns c = rw at32-is (search needs)
 
 pub block-word4-spec : {M : Type 1} → statement M
 block-word4-spec =

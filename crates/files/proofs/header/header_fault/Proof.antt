@@ -4,8 +4,8 @@ use mathlib.Core.Path.{sym, _∙_}
 use native.Mathlib.Omega.{arith}
 use borrow.Author.Needs.{needs}
 use Rattle.sectors.specs.Geometry.{sidePlace, backward}
-use Rattle.files.specs.Check.{signature}
-use Rattle.files.specs.Laws.Verdict.{header-faults, bytes-stand}
+use Rattle.files.specs.Check.{signature, headerFault}
+use Rattle.files.specs.Laws.Verdict.{bytes-stand}
 use Rattle.files.proofs.header.header_fault.Statement.{statement}
 use Rattle.files.proofs.header.header_fault.Tie as tie
 
@@ -64,8 +64,8 @@ or-fault-requires-5 : tie.Need-or-fault-requires-5
 or-fault-requires-5 c κs = search needs
 
 returns : tie.Need-returns
-unfolding signature sidePlace backward
-returns c = c .or-fault5 .ensures ∙ rw (c .before .or-fault4 .ensures, c .before .before .before .or-fault3 .ensures, c .before .before .before .before .or-fault2 .ensures, c .before .before .before .before .before .or-fault .ensures, c .before .before .before .before .before .before .before .before .before .before .before .before .before .before .before .wrong-at .ensures, c .before .before .before .before .before .before .before .before .before .before .before .before .wrong-at2 .ensures, c .before .before .before .before .before .before .before .before .before .wrong-at3 .ensures, c .before .before .before .before .before .before .wrong-at4 .ensures, c .before .before .before .before .before .before .before .before .before .before .before .word-fault .ensures, c .before .before .before .before .before .before .before .before .before .before .length-right .ensures, c .before .before .sizes-fault .ensures, c .before .before .before .before .before .before .before .before .before .before .before .before .before .before .before .before .stands-at .ensures, c .before .before .before .before .before .before .before .before .before .before .before .before .before .stands-at2 .ensures, c .before .before .before .before .before .before .before .stands-at3 .ensures, bytes-stand _ 58 backward (c .before .before .before .before .before .before .before .before .before .before .before .before .before .before .before .before .before .before .before .pre) (omega arith), bytes-stand _ 40 sidePlace (c .before .before .before .before .before .before .before .before .before .before .before .before .before .before .before .before .before .before .before .pre) (omega arith), bytes-stand _ 0 signature (c .before .before .before .before .before .before .before .before .before .before .before .before .before .before .before .before .before .before .before .pre) (omega arith)) (sym (header-faults _))
+unfolding headerFault signature sidePlace backward
+returns c = c .or-fault5 .ensures ∙ rw (c .before .or-fault4 .ensures, c .before .before .before .or-fault3 .ensures, c .before .before .before .before .or-fault2 .ensures, c .before .before .before .before .before .or-fault .ensures, c .before .before .before .before .before .before .before .before .before .before .before .before .before .before .before .wrong-at .ensures, c .before .before .before .before .before .before .before .before .before .before .before .before .wrong-at2 .ensures, c .before .before .before .before .before .before .before .before .before .wrong-at3 .ensures, c .before .before .before .before .before .before .wrong-at4 .ensures, c .before .before .before .before .before .before .before .before .before .before .before .word-fault .ensures, c .before .before .before .before .before .before .before .before .before .before .length-right .ensures, c .before .before .sizes-fault .ensures, c .before .before .before .before .before .before .before .before .before .before .before .before .before .before .before .before .stands-at .ensures, c .before .before .before .before .before .before .before .before .before .before .before .before .before .stands-at2 .ensures, c .before .before .before .before .before .before .before .stands-at3 .ensures, bytes-stand _ 58 backward (c .before .before .before .before .before .before .before .before .before .before .before .before .before .before .before .before .before .before .before .pre) (omega arith), bytes-stand _ 40 sidePlace (c .before .before .before .before .before .before .before .before .before .before .before .before .before .before .before .before .before .before .before .pre) (omega arith), bytes-stand _ 0 signature (c .before .before .before .before .before .before .before .before .before .before .before .before .before .before .before .before .before .before .before .pre) (omega arith))
 
 pub header-fault-spec : {M : Type 1} → statement M
 header-fault-spec =

@@ -2,7 +2,7 @@
 -- Assumes nothing.
 use mathlib.Core.Path.{_∙_}
 use borrow.Author.Needs.{needs}
-use Rattle.files.specs.Laws.Verdict.{sizesFault}
+use Rattle.files.specs.Check.{sizesFault}
 use Rattle.files.proofs.header.sizes_fault.Statement.{statement}
 use Rattle.files.proofs.header.sizes_fault.Tie as tie
 

@@ -1,7 +1,7 @@
 -- `crc_holds` meets its contract.
 -- Assumes nothing.
 use borrow.Author.Needs.{needs}
-use Rattle.sectors.specs.Search.{crcHolds}
+use Rattle.sectors.specs.Laws.Search.{crc-two}
 use Rattle.sectors.proofs.search.crc_holds.Statement.{statement}
 use Rattle.sectors.proofs.search.crc_holds.Tie as tie
 
@@ -36,8 +36,7 @@ add-result : tie.Need-add-result
 add-result c = search needs
 
 returns : tie.Need-returns
-unfolding crcHolds
-returns c = cc
+returns c = rw crc-two cc
 
 pub crc-holds-spec : {M : Type 1} → statement M
 crc-holds-spec =
