@@ -29,6 +29,7 @@ pub mod Left
 pub mod Zero
 pub mod Stored
 pub mod Steps
+pub mod Rows
 pub mod Given
 pub mod Changed
 pub mod Ends

@@ -7,9 +7,10 @@ ghost use Rattle.files.specs.Disk.{diskOf};
 ghost use Rattle.files.specs.Map.{fileByte};
 ghost use Rattle.files.specs.Directory.{nameRight, slotEntry, dirEnd};
 ghost use Rattle.files.specs.Calls as Calls;
-ghost use Rattle.files.specs.Laws.Delivered.{readSound, runPlace};
+ghost use Rattle.files.specs.Laws.Delivered.{readSound};
 use crate::Verdict;
-use crate::blocks::byte_place;
+use crate::blocks::run_length;
+use crate::blocks::run_place;
 use crate::checking::judge;
 use crate::directory::find_name;
 use crate::directory::load_dir;
@@ -46,26 +47,6 @@ fn data_length(image: &[u8], k: usize) -> usize
     } else {
         length - SLOT_BYTES
     }
-}
-
-// How many bytes can be copied from offset o of a block on: to its sector's end, and n at most.
-fn run_length(o: usize, n: usize) -> usize
-    requires { ⌜ 0 < n ⌝ }
-    ensures { λ r. ⌜ (0 < r) × (r ≤ n) × (o % 512 + r ≤ 512) ⌝ }
-{
-    let room = Geometry::SECTOR_BYTES - o % Geometry::SECTOR_BYTES;
-    if room < n { room } else { n }
-}
-
-// Where offset o of block b stands in the image; its end, where there is no such block.
-fn run_place(b: usize, o: usize) -> usize
-    requires { ⌜ o < 1536 ⌝ }
-    ensures { λ r. ⌜ r ≡ runPlace b o ⌝ }
-{
-    if b < Geometry::BLOCKS {
-        return byte_place(b, o);
-    }
-    Geometry::IMAGE_BYTES
 }
 
 // Copies n bytes of block b from offset o on, which lie in one sector, to the place c of the buffer.

@@ -4,9 +4,9 @@ use mathlib.Core.Path.{sym, _∙_}
 use Prim.Native.Nat.{_-_}
 use borrow.Author.Needs.{needs}
 use Rattle.laws.specs.Tests.{lt-true, lt-false, cond-true, cond-false}
-use Rattle.files.specs.Laws.Delivered.{runPlace}
-use Rattle.files.proofs.reading.run_place.Statement.{statement}
-use Rattle.files.proofs.reading.run_place.Tie as tie
+use Rattle.files.specs.Laws.Rows.{runPlace}
+use Rattle.files.proofs.blocks.run_place.Statement.{statement}
+use Rattle.files.proofs.blocks.run_place.Tie as tie
 
 byte-place-requires : tie.Need-byte-place-requires
 byte-place-requires c κs = search needs
