@@ -114,23 +114,40 @@ typedef struct {
  * track, side and sector number. All 1,440 sectors are judged before the first byte is written.
  * Tracks and table may stand anywhere in the HFE image, even one over another.
  *
- * Judges 1 to 7. Writes all of `image`.
+ * Done: all of `image` is written; the places are 0. Refused: nothing is changed, and
+ *
+ *   1      `first`: 1 `hfe` has under 1,024 bytes, 2 `image` has not 737,280
+ *   2      `first`: offset of the lowest wrong field of the HFE header
+ *   3      `first`: lowest track whose table entry is not good
+ *   4..7   `first`, `second`, `third`: track, side and R of the first bad sector; 4 no header, 5 two
+ *          or more, 6 no data field, 7 wrong CRC of the data
+ *
+ * `hfe` is only read. Both are used until the call returns; no state is kept, and other threads may
+ * call at the same time on other memory.
  */
 dheg_reply dheg_unpack(const uint8_t *hfe, size_t hfe_len, uint8_t *image, size_t image_len);
 
 /*
- * Writes a block image of 737,280 bytes as an HFE image of 2,008,064 bytes. dheg_unpack accepts what
- * is written and gives the same block image back.
+ * Writes a block image of 737,280 bytes as an HFE image of 2,008,064 bytes. The block image may hold
+ * anything. dheg_unpack accepts what is written and gives the same block image back.
  *
- * Judges 1. Writes all of `hfe`.
+ * Done: all of `hfe` is written; the places are 0. Refused: nothing is changed, and
+ *
+ *   1      `first`: 1 `hfe` has not 2,008,064 bytes, 2 `image` has not 737,280
+ *
+ * `image` is only read. Both are used until the call returns; no state is kept, and other threads
+ * may call at the same time on other memory.
  */
 dheg_reply dheg_pack(const uint8_t *image, size_t image_len, uint8_t *hfe, size_t hfe_len);
 
 /*
- * Tells where a sector (0 to 2) of a block (0 to 479) stands: `first` is the image sector, counted
- * in 512 bytes from the start of a block image.
+ * Tells where a sector (0 to 2) of a block (0 to 479) stands.
  *
- * Judges 12. Takes no memory.
+ * Done: `first` is the image sector, counted in 512 bytes from the start of a block image. Refused:
+ *
+ *   12     `block` is over 479 or `sector` over 2; no place is named
+ *
+ * No memory is lent, no state is kept, and any thread may call at any time.
  */
 dheg_reply dheg_place(size_t block, size_t sector);
 
@@ -138,33 +155,65 @@ dheg_reply dheg_place(size_t block, size_t sector);
  * Writes an empty disk over a block image of 737,280 bytes, whatever that held; no old byte stays.
  * The name has 0 to 10 bytes; the number is kept in the header.
  *
- * Judges 1 and 12. Writes all of `image`.
+ * Done: all of `image` is written; the places are 0. Refused: nothing is changed, and
+ *
+ *   1      `first`: 2 `image` has not 737,280 bytes
+ *   12     the name has over 10 bytes; no place is named
+ *
+ * `name` is only read. Both are used until the call returns; no state is kept, and other threads may
+ * call at the same time on other memory.
  */
 dheg_reply dheg_format(uint8_t *image, size_t image_len, const uint8_t *name, size_t name_len,
                        uint16_t number);
 
 /*
  * Judges a block image: its length, the disk header, the map, the directory and the free word.
+ * dheg_list, dheg_read, dheg_add and dheg_remove judge the same before anything else.
  *
- * Judges 1 and 8 to 11. Writes nothing.
+ * Done: the disk is sound; the places are 0. Refused:
+ *
+ *   1      `first`: 2 `image` has not 737,280 bytes
+ *   8      `first`: offset of the lowest wrong field of the disk header (34: directory's length)
+ *   9      `first`: lowest block whose map record is wrong
+ *   10     `first`: lowest file number at fault, 0 for the directory itself
+ *   11     the free word is not three times the free records; no place is named
+ *
+ * `image` is only read, until the call returns; no state is kept, and several threads may judge the
+ * same memory at the same time.
  */
 dheg_reply dheg_check(const uint8_t *image, size_t image_len);
 
 /*
  * Writes the directory entries of the files present into `out`, 64 bytes each, in slot order, as
- * they stand. `first` is the count of bytes; those behind them are left as they were. An entry has,
- * highest byte first: 0-3 the length of the file (64 more than its data), 14-15 the length of the
- * name, 16-51 the name, 52-55 the date.
+ * they stand. An entry has, highest byte first: 0-3 the length of the file (64 more than its data),
+ * 14-15 the length of the name, 16-51 the name, 52-55 the date.
  *
- * Judges 1, 8 to 11, then 16. An exact fit is enough; an empty list fits an empty buffer.
+ * Done: `first` is the count of bytes written; those behind them are left as they were. An exact fit
+ * is enough; an empty list fits an empty buffer. Refused: nothing is changed, and
+ *
+ *   1, 8 to 11   as dheg_check says
+ *   16           `first`: bytes needed; `out` has fewer
+ *
+ * `image` is only read. Both are used until the call returns; no state is kept, and other threads
+ * may call at the same time with another `out`, on the same `image` if none of them writes to it.
  */
 dheg_reply dheg_list(const uint8_t *image, size_t image_len, uint8_t *out, size_t out_len);
 
 /*
- * Writes the data of a file into `out`. `first` is the count of bytes; those behind them are left
- * as they were. The name has 1 to 36 bytes, of any value, and is compared byte by byte.
+ * Writes the data of a file into `out`. The name has 1 to 36 bytes, of any value, and is compared
+ * byte by byte.
  *
- * Judges 1, 8 to 11, then 12, 14, 16. An exact fit is enough; an empty file fits an empty buffer.
+ * Done: `first` is the count of bytes written; those behind them are left as they were. An exact fit
+ * is enough; an empty file fits an empty buffer. Refused: nothing is changed, and
+ *
+ *   1, 8 to 11   as dheg_check says
+ *   12           the name has not 1 to 36 bytes; no place is named
+ *   14           no file has the name; no place is named
+ *   16           `first`: bytes needed; `out` has fewer
+ *
+ * `image` and `name` are only read. All three are used until the call returns; no state is kept, and
+ * other threads may call at the same time with another `out`, on the same `image` if none of them
+ * writes to it.
  */
 dheg_reply dheg_read(const uint8_t *image, size_t image_len, const uint8_t *name, size_t name_len,
                      uint8_t *out, size_t out_len);
@@ -172,10 +221,18 @@ dheg_reply dheg_read(const uint8_t *image, size_t image_len, const uint8_t *name
 /*
  * Adds a file with this name, date and data to a disk. The file takes the lowest vacant slot and
  * the lowest free blocks, (64 + data_len) / 1536 rounded up, and a block more where the directory
- * grows.
+ * grows. The data may have any length.
  *
- * Judges 1, 8 to 11, then 12, 13, 15. Writes to `image`: map records, the slot, the blocks taken,
- * update count, free word and the directory's length.
+ * Done: map records, the slot, the blocks taken, update count, free word and the directory's length
+ * are written to `image`; the places are 0. Refused: nothing is changed, and
+ *
+ *   1, 8 to 11   as dheg_check says
+ *   12           the name has not 1 to 36 bytes; no place is named
+ *   13           `first`: slot of the file that has the name
+ *   15           too few blocks are free; no place is named
+ *
+ * `name` and `data` are only read. All three are used until the call returns; no state is kept, and
+ * other threads may call at the same time on other memory.
  */
 dheg_reply dheg_add(uint8_t *image, size_t image_len, const uint8_t *name, size_t name_len,
                     uint32_t date, const uint8_t *data, size_t data_len);
@@ -184,15 +241,31 @@ dheg_reply dheg_add(uint8_t *image, size_t image_len, const uint8_t *name, size_
  * Removes a file from a disk. Its blocks and its slot are filled with zero bytes, and its records
  * are free.
  *
- * Judges 1, 8 to 11, then 12, 14. Writes to `image`: map records, the slot, the file's blocks,
- * update count and free word.
+ * Done: map records, the slot, the file's blocks, update count and free word are written to `image`;
+ * the places are 0. Refused: nothing is changed, and
+ *
+ *   1, 8 to 11   as dheg_check says
+ *   12           the name has not 1 to 36 bytes; no place is named
+ *   14           no file has the name; no place is named
+ *
+ * `name` is only read. Both are used until the call returns; no state is kept, and other threads may
+ * call at the same time on other memory.
  */
 dheg_reply dheg_remove(uint8_t *image, size_t image_len, const uint8_t *name, size_t name_len);
 
 /*
- * Judges the first track of a block image, 9,216 bytes, and counts its blocks.
+ * Judges the first track of a block image, 9,216 bytes, and counts its blocks. The directory is not
+ * looked at.
  *
- * Judges 1, 8, 9 and 11; the directory is not looked at. Writes nothing.
+ * Done: the three counts are given; the places are 0. Refused: the counts are 0, and
+ *
+ *   1      `first`: 2 `track` has not 9,216 bytes
+ *   8      `first`: offset of the lowest wrong field of the disk header (34: directory's length)
+ *   9      `first`: lowest block whose map record is wrong
+ *   11     the free word is not three times the free records; no place is named
+ *
+ * `track` is only read, until the call returns; no state is kept, and several threads may judge the
+ * same memory at the same time.
  */
 dheg_first_track_result dheg_first_track(const uint8_t *track, size_t track_len);
 

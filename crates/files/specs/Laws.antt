@@ -6,7 +6,10 @@ pub mod Blocks
 pub mod Verdict
 pub mod Loops
 pub mod Loaded
+pub mod Tally
+pub mod Parts
 pub mod Slots
+pub mod Marks
 pub mod Sound
 pub mod Track
 pub mod Delivered
@@ -28,6 +31,7 @@ pub mod Left
 pub mod Zero
 pub mod Stored
 pub mod Steps
+pub mod Rows
 pub mod Given
 pub mod Changed
 pub mod Ends

@@ -1,8 +1,9 @@
 // Bytes and numbers of the disk in block order, read from the block image through the placement.
 ghost use mathlib.Core.Path.{_≡_};
-ghost use Prim.Native.Nat.{_<_, _^_};
+ghost use Prim.Native.Nat.{_+_, _%_, _<_, _≤_, _^_};
 ghost use Rattle.laws.specs.Numbers.{at16, at32};
 ghost use Rattle.files.specs.Disk.{byteOf, diskOf};
+ghost use Rattle.files.specs.Laws.Rows.{runPlace};
 use crate::sizes::BLOCK_BYTES;
 use sectors::BlockNumber;
 use sectors::Geometry;
@@ -15,6 +16,27 @@ pub fn byte_place(b: usize, o: usize) -> usize
     let sector = Geometry::running(BlockNumber(b), o / Geometry::SECTOR_BYTES);
     let at = Geometry::place(sector);
     at.0 * Geometry::SECTOR_BYTES + o % Geometry::SECTOR_BYTES
+}
+
+// Where offset o of block b stands in the image; its end, where there is no such block. The bytes after it stand
+// behind it to the sector's end.
+pub fn run_place(b: usize, o: usize) -> usize
+    requires { ⌜ o < 1536 ⌝ }
+    ensures { λ r. ⌜ r ≡ runPlace b o ⌝ }
+{
+    if b < Geometry::BLOCKS {
+        return byte_place(b, o);
+    }
+    Geometry::IMAGE_BYTES
+}
+
+// How many bytes from offset o of a block on stand in a row: to its sector's end, and n at most.
+pub fn run_length(o: usize, n: usize) -> usize
+    requires { ⌜ 0 < n ⌝ }
+    ensures { λ r. ⌜ (0 < r) × (r ≤ n) × (o % 512 + r ≤ 512) ⌝ }
+{
+    let room = Geometry::SECTOR_BYTES - o % Geometry::SECTOR_BYTES;
+    if room < n { room } else { n }
 }
 
 // Byte o of block b, 0 where there is none.

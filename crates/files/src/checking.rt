@@ -1,26 +1,22 @@
 // Whether the disk is sound: the judgements 8 to 11 that check, list, read, add and remove make first.
 ghost use mathlib.Core.Path.{_≡_};
-ghost use mathlib.Core.Bool.{not, _&&_};
-ghost use Prim.Native.Nat.{ℕ, _≤_, _<_, _^_};
-ghost use lib.Dec.{ltb, eqb};
-ghost use lib.ListN.{length, take};
-ghost use Rattle.laws.specs.Below.{all};
-ghost use Rattle.laws.specs.Count.{count};
+ghost use mathlib.Core.Bool.{true, _&&_};
+ghost use Prim.Native.Nat.{_≤_, _<_, _^_, min};
+ghost use lib.Dec.{ltb};
+ghost use lib.ListN.{length};
 ghost use Rattle.laws.specs.Numbers.{up};
 ghost use Rattle.files.specs.Disk.{diskOf};
-ghost use Rattle.files.specs.Map.{isPart, within};
-ghost use Rattle.files.specs.Directory.{nameEq, slotName, held, dirEnd};
+ghost use Rattle.files.specs.Directory.{held, dirEnd};
 ghost use Rattle.files.specs.Check.{entryRight, fileRight, fileFault, refusal9, refusal10, refusal11, judged};
 ghost use Rattle.files.specs.Calls as Calls;
 ghost use Rattle.files.specs.Laws.Verdict.{verdictOf};
-ghost use Rattle.files.specs.Laws.Loaded.{recordIn, Mapped};
+ghost use Rattle.files.specs.Laws.Loaded.{Mapped};
 ghost use Rattle.files.specs.Laws.Slots.{Located};
-ghost use Rattle.files.specs.Laws.Sound.{partsIn, unmarked, Bearer, Marked};
+ghost use Rattle.files.specs.Laws.Marks.{Named};
+ghost use Rattle.files.specs.Laws.Sound.{unmarked, Bearer, Marked};
 use crate::Record;
 use crate::Verdict;
-use crate::directory::dir_blocks;
 use crate::directory::held_slot;
-use crate::directory::held_so;
 use crate::directory::read_entry;
 use crate::directory::slot_place;
 use crate::header::dir_bytes;
@@ -28,10 +24,13 @@ use crate::header::dir_end;
 use crate::header::head_word;
 use crate::header::judge_header;
 use crate::map::free_count;
-use crate::map::is_part;
 use crate::map::load_map;
 use crate::map::map_fault;
 use crate::map::map_record;
+use crate::names::new_first;
+use crate::names::tally_names;
+use crate::parts::file_blocks;
+use crate::parts::parts_right;
 use crate::sizes::BLOCK_BYTES;
 use crate::sizes::NAME_MOST;
 use crate::sizes::SLOT_BYTES;
@@ -48,74 +47,6 @@ fn blocks_of(bytes: usize) -> usize
     ensures { λ r. ⌜ (r ≡ up bytes 1536) × (r < 2 ^ 33) ⌝ }
 {
     (bytes + (BLOCK_BYTES - 1)) / BLOCK_BYTES
-}
-
-// Whether a record, if it bears file f, has a sequence below n.
-fn is_within(r: Record, f: usize, n: usize) -> bool
-    ensures { λ a. ⌜ a ≡ within f n r ⌝ }
-{
-    match r {
-        Record::Free => true,
-        Record::System => true,
-        Record::File(g, t) => {
-            if g as usize == f {
-                (t as usize) < n
-            } else {
-                true
-            }
-        }
-        Record::Other => true,
-    }
-}
-
-fn all_within(map: &[u32; 480], f: usize, n: usize) -> bool
-    ensures { λ r. ⌜ r ≡ all (λ (b : ℕ). within f n (recordIn (now (map .entry)) b)) 480 ⌝ }
-{
-    for b in 0..Geometry::BLOCKS {
-        let m = map_record(map, BlockNumber(b));
-        let record = m.record;
-        if !is_within(record, f, n) {
-            return false;
-        }
-    }
-    true
-}
-
-// How many records are sequence s of file f.
-fn part_count(map: &[u32; 480], f: usize, s: usize) -> usize
-    ensures { λ r. ⌜ r ≡ count 480 (λ (b : ℕ). isPart f s (recordIn (now (map .entry)) b)) ⌝ }
-{
-    let mut n = 0;
-    for b in 0..Geometry::BLOCKS {
-        let m = map_record(map, BlockNumber(b));
-        let record = m.record;
-        if is_part(record, f, s) {
-            n += 1;
-        }
-    }
-    n
-}
-
-// Whether each sequence of file f below n stands once.
-fn parts_once(map: &[u32; 480], f: usize, n: usize) -> bool
-    ensures { λ r. ⌜ r ≡ all (λ (s : ℕ). eqb (count 480 (λ (b : ℕ). isPart f s (recordIn (now (map .entry)) b))) 1) n ⌝ }
-{
-    for s in 0..n {
-        if part_count(map, f, s) != 1 {
-            return false;
-        }
-    }
-    true
-}
-
-// Whether file f's sequences are 0 up to n less 1, each once.
-fn parts_right(map: &[u32; 480], f: usize, n: usize) -> bool
-    ensures { λ r. ⌜ r ≡ partsIn (now (map .entry)) f n ⌝ }
-{
-    if all_within(map, f, n) {
-        return parts_once(map, f, n);
-    }
-    false
 }
 
 // The file that a record bears; 4096, which is none, where it bears none.
@@ -160,30 +91,15 @@ fn is_unborne(marks: &[u8; 4097], f: usize) -> bool
     true
 }
 
-// Whether no slot below k is held and has this name.
-fn new_name(image: &[u8], dir: &[usize; 480], k: usize, name: &[u8]) -> bool
-    requires { ⌜ (length (now image) ≡ 737280) × (k < 11520) × Located (now dir) (diskOf (now image)) ⌝ }
-    ensures { λ r. ⌜ r ≡ all (λ (j : ℕ). not (held (diskOf (now (image .entry))) j && nameEq (slotName (diskOf (now (image .entry))) j) (now (name .entry)))) k ⌝ }
-{
-    for j in 0..k {
-        if held_so(image, dir, j, name) {
-            return false;
-        }
-    }
-    true
-}
-
-// The same for the first n bytes of a name.
-fn new_first(image: &[u8], dir: &[usize; 480], k: usize, name: &[u8], n: usize) -> bool
-    requires { ⌜ (length (now image) ≡ 737280) × (k < 11520) × Located (now dir) (diskOf (now image)) × (n ≤ length (now name)) ⌝ }
-    ensures { λ r. ⌜ r ≡ all (λ (j : ℕ). not (held (diskOf (now (image .entry))) j && nameEq (slotName (diskOf (now (image .entry))) j) (take n (now (name .entry))))) k ⌝ }
-{
-    new_name(image, dir, k, &name[0..n])
-}
-
 // Whether a held slot is sound: its length, its name, and its blocks.
-fn entry_right(image: &[u8], map: &[u32; 480], dir: &[usize; 480], k: usize) -> bool
-    requires { ⌜ (length (now image) ≡ 737280) × (k < 11520) × Located (now dir) (diskOf (now image)) × Mapped (now map) (diskOf (now image)) ⌝ }
+fn entry_right(
+    image: &[u8],
+    map: &[u32; 480],
+    dir: &[usize; 480],
+    names: &[u8; 16385],
+    k: usize,
+) -> bool
+    requires { ⌜ (length (now image) ≡ 737280) × (k < 11520) × Located (now dir) (diskOf (now image)) × Mapped (now map) (diskOf (now image)) × Named (now names) (diskOf (now image)) × ((ltb k (dirEnd (diskOf (now image))) && held (diskOf (now image)) k) ≡ true) ⌝ }
     ensures { λ r. ⌜ r ≡ entryRight (diskOf (now (image .entry))) k ⌝ }
 {
     let e = read_entry(image, slot_place(dir, k));
@@ -191,7 +107,7 @@ fn entry_right(image: &[u8], map: &[u32; 480], dir: &[usize; 480], k: usize) -> 
     let named = e.named as usize;
     let name = e.name;
     if (SLOT_BYTES <= length) & ((1 <= named) & (named <= NAME_MOST)) {
-        if new_first(image, dir, k, &name, named) {
+        if new_first(image, dir, names, k, &name, named) {
             return parts_right(map, k, blocks_of(length));
         }
     }
@@ -215,19 +131,27 @@ fn file_right(
     map: &[u32; 480],
     dir: &[usize; 480],
     marks: &[u8; 4097],
+    names: &[u8; 16385],
     end: usize,
     f: usize,
 ) -> bool
-    requires { ⌜ (length (now image) ≡ 737280) × (f < 11520) × Located (now dir) (diskOf (now image)) × Mapped (now map) (diskOf (now image)) × Marked (now marks) (now map) 480 × (end ≡ dirEnd (diskOf (now image))) ⌝ }
+    requires { ⌜ (length (now image) ≡ 737280) × (f < 11520) × Located (now dir) (diskOf (now image)) × Mapped (now map) (diskOf (now image)) × Marked (now marks) (now map) 480 × (end ≡ dirEnd (diskOf (now image))) × Named (now names) (diskOf (now image)) ⌝ }
     ensures { λ r. ⌜ r ≡ fileRight (diskOf (now (image .entry))) f ⌝ }
 {
     if f == 0 {
         return parts_right(map, 0, blocks_of(dir_bytes(image)));
     }
     if is_listed(image, dir, end, f) {
-        return entry_right(image, map, dir, f);
+        return entry_right(image, map, dir, names, f);
     }
     is_unborne(marks, f)
+}
+
+// The end of the slots that are judged: no directory has more than every block's.
+fn judged_end(end: usize) -> usize
+    ensures { λ r. ⌜ (r ≡ min end 11520) × (r ≤ 11520) ⌝ }
+{
+    if end < SLOT_COUNT { end } else { SLOT_COUNT }
 }
 
 // The lowest file that is not sound, or the number of slots. Map and directory are read once.
@@ -236,11 +160,12 @@ fn file_fault(image: &[u8]) -> usize
     ensures { λ r. ⌜ (r ≡ fileFault (diskOf (now (image .entry)))) × (r ≤ 11520) ⌝ }
 {
     let map = load_map(image);
-    let dir = dir_blocks(&map);
+    let dir = file_blocks(&map, 0);
     let marks = mark_files(&map);
     let end = dir_end(image);
+    let names = tally_names(image, &dir, judged_end(end));
     for f in 0..SLOT_COUNT {
-        if !file_right(image, &map, &dir, &marks, end, f) {
+        if !file_right(image, &map, &dir, &marks, &names, end, f) {
             return f;
         }
     }

@@ -9,34 +9,23 @@ ghost use Rattle.laws.specs.Tab.{tab, elementAt};
 ghost use Rattle.laws.specs.Numbers.{at16};
 ghost use Rattle.files.specs.Disk.{diskOf};
 ghost use Rattle.files.specs.Directory.{nameEq, entryOf, nameOf, slotName, held, dirEnd, findName, vacantSlot};
-ghost use Rattle.files.specs.Laws.Slots.{slotPlace, LocatedIn, Located};
+ghost use Rattle.files.specs.Laws.Slots.{slotPlace, Located};
 use crate::Entry;
 use crate::blocks::byte_place;
 use crate::header::dir_end;
 use crate::map::load_map;
-use crate::map::part_block;
+use crate::parts::file_blocks;
 use crate::sizes::BLOCK_SLOTS;
 use crate::sizes::NAME_MOST;
 use crate::sizes::SLOT_BYTES;
 use sectors::Geometry;
 
 // The directory's blocks in sequence; the number of blocks where there is none.
-pub fn dir_blocks(map: &[u32; 480]) -> [usize; 480]
-    ensures { λ r. ⌜ LocatedIn r (now (map .entry)) ⌝ }
-{
-    let mut dir = [0usize; 480];
-    for s in 0..Geometry::BLOCKS {
-        dir[s] = part_block(map, 0, s);
-    }
-    dir
-}
-
-// The same of an image.
 pub fn load_dir(image: &[u8]) -> [usize; 480]
     ensures { λ r. ⌜ Located r (diskOf (now (image .entry))) ⌝ }
 {
     let map = load_map(image);
-    dir_blocks(&map)
+    file_blocks(&map, 0)
 }
 
 // Where slot k stands in the image; its end, where the slot has no block. A slot lies in one sector.
@@ -100,7 +89,7 @@ pub fn read_entry(image: &[u8], at: usize) -> Entry
 }
 
 // How many bytes the name in the slot at a place has.
-fn name_length(image: &[u8], at: usize) -> usize
+pub fn name_length(image: &[u8], at: usize) -> usize
     requires { ⌜ at ≤ 737280 ⌝ }
     ensures { λ r. ⌜ r ≡ min (at16 (elementAt (now (image .entry)) at) 14) 36 ⌝ }
 {

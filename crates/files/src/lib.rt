@@ -7,6 +7,8 @@ mod formatting;
 mod header;
 mod listing;
 mod map;
+mod names;
+mod parts;
 mod reading;
 mod removing;
 mod sizes;

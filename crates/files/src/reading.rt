@@ -7,9 +7,10 @@ ghost use Rattle.files.specs.Disk.{diskOf};
 ghost use Rattle.files.specs.Map.{fileByte};
 ghost use Rattle.files.specs.Directory.{nameRight, slotEntry, dirEnd};
 ghost use Rattle.files.specs.Calls as Calls;
-ghost use Rattle.files.specs.Laws.Delivered.{readSound, runPlace};
+ghost use Rattle.files.specs.Laws.Delivered.{readSound};
 use crate::Verdict;
-use crate::blocks::byte_place;
+use crate::blocks::run_length;
+use crate::blocks::run_place;
 use crate::checking::judge;
 use crate::directory::find_name;
 use crate::directory::load_dir;
@@ -17,7 +18,8 @@ use crate::directory::read_entry;
 use crate::directory::slot_place;
 use crate::header::dir_end;
 use crate::map::load_map;
-use crate::map::part_block;
+use crate::parts::file_blocks;
+use crate::parts::nth_block;
 use crate::sizes::BLOCK_BYTES;
 use crate::sizes::NAME_MOST;
 use crate::sizes::SLOT_BYTES;
@@ -47,26 +49,6 @@ fn data_length(image: &[u8], k: usize) -> usize
     }
 }
 
-// How many bytes can be copied from offset o of a block on: to its sector's end, and n at most.
-fn run_length(o: usize, n: usize) -> usize
-    requires { ⌜ 0 < n ⌝ }
-    ensures { λ r. ⌜ (0 < r) × (r ≤ n) × (o % 512 + r ≤ 512) ⌝ }
-{
-    let room = Geometry::SECTOR_BYTES - o % Geometry::SECTOR_BYTES;
-    if room < n { room } else { n }
-}
-
-// Where offset o of block b stands in the image; its end, where there is no such block.
-fn run_place(b: usize, o: usize) -> usize
-    requires { ⌜ o < 1536 ⌝ }
-    ensures { λ r. ⌜ r ≡ runPlace b o ⌝ }
-{
-    if b < Geometry::BLOCKS {
-        return byte_place(b, o);
-    }
-    Geometry::IMAGE_BYTES
-}
-
 // Copies n bytes of block b from offset o on, which lie in one sector, to the place c of the buffer.
 fn copy_run(image: &[u8], b: usize, o: usize, n: usize, out: &mut [u8], c: usize)
     requires { ⌜ (length (now image) ≡ 737280) × (o < 1536) × (o % 512 + n ≤ 512) × (c + n ≤ length (now out)) ⌝ }
@@ -84,10 +66,11 @@ fn copy_data(image: &[u8], k: usize, n: usize, out: &mut [u8])
     ensures { λ _. ⌜ now (out .exit) ≡ overlay (now (out .entry)) 0 n (λ (i : ℕ). fileByte (diskOf (now (image .entry))) k (64 + i)) ⌝ }
 {
     let map = load_map(image);
+    let row = file_blocks(&map, k);
     let mut i = 0;
     while i < n {
         let at = SLOT_BYTES + i;
-        let b = part_block(&map, k, at / BLOCK_BYTES);
+        let b = nth_block(&map, &row, k, at / BLOCK_BYTES);
         let run = run_length(at % BLOCK_BYTES, n - i);
         copy_run(image, b, at % BLOCK_BYTES, run, out, i);
         i += run;

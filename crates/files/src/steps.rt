@@ -1,9 +1,9 @@
 // The single steps of format, add and remove on the block image.
 ghost use mathlib.Core.Path.{_≡_};
-ghost use Prim.Native.Nat.{_+_, _-_, _/_, _<_, _≤_, _^_};
+ghost use Prim.Native.Nat.{ℕ, _+_, _-_, _*_, _/_, _<_, _≤_, _^_};
 ghost use lib.ListN.{length};
 ghost use Rattle.laws.specs.Tab.{tab};
-ghost use Rattle.sectors.specs.Geometry.{blocks, imageBytes};
+ghost use Rattle.sectors.specs.Geometry.{sectorBytes, blockSectors, blocks, imageBytes};
 ghost use Rattle.files.specs.Sizes.{slotBytes, blockSlots};
 ghost use Rattle.files.specs.Disk.{diskOf, imageOf};
 ghost use Rattle.files.specs.Map.{encode, bears, partBlock};
@@ -12,6 +12,7 @@ ghost use Rattle.files.specs.Written.{part, zeros, setBlock, setRecord, 
 ghost use Rattle.files.specs.declared.Record.the-variants.{File};
 ghost use Rattle.files.specs.Laws.Given.{given, giveLowest};
 ghost use Rattle.files.specs.Laws.Steps.{Packs, storedRow};
+ghost use Rattle.files.specs.Laws.Stored.{patched};
 use crate::Entry;
 use crate::Record;
 use crate::blocks::block_word4;
@@ -28,9 +29,9 @@ use crate::sizes::MAP_START;
 use crate::sizes::RECORD_BYTES;
 use crate::sizes::SLOT_BYTES;
 use crate::store::put_bytes;
+use crate::store::put_run;
 use crate::store::put_word2;
 use crate::store::put_word4;
-use crate::store::set_byte;
 use crate::store::zero_bytes;
 use sectors::BlockNumber;
 use sectors::Geometry;
@@ -92,13 +93,47 @@ fn stored_byte(head: &[u8], content: &[u8], i: usize) -> u8
     fields::byte(content, i - SLOT_BYTES, 0)
 }
 
-// Block b becomes part s of a file.
+// The 512 bytes of a file from byte i on.
+fn stored_sector(head: &[u8], content: &[u8], i: usize) -> [u8; 512]
+    requires { ⌜ i < 2 ^ 32 ⌝ }
+    ensures { λ r. ⌜ r ≡ tab (λ (k : ℕ). storedRow (now (head .entry)) (now (content .entry)) (i + k)) sectorBytes ⌝ }
+{
+    let mut row = [0u8; 512];
+    for k in 0..Geometry::SECTOR_BYTES {
+        row[k] = stored_byte(head, content, i + k);
+    }
+    row
+}
+
+// Sector p of block b becomes the bytes of a file from byte i on: as they stand in its data where all of them lie there.
+fn put_sector(image: &mut [u8], b: usize, p: usize, i: usize, head: &[u8], content: &[u8])
+    requires { ⌜ (length (now image) ≡ imageBytes) × (p < blockSectors) × (i < 2 ^ 32) ⌝ }
+    ensures { λ _. ⌜ now (image .exit) ≡ imageOf (patched (diskOf (now (image .entry))) b (p * sectorBytes) sectorBytes (λ (k : ℕ). storedRow (now (head .entry)) (now (content .entry)) (i + k))) ⌝ }
+{
+    let end = i + Geometry::SECTOR_BYTES - SLOT_BYTES;
+    if (SLOT_BYTES <= i) & (end <= content.len()) {
+        let from = i - SLOT_BYTES;
+        put_run(image, b, p * Geometry::SECTOR_BYTES, &content[from..end]);
+        return;
+    }
+    let row = stored_sector(head, content, i);
+    put_run(image, b, p * Geometry::SECTOR_BYTES, &row);
+}
+
+// Block b becomes part s of a file, sector by sector.
 pub fn put_part(image: &mut [u8], b: usize, s: usize, head: &[u8], content: &[u8])
     requires { ⌜ (length (now image) ≡ imageBytes) × (s < 4096) ⌝ }
     ensures { λ _. ⌜ now (image .exit) ≡ imageOf (setBlock (diskOf (now (image .entry))) b (part (storedRow (now (head .entry)) (now (content .entry))) s)) ⌝ }
 {
-    for o in 0..BLOCK_BYTES {
-        set_byte(image, b, o, stored_byte(head, content, s * BLOCK_BYTES + o));
+    for p in 0..Geometry::BLOCK_SECTORS {
+        put_sector(
+            image,
+            b,
+            p,
+            s * BLOCK_BYTES + p * Geometry::SECTOR_BYTES,
+            head,
+            content,
+        );
     }
 }
 

@@ -1,48 +1,54 @@
-// Bytes written into the block image through the placement: single bytes, rows and numbers.
+// Bytes written into the block image through the placement: rows and numbers.
 ghost use mathlib.Core.Path.{_≡_};
-ghost use Prim.Native.Nat.{ℕ, _+_, _<_, _≤_};
+ghost use Prim.Native.Nat.{ℕ, _+_, _%_, _<_, _≤_};
 ghost use lib.ListN.{length, getD};
 ghost use Rattle.laws.specs.Words.{highByte};
-ghost use Rattle.sectors.specs.Geometry.{imageBytes};
+ghost use Rattle.sectors.specs.Geometry.{sectorBytes, imageBytes};
 ghost use Rattle.files.specs.Sizes.{blockBytes};
-ghost use Rattle.files.specs.Disk.{diskOf, imageOf, setByte};
+ghost use Rattle.files.specs.Disk.{diskOf, imageOf};
 ghost use Rattle.files.specs.Laws.Stored.{patched};
-use crate::blocks::byte_place;
-use crate::sizes::BLOCK_BYTES;
-use sectors::Geometry;
+use crate::blocks::run_length;
+use crate::blocks::run_place;
 
-// Byte o of block b becomes v; where there is no such byte, nothing is written.
-pub fn set_byte(image: &mut [u8], b: usize, o: usize, v: u8)
-    requires { ⌜ length (now image) ≡ imageBytes ⌝ }
-    ensures { λ _. ⌜ now (image .exit) ≡ imageOf (setByte (diskOf (now (image .entry))) b o v) ⌝ }
+// Writes src from offset o of block b on, which lies in one sector; nothing where there is no such block.
+pub fn put_run(image: &mut [u8], b: usize, o: usize, src: &[u8])
+    requires { ⌜ (length (now image) ≡ imageBytes) × (o < blockBytes) × (o % sectorBytes + length (now src) ≤ sectorBytes) ⌝ }
+    ensures { λ _. ⌜ now (image .exit) ≡ imageOf (patched (diskOf (now (image .entry))) b o (length (now (src .entry))) (λ (i : ℕ). getD (now (src .entry)) i 0)) ⌝ }
 {
-    if Geometry::BLOCKS <= b {
-        return;
-    }
-    if BLOCK_BYTES <= o {
-        return;
-    }
-    let at = byte_place(b, o);
-    image[at] = v;
+    fields::copy_into(image, run_place(b, o), src);
 }
 
-// The bytes of src are written from offset o of block b on.
+// The n bytes from offset o of block b on, which lie in one sector, become 0.
+fn zero_run(image: &mut [u8], b: usize, o: usize, n: usize)
+    requires { ⌜ (length (now image) ≡ imageBytes) × (o < blockBytes) × (o % sectorBytes + n ≤ sectorBytes) ⌝ }
+    ensures { λ _. ⌜ now (image .exit) ≡ imageOf (patched (diskOf (now (image .entry))) b o n (λ (i : ℕ). 0)) ⌝ }
+{
+    fields::fill(image, run_place(b, o), n, 0);
+}
+
+// The bytes of src are written from offset o of block b on, sector by sector.
 pub fn put_bytes(image: &mut [u8], b: usize, o: usize, src: &[u8])
     requires { ⌜ (length (now image) ≡ imageBytes) × (o + length (now src) ≤ blockBytes) ⌝ }
     ensures { λ _. ⌜ now (image .exit) ≡ imageOf (patched (diskOf (now (image .entry))) b o (length (now (src .entry))) (λ (i : ℕ). getD (now (src .entry)) i 0)) ⌝ }
 {
-    for i in 0..src.len() {
-        set_byte(image, b, o + i, src[i]);
+    let mut i = 0;
+    while i < src.len() {
+        let end = i + run_length(o + i, src.len() - i);
+        put_run(image, b, o + i, &src[i..end]);
+        i = end;
     }
 }
 
-// The n bytes from offset o of block b on become 0.
+// The n bytes from offset o of block b on become 0, sector by sector.
 pub fn zero_bytes(image: &mut [u8], b: usize, o: usize, n: usize)
     requires { ⌜ (length (now image) ≡ imageBytes) × (o + n ≤ blockBytes) ⌝ }
     ensures { λ _. ⌜ now (image .exit) ≡ imageOf (patched (diskOf (now (image .entry))) b o n (λ (i : ℕ). 0)) ⌝ }
 {
-    for i in 0..n {
-        set_byte(image, b, o + i, 0);
+    let mut i = 0;
+    while i < n {
+        let run = run_length(o + i, n - i);
+        zero_run(image, b, o + i, run);
+        i += run;
     }
 }
 

@@ -7,6 +7,7 @@ use Prim.Native.Nat.{ℕ, zero, suc, _+_, _*_}
 use lib.Dec.{leb, eqb}
 use lib.ListN.{length}
 use Rattle.laws.specs.Numbers.{at16}
+use Rattle.laws.specs.Tab.{tab}
 use Rattle.cells.specs.Stream.{from, dataByte, dataBytes}
 use Rattle.cells.specs.Sync.{threeSync}
 use Rattle.cells.specs.Crc.{crc}
@@ -104,9 +105,13 @@ sectorFound c Several = Repeated
 unfoldable pub sectorOf : List ℕ → ℕ → ℕ → ℕ → Sector
 sectorOf c t s r = sectorFound c (findSector c t s r)
 
+-- byte k of the sector whose bytes' cells begin at place p
+unfoldable pub sectorByte : List ℕ → ℕ → ℕ → ℕ
+sectorByte c p k = dataByte (from c p) (16 * k)
+
 -- its 512 bytes, where it is delivered
 unfoldable pub bytesOf : List ℕ → Sector → List ℕ
-bytesOf c (Delivered p) = dataBytes (from c p) 0 512
+bytesOf c (Delivered p) = tab (sectorByte c p) sectorBytes
 bytesOf c Missing = []
 bytesOf c Repeated = []
 bytesOf c Fieldless = []

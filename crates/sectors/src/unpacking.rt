@@ -4,10 +4,11 @@ ghost use Prim.Native.Nat.{ℕ, _+_, _*_, _<_, _≤_, _^_};
 ghost use lib.ListN.{length, getD};
 ghost use Rattle.laws.specs.Overlay.{overlay};
 ghost use Rattle.laws.specs.Tab.{tab};
-ghost use Rattle.cells.specs.Stream.{stream, from, dataByte};
+ghost use Rattle.cells.specs.Stream.{stream};
 ghost use Rattle.sectors.specs.Geometry.{imageBytes};
 ghost use Rattle.sectors.specs.Hfe.{tableFault};
 ghost use Rattle.sectors.specs.Replies.{reply};
+ghost use Rattle.sectors.specs.Search.{sectorByte};
 ghost use Rattle.sectors.specs.Unpacked.{trackOf, sideOf, rOf, isBad, sectorAt, sectorReply, sectorsReply, unpackedByte, unpackReply, unpackImage};
 ghost use Rattle.sectors.specs.Laws.Search.{Scanned};
 ghost use Rattle.sectors.specs.Laws.Unpacked.{placeOf, FoundJudged, SideJudged, AllJudged, SectorsUnpacked};
@@ -141,7 +142,7 @@ fn sector_reply(m: usize, sector: Sector) -> Reply
 // Writes the 512 bytes whose cells begin at place p into the image from `at` on.
 fn write_sector(part: &[u8], side: Side, p: usize, image: &mut [u8], at: usize)
     requires { ⌜ at + 512 ≤ length (now image) ⌝ }
-    ensures { λ _. ⌜ now (image .exit) ≡ overlay (now (image .entry)) at 512 (λ (k : ℕ). dataByte (from (stream (now (part .entry)) side) p) (16 * k)) ⌝ }
+    ensures { λ _. ⌜ now (image .exit) ≡ overlay (now (image .entry)) at 512 (sectorByte (stream (now (part .entry)) side) p) ⌝ }
 {
     for k in 0..Geometry::SECTOR_BYTES {
         image[at + k] = cells::data_byte(part, side, p, 16 * k);

@@ -1,5 +1,5 @@
 //! Calls on full disks: one of 459 files of one block each, and one whose
-//! only file has 734,144 bytes.
+//! only file has 734,144 bytes. Files are read, added and removed as the last.
 
 use crate::measure::{Row, Runs};
 use dhegluubin::{raw, ENTRY_LEN, IMAGE_LEN};
@@ -14,126 +14,117 @@ const LONGEST: usize = 734_144;
 
 const LIMIT: Duration = Duration::from_millis(20);
 
-fn name(index: usize) -> Vec<u8> {
-    format!("file {index} of a full disk").into_bytes()
+/// A full disk.
+struct Full {
+    about: &'static str,
+    files: usize,
+    /// Name and data of the last file.
+    name: Vec<u8>,
+    data: Vec<u8>,
+    /// The disk before that was added.
+    before: Vec<u8>,
+    image: Vec<u8>,
 }
 
-fn fresh() -> Vec<u8> {
-    let mut image = vec![0; IMAGE_LEN];
-    assert_eq!(reference::format(&mut image, b"BENCH", 1).number, 0);
-    image
-}
-
-fn with_files(count: usize) -> Vec<u8> {
-    let mut image = fresh();
-    for index in 0..count {
-        let data = noise(index as u32, 1472);
-        let reply = reference::add(&mut image, &name(index), 1, &data);
-        assert_eq!(reply.number, 0);
+impl Full {
+    /// A disk with so many files of this length.
+    fn new(about: &'static str, files: usize, length: usize) -> Full {
+        let mut before = Vec::new();
+        let mut image = vec![0; IMAGE_LEN];
+        assert_eq!(reference::format(&mut image, b"BENCH", 1).number, 0);
+        let (mut name, mut data) = (Vec::new(), Vec::new());
+        for index in 0..files {
+            before.clone_from(&image);
+            name = format!("file {index} of a full disk").into_bytes();
+            data = noise(index as u32, length);
+            assert_eq!(reference::add(&mut image, &name, 1, &data).number, 0);
+        }
+        Full {
+            about,
+            files,
+            name,
+            data,
+            before,
+            image,
+        }
     }
-    image
+
+    fn called(&self, call: &str) -> String {
+        format!("{call}, {}", self.about)
+    }
+
+    fn reading(&self, runs: Runs) -> Vec<Row> {
+        let Full { name, image, .. } = self;
+        vec![
+            Row::measured(
+                runs,
+                &self.called("check"),
+                LIMIT,
+                &(),
+                |_| raw::check(image).number == 0,
+                |_| reference::check(image).number == 0,
+            ),
+            Row::measured(
+                runs,
+                &self.called("list"),
+                LIMIT,
+                &vec![0x55; ENTRY_LEN * self.files],
+                |lent| raw::list(image, lent).number == 0,
+                |lent| reference::list(image, lent).number == 0,
+            ),
+            Row::measured(
+                runs,
+                &self.called("read"),
+                LIMIT,
+                &vec![0x55; self.data.len()],
+                |lent| raw::read(image, name, lent).number == 0,
+                |lent| reference::read(image, name, lent).number == 0,
+            ),
+        ]
+    }
+
+    fn changing(&self, runs: Runs) -> Vec<Row> {
+        let Full { name, data, .. } = self;
+        vec![
+            Row::measured(
+                runs,
+                &self.called("add"),
+                LIMIT,
+                &self.before,
+                |lent| raw::add(lent, name, 1, data).number == 0,
+                |lent| reference::add(lent, name, 1, data).number == 0,
+            ),
+            Row::measured(
+                runs,
+                &self.called("remove"),
+                LIMIT,
+                &self.image,
+                |lent| raw::remove(lent, name).number == 0,
+                |lent| reference::remove(lent, name).number == 0,
+            ),
+        ]
+    }
+}
+
+fn format(runs: Runs) -> Row {
+    Row::measured(
+        runs,
+        "format",
+        LIMIT,
+        &vec![0x55; IMAGE_LEN],
+        |lent| raw::format(lent, b"BENCH", 1).number == 0,
+        |lent| reference::format(lent, b"BENCH", 1).number == 0,
+    )
 }
 
 pub fn rows(runs: Runs) -> Vec<Row> {
-    let mut rows = many_files(runs);
-    rows.extend(one_file(runs));
+    let mut rows = vec![format(runs)];
+    for disk in [
+        Full::new("459 files", FILES, 1472),
+        Full::new("one long file", 1, LONGEST),
+    ] {
+        rows.extend(disk.reading(runs));
+        rows.extend(disk.changing(runs));
+    }
     rows
-}
-
-fn many_files(runs: Runs) -> Vec<Row> {
-    let room_for_one = with_files(FILES - 1);
-    let full = with_files(FILES);
-    let last = name(FILES - 1);
-    let data = noise(1, 1472);
-    vec![
-        Row::measured(
-            runs,
-            "format",
-            LIMIT,
-            &vec![0x55; IMAGE_LEN],
-            |lent| raw::format(lent, b"BENCH", 1).number == 0,
-            |lent| reference::format(lent, b"BENCH", 1).number == 0,
-        ),
-        Row::measured(
-            runs,
-            "check, 459 files",
-            LIMIT,
-            &(),
-            |_| raw::check(&full).number == 0,
-            |_| reference::check(&full).number == 0,
-        ),
-        Row::measured(
-            runs,
-            "list, 459 files",
-            LIMIT,
-            &vec![0x55; ENTRY_LEN * FILES],
-            |lent| raw::list(&full, lent).number == 0,
-            |lent| reference::list(&full, lent).number == 0,
-        ),
-        Row::measured(
-            runs,
-            "read, last of 459 files",
-            LIMIT,
-            &vec![0x55; data.len()],
-            |lent| raw::read(&full, &last, lent).number == 0,
-            |lent| reference::read(&full, &last, lent).number == 0,
-        ),
-        Row::measured(
-            runs,
-            "add, last of 459 files",
-            LIMIT,
-            &room_for_one,
-            |lent| raw::add(lent, &last, 1, &data).number == 0,
-            |lent| reference::add(lent, &last, 1, &data).number == 0,
-        ),
-        Row::measured(
-            runs,
-            "remove, last of 459 files",
-            LIMIT,
-            &full,
-            |lent| raw::remove(lent, &last).number == 0,
-            |lent| reference::remove(lent, &last).number == 0,
-        ),
-    ]
-}
-
-fn one_file(runs: Runs) -> Vec<Row> {
-    let empty = fresh();
-    let data = noise(2, LONGEST);
-    let mut full = fresh();
-    assert_eq!(reference::add(&mut full, b"all", 1, &data).number, 0);
-    vec![
-        Row::measured(
-            runs,
-            "check, one long file",
-            LIMIT,
-            &(),
-            |_| raw::check(&full).number == 0,
-            |_| reference::check(&full).number == 0,
-        ),
-        Row::measured(
-            runs,
-            "read, one long file",
-            LIMIT,
-            &vec![0x55; LONGEST],
-            |lent| raw::read(&full, b"all", lent).number == 0,
-            |lent| reference::read(&full, b"all", lent).number == 0,
-        ),
-        Row::measured(
-            runs,
-            "add, one long file",
-            LIMIT,
-            &empty,
-            |lent| raw::add(lent, b"all", 1, &data).number == 0,
-            |lent| reference::add(lent, b"all", 1, &data).number == 0,
-        ),
-        Row::measured(
-            runs,
-            "remove, one long file",
-            LIMIT,
-            &full,
-            |lent| raw::remove(lent, b"all").number == 0,
-            |lent| reference::remove(lent, b"all").number == 0,
-        ),
-    ]
 }

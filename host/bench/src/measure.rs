@@ -10,7 +10,7 @@ pub struct Runs(pub usize);
 
 /// The times of one call.
 pub struct Row {
-    name: &'static str,
+    name: String,
     library: Duration,
     reference: Duration,
     limit: Duration,
@@ -24,7 +24,7 @@ call                          library ms  reference ms  library / reference  lim
     /// A call tells whether it was done.
     pub fn measured<L: Clone>(
         runs: Runs,
-        name: &'static str,
+        name: &str,
         limit: Duration,
         lent: &L,
         library: impl Fn(&mut L) -> bool,
@@ -37,7 +37,7 @@ call                          library ms  reference ms  library / reference  lim
             reference_times.push(time(name, lent, &reference));
         }
         Row {
-            name,
+            name: name.to_string(),
             library: median(library_times),
             reference: median(reference_times),
             limit,

@@ -1,7 +1,8 @@
 //! Files on a block image.
 
 use crate::ffi;
-use crate::reply::{FirstTrack, Refusal};
+use crate::refusal::Refusal;
+use crate::reply::FirstTrack;
 
 /// Bytes of the first track of a block image.
 pub const FIRST_TRACK_LEN: usize = 9_216;

@@ -3,7 +3,7 @@
 //!
 //! - [`unpack`] reads an HFE image of version 1 into a block image, and
 //!   [`pack`] writes one.
-//! - [`format`], [`check`], [`list`], [`read`], [`add`] and [`remove`] work on
+//! - [`format()`], [`check`], [`list`], [`read`], [`add`] and [`remove`] work on
 //!   a block image and the files in it.
 //! - [`first_track`] judges the first track alone, and [`place`] tells where a
 //!   sector of a block stands in a block image.
@@ -47,14 +47,21 @@
 #[allow(unsafe_code)]
 mod ffi;
 mod files;
+mod refusal;
 mod reply;
 mod sectors;
+
+/// The readme's example is tested with those of this documentation.
+#[cfg(doctest)]
+#[doc = include_str!("../../../README.md")]
+struct Readme;
 
 pub use files::{
     add, check, first_track, format, list, read, remove, DISK_NAME_LEN, ENTRY_LEN, FILE_NAME_LEN,
     FIRST_TRACK_LEN,
 };
-pub use reply::{FirstTrack, Lent, Refusal, Reply};
+pub use refusal::Refusal;
+pub use reply::{FirstTrack, Lent, Reply};
 pub use sectors::{pack, place, unpack, HFE_LEN, IMAGE_LEN, SHORTEST_HFE_LEN};
 
 /// The same calls with the answer as the library gives it, a number and three

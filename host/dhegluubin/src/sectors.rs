@@ -1,7 +1,7 @@
 //! HFE images and the placement of blocks.
 
 use crate::ffi;
-use crate::reply::Refusal;
+use crate::refusal::Refusal;
 
 /// Bytes of a block image: 80 tracks, 2 sides, 9 sectors of 512 bytes.
 pub const IMAGE_LEN: usize = 737_280;

@@ -1,11 +1,22 @@
-//! A C program that calls every function through the header.
+//! C programs that are compiled against the header and run.
 
+use dhegluubin::{add, format, pack, remove, unpack, HFE_LEN, IMAGE_LEN};
+use std::fs::File;
 use std::path::{Path, PathBuf};
-use std::process::Command;
+use std::process::{Command, Output};
+use support::fenced::fenced;
+use support::noise::noise;
+
+const README: &str = include_str!("../../../README.md");
 
 /// The repository's main folder.
 fn main_folder() -> PathBuf {
     Path::new(env!("CARGO_MANIFEST_DIR")).join("../..")
+}
+
+/// A place for what a test writes.
+fn temporary(name: &str) -> PathBuf {
+    Path::new(env!("CARGO_TARGET_TMPDIR")).join(name)
 }
 
 /// The first C compiler that answers.
@@ -16,13 +27,13 @@ fn compiler() -> &'static str {
     found.expect("no C compiler found: this test needs gcc or cc")
 }
 
-#[test]
-fn every_call() {
-    let program = Path::new(env!("CARGO_TARGET_TMPDIR")).join("every_call");
+/// Compiles and links a program, to which a warning is a failure.
+fn compiled(source: &Path, name: &str) -> PathBuf {
+    let program = temporary(name);
     let compiled = Command::new(compiler())
         .args(["-std=c99", "-pedantic", "-Wall", "-Wextra", "-Werror", "-I"])
         .arg(main_folder().join("include"))
-        .arg(Path::new(env!("CARGO_MANIFEST_DIR")).join("tests/c/every_call.c"))
+        .arg(source)
         .arg(main_folder().join("target/staticlib/libbridge.a"))
         .arg("-o")
         .arg(&program)
@@ -30,9 +41,55 @@ fn every_call() {
         .expect("the C compiler runs");
     let messages = String::from_utf8_lossy(&compiled.stderr);
     assert!(compiled.status.success(), "not compiled:\n{messages}");
+    program
+}
 
+#[test]
+fn every_call() {
+    let source = Path::new(env!("CARGO_MANIFEST_DIR")).join("tests/c/every_call.c");
+    let program = compiled(&source, "every_call");
     let run = Command::new(&program).output().expect("the program runs");
     let text = String::from_utf8_lossy(&run.stdout);
     assert!(run.status.success(), "{}:\n{text}", run.status);
     assert!(text.ends_with(" checks, 0 failed\n"), "{text}");
+}
+
+/// Runs the readme's example on these bytes.
+fn example(program: &Path, input: &[u8]) -> Output {
+    let file = temporary("readme_input");
+    std::fs::write(&file, input).expect("the input is written");
+    let file = File::open(file).expect("the input is there");
+    let run = Command::new(program).stdin(file).output();
+    run.expect("the program runs")
+}
+
+#[test]
+fn readme_example() {
+    let source = temporary("readme.c");
+    std::fs::write(&source, fenced(README, "c")).expect("the source is written");
+    let program = compiled(&source, "readme");
+
+    let mut image = vec![0; IMAGE_LEN];
+    format(&mut image, b"STAGE", 7).unwrap();
+    add(&mut image, b"boot", 1, &noise(1, 3000)).unwrap();
+    add(&mut image, b"cue_7", 1, &noise(2, 20_000)).unwrap();
+    let mut hfe = vec![0; HFE_LEN];
+    pack(&image, &mut hfe).unwrap();
+    let done = example(&program, &hfe);
+    assert!(done.status.success(), "{}", done.status);
+    let mut back = vec![0; IMAGE_LEN];
+    unpack(&done.stdout, &mut back).unwrap();
+    remove(&mut image, b"cue_7").unwrap();
+    assert!(back == image, "another disk");
+
+    for (input, words) in [
+        (&done.stdout[..], "refused 14: 0, 0, 0\n"),
+        (&hfe[..3000], "refused 3: 0, 0, 0\n"),
+        (b"", "refused 1: 1, 0, 0\n"),
+    ] {
+        let refused = example(&program, input);
+        assert_eq!(refused.status.code(), Some(1));
+        assert_eq!(String::from_utf8_lossy(&refused.stderr), words);
+        assert!(refused.stdout.is_empty());
+    }
 }

@@ -1,4 +1,6 @@
 //! Result buffers, lent to `list` and `read`.
+//!
+//! Rules: document 01, "Numbered replies", 16 and the last sentence.
 
 use crate::reply::{Refusal, Reply};
 

@@ -1,4 +1,6 @@
 //! The call `check`.
+//!
+//! Rules: document 01, "Numbered replies", the paragraph after the table.
 
 use crate::reply::Reply;
 use crate::volume::Volume;

@@ -1,4 +1,6 @@
 //! The call `read`.
+//!
+//! Rules: document 01, "Numbered replies", the paragraph after the table.
 
 use crate::buffer::give;
 use crate::layout::entry::{Entry, SLOT_LEN};

@@ -1,10 +1,12 @@
 //! What the tests need beside the disk rules, with the standard library
-//! only: JSON, SHA-256, gzip, and bytes made from a seed.
+//! only: JSON, SHA-256, gzip, blocks of Markdown, and bytes made from a seed.
 
 #![forbid(unsafe_code)]
 #![warn(missing_docs)]
 
 mod bits;
+pub mod cases;
+pub mod fenced;
 pub mod gzip;
 pub mod hex;
 mod huffman;

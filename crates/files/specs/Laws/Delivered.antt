@@ -13,24 +13,22 @@ use lib.Dec.{leb, ltb, eqb}
 use lib.ListN.{length, getD, length-append, List·getD-append}
 use lib.Seq.{getD-append-add}
 use Rattle.laws.specs.Count.{count, count-yes, count-no}
-use Rattle.laws.specs.Order.{by-order}
 use Rattle.laws.specs.Overlay.{overlay, put, overlay-none, overlay-next, overlay-cong, overlay-length, put-tab}
-use Rattle.laws.specs.Tab.{tab, tab-length, elementAt, getD-past}
+use Rattle.laws.specs.Tab.{tab, tab-length, elementAt}
 use Rattle.laws.specs.Tests.{by-equal, lt-true, lt-false, le-true, le-false, eq-true, eq-false, cond-true, cond-false}
 use Rattle.laws.specs.Truth.{by-test}
 use Rattle.sectors.specs.declared.Reply.{Reply}
 use Rattle.sectors.specs.Replies.{reply, refusal}
-use Rattle.sectors.specs.Geometry.{sectorBytes, blocks, imageBytes}
+use Rattle.sectors.specs.Geometry.{sectorBytes, imageBytes}
 use Rattle.files.specs.declared.Verdict.{Verdict}
 use Rattle.files.specs.declared.Verdict.the-variants.{Passed, Refused}
 use Rattle.files.specs.Sizes.{blockBytes, slotBytes, slotCount}
-use Rattle.files.specs.Disk.{Disk, byteOf, diskOf}
+use Rattle.files.specs.Disk.{Disk, diskOf}
 use Rattle.files.specs.Map.{partBlock, fileByte}
 use Rattle.files.specs.Directory.{nameRight, slotByte, slotEntry, held, dirEnd, findName}
 use Rattle.files.specs.Check.{judged}
 use Rattle.files.specs.Calls.{Outcome, kept, unless, imageRight, wrongLength, deliver, entries, listDisk, list, dataOf, readDisk, read}
-use Rattle.files.specs.Laws.Blocks.{disk-in, disk-far}
-use Rattle.files.specs.Laws.Slots.{Located, slotPlace, slot-row, byte-along}
+use Rattle.files.specs.Laws.Slots.{Located, slotPlace, slot-row}
 use Rattle.files.specs.Laws.Verdict.{verdictOf, verdict-some, verdict-none}
 
 -- ---- put, one list after the other
@@ -127,24 +125,6 @@ module _ (bytes buf : List ℕ) (n : ℕ) (e : n ≡ length bytes) where
   misses-buffer h = ap (λ (o : Outcome). o .buffer) (sym (misses h))
 
 -- ---- a file's bytes
-
--- where offset o of block b stands in the image; its end, where there is no such block
-unfoldable pub runPlace : ℕ → ℕ → ℕ
-runPlace b o = cond (ltb b blocks) (byteOf b o) imageBytes
-
-pub run-byte : (image : List ℕ) (b o j : ℕ) → length image ≡ imageBytes → o < blockBytes → o % sectorBytes + j < sectorBytes
-    → elementAt image (runPlace b o) j ≡ diskOf image b (o + j)
-unfolding runPlace elementAt
-run-byte image b o j long ho hj =
-    by-order b blocks
-    (λ h.
-    ap (λ (x : ℕ). getD image (x + j) 0) (cond-true (byteOf b o) imageBytes (lt-true h))
-    ∙ ap (λ (x : ℕ). getD image x 0) (sym (byte-along b o j hj))
-    ∙ sym (disk-in image b (o + j) h (omega arith)))
-    (λ h.
-    ap (λ (x : ℕ). getD image (x + j) 0) (cond-false (byteOf b o) imageBytes (lt-false h))
-    ∙ getD-past image (imageBytes + j) (omega arith)
-    ∙ sym (disk-far image b (o + j) h))
 
 pub file-run : (d : Disk) (k i j b : ℕ) → b ≡ partBlock d k ((slotBytes + i) / blockBytes) → (slotBytes + i) % blockBytes % sectorBytes + j < sectorBytes
     → d b ((slotBytes + i) % blockBytes + j) ≡ fileByte d k (slotBytes + (i + j))

@@ -1,9 +1,11 @@
 -- Laws for loops that count or judge, one turn each.
 -- Assumes nothing.
-use mathlib.Core.Path.{_≡_, sym, ap, _∙_}
-use mathlib.Core.Bool.{Bool, true, false}
-use Prim.Native.Nat.{ℕ, suc, _+_}
+use mathlib.Core.Path.{_≡_, refl, sym, ap, ap₂, _∙_}
+use mathlib.Core.Bool.{Bool, true, false, _&&_}
+use Prim.Native.Nat.{ℕ, zero, suc, _+_, _<_}
 use native.Mathlib.Numerals.{add-one}
+use native.Mathlib.Omega.{arith}
+use Rattle.laws.specs.Below.{all}
 use Rattle.laws.specs.Count.{count, count-yes, count-no}
 
 module _ (p : ℕ → Bool) (k c : ℕ) (e : c ≡ count k p) where
@@ -12,3 +14,8 @@ module _ (p : ℕ → Bool) (k c : ℕ) (e : c ≡ count k p) where
 
   pub counted-no : p k ≡ false → c ≡ count (k + 1) p
   counted-no t = e ∙ sym (count-no k p t) ∙ ap (λ (n : ℕ). count n p) (sym (add-one k))
+
+pub all-cong : (p q : ℕ → Bool) (n : ℕ) → ((i : ℕ) → i < n → p i ≡ q i) → all p n ≡ all q n
+unfolding all
+all-cong p q zero e = refl
+all-cong p q (suc n) e = ap₂ (λ (x y : Bool). x && y) (e n (omega arith)) (all-cong p q n (λ i h. e i (omega arith)))

@@ -3,41 +3,38 @@
 use mathlib.Core.Path.{_≡_, refl, sym, ap, ap₂, _∙_}
 use mathlib.Core.Bool.{Bool, true, false, not, cond, _&&_}
 use mathlib.Core.List.{List}
-use Prim.Native.Nat.{ℕ, zero, suc, _+_, _*_, _/_, _%_, _≤_, _<_, min}
-use native.Mathlib.Nat.{add-zero, zero-add, add-assoc}
+use Prim.Native.Nat.{ℕ, _+_, _*_, _/_, _%_, _≤_, _<_, min}
+use native.Mathlib.Nat.{add-zero, add-assoc}
 use native.Mathlib.Omega.{arith}
 use lib.Dec.{ltb, eqb}
-use lib.ListN.{length, getD, set, take, length-set}
+use lib.ListN.{length, getD, set}
 use lib.Seq.{getD-set-same, getD-set-other, take-all}
-use Rattle.laws.specs.Below.{all, all-at, all-is}
-use Rattle.laws.specs.Lowest.{lowest, lowest-some, lowest-none}
+use Rattle.laws.specs.Below.{all}
+use Rattle.laws.specs.Lowest.{lowest-some, lowest-none}
 use Rattle.laws.specs.Numbers.{at16, at32}
 use Rattle.laws.specs.Order.{by-order}
-use Rattle.laws.specs.Same.{same, same-eq, eq-same, ne-same}
-use Rattle.laws.specs.Search.{take-tab, all-false}
+use Rattle.laws.specs.Same.{eq-same, ne-same}
+use Rattle.laws.specs.Search.{take-tab}
 use Rattle.laws.specs.Tab.{tab, tab-length, tab-in, tab-ext, eq-tab, elementAt, getD-past}
-use Rattle.laws.specs.Tests.{by-equal, lt-true, lt-false, cond-true, cond-false, and-true, and-false-left, and-false-right, true≢false}
-use Rattle.laws.specs.Truth.{by-test}
+use Rattle.laws.specs.Tests.{by-equal, lt-true, lt-false, cond-true, cond-false, and-false-right}
 use Rattle.laws.specs.Words.{bigEndian, highFirst, high-row}
-use Rattle.sectors.specs.Geometry.{sectorBytes, blockSectors, blocks, imageBytes, running, imageSector}
+use Rattle.sectors.specs.Geometry.{sectorBytes, blocks, imageBytes, running, imageSector}
 use Rattle.files.specs.declared.Entry.{Entry}
-use Rattle.files.specs.Sizes.{blockBytes, slotBytes, blockSlots, slotCount, nameMost}
+use Rattle.files.specs.Sizes.{slotBytes, blockSlots, slotCount, nameMost}
 use Rattle.files.specs.Disk.{Disk, byteOf, diskOf}
-use Rattle.files.specs.Map.{isPart, partBlock}
+use Rattle.files.specs.Map.{partBlock}
 use Rattle.files.specs.Directory.{nameEq, entryOf, nameOf, slotByte, slotEntry, slotName, held, dirEnd, findName, vacantSlot}
 use Rattle.files.specs.Laws.Blocks.{disk-in, disk-far}
-use Rattle.files.specs.Laws.Loaded.{recordIn, Mapped, part-mapped}
+use Rattle.files.specs.Laws.Loaded.{Mapped, part-mapped}
+use Rattle.files.specs.Laws.Loops.{all-cong}
+use Rattle.files.specs.Laws.Parts.{PartsAt}
 
--- the directory's blocks, by a loaded map and by the disk
-pub record LocatedIn (dir map : List ℕ) : Type 0 where
-  pub long : length dir ≡ blocks
-  pub parts : (s : ℕ) → s < blocks → getD dir s 0 ≡ lowest (λ (b : ℕ). isPart 0 s (recordIn map b)) blocks
-
+-- the directory's blocks in sequence
 pub record Located (dir : List ℕ) (d : Disk) : Type 0 where
   pub long : length dir ≡ blocks
   pub parts : (s : ℕ) → s < blocks → getD dir s 0 ≡ partBlock d 0 s
 
-pub located : (dir map : List ℕ) (d : Disk) → Mapped map d → LocatedIn dir map → Located dir d
+pub located : (dir map : List ℕ) (d : Disk) → Mapped map d → PartsAt dir map 0 → Located dir d
 located dir map d m l = record { long = l .long; parts = λ s h. l .parts s h ∙ part-mapped map d m 0 s }
 
 -- where slot k stands in the image; its end, where the slot has no block
@@ -92,11 +89,6 @@ module _ (image dir : List ℕ) (k : ℕ) (long : length image ≡ imageBytes) (
       ∙ by-order block blocks (λ q. inside i h q) (λ q. outside i q)
 
 -- ---- what is read of a slot is read of its row
-
-pub all-cong : (p q : ℕ → Bool) (n : ℕ) → ((i : ℕ) → i < n → p i ≡ q i) → all p n ≡ all q n
-unfolding all
-all-cong p q zero e = refl
-all-cong p q (suc n) e = ap₂ (λ (x y : Bool). x && y) (e n (omega arith)) (all-cong p q n (λ i h. e i (omega arith)))
 
 pub entry-cong : (f g : ℕ → ℕ) → ((i : ℕ) → i < slotBytes → f i ≡ g i) → entryOf f ≡ entryOf g
 unfolding entryOf at16 at32 bigEndian

@@ -5,19 +5,19 @@ use mathlib.Core.Bool.{Bool, true, false, not, cond, _&&_}
 use mathlib.Core.List.{List}
 use mathlib.Core.Logic.{_≢_}
 use mathlib.Core.Option.{Option, none, some}
-use Prim.Native.Nat.{ℕ, zero, suc, _+_, _*_, _/_, _%_, _≤_, _<_}
+use Prim.Native.Nat.{ℕ, _+_, _*_, _/_, _%_, _≤_, _<_}
 use native.Mathlib.Numerals.{add-one}
 use native.Mathlib.Omega.{arith}
 use lib.Dec.{leb, ltb, eqb}
 use lib.ListN.{length, getD, set, take, replicate, length-set, length-replicate, getD-replicate}
 use lib.Seq.{getD-set-same, getD-set-other}
-use Rattle.laws.specs.Below.{all, all-at, all-is}
+use Rattle.laws.specs.Below.{all, all-is}
 use Rattle.laws.specs.Count.{count, count-cong}
 use Rattle.laws.specs.Lowest.{lowest-some, lowest-none}
 use Rattle.laws.specs.Numbers.{up, at16}
 use Rattle.laws.specs.Order.{by-order}
-use Rattle.laws.specs.Tests.{by-equal, true-le, lt-true, lt-false, eq-true, eq-false, true-eq, cond-true, cond-false, and-true, and-false-left, and-false-right, true≢false}
-use Rattle.laws.specs.Tab.{tab, tab-length}
+use Rattle.laws.specs.Tests.{by-equal, true-le, lt-true, lt-false, eq-true, eq-false, cond-true, cond-false, and-false-left, and-false-right}
+use Rattle.laws.specs.Tab.{tab-length}
 use Rattle.laws.specs.Truth.{by-test, and-right}
 use Rattle.sectors.specs.declared.Fault.{Fault}
 use Rattle.sectors.specs.declared.Fault.the-variants.{At, Sound}
@@ -37,15 +37,11 @@ use Rattle.files.specs.Map.{freeCount, recordAt, bears, isPart, within}
 use Rattle.files.specs.Directory.{nameEq, nameOf, entryOf, slotEntry, slotName, held, dirBytes, dirEnd}
 use Rattle.files.specs.Check.{partsRight, unborne, newName, entryRight, fileRight, fileFault, freeRight, mapFault, refusal8, refusal9, refusal10, refusal11, judged}
 use Rattle.files.specs.Laws.Loaded.{recordOf, recordIn, Mapped}
-use Rattle.files.specs.Laws.Slots.{all-cong}
+use Rattle.files.specs.Laws.Parts.{partsIn}
+use Rattle.files.specs.Laws.Loops.{all-cong}
 use Rattle.files.specs.Laws.Verdict.{verdictOf, verdict-or-some, verdict-or-none, verdict-some, verdict-none}
 
 -- ---- a file's parts
-
-unfoldable pub partsIn : List ℕ → ℕ → ℕ → Bool
-partsIn map f n =
-    all (λ (b : ℕ). within f n (recordIn map b)) blocks
-    && all (λ (s : ℕ). eqb (count blocks (λ (b : ℕ). isPart f s (recordIn map b))) 1) n
 
 unfoldable pub unborneIn : List ℕ → ℕ → Bool
 unborneIn map f = all (λ (b : ℕ). not (bears f (recordIn map b))) blocks
@@ -68,15 +64,6 @@ module _ (map : List ℕ) (d : Disk) (m : Mapped map d) where
   unborne-mapped f =
       all-cong (λ (b : ℕ). not (bears f (recordIn map b))) (λ (b : ℕ). not (bears f (recordAt d b))) blocks
       (λ b h. ap (λ (r : Record). not (bears f r)) (m .records b h))
-
-pub parts-no : (map : List ℕ) (f n : ℕ) → all (λ (b : ℕ). within f n (recordIn map b)) blocks ≡ false → false ≡ partsIn map f n
-unfolding partsIn
-parts-no map f n e = sym (and-false-left (all (λ (s : ℕ). eqb (count blocks (λ (b : ℕ). isPart f s (recordIn map b))) 1) n) e)
-
-pub parts-yes : (map : List ℕ) (f n : ℕ) → all (λ (b : ℕ). within f n (recordIn map b)) blocks ≡ true
-    → all (λ (s : ℕ). eqb (count blocks (λ (b : ℕ). isPart f s (recordIn map b))) 1) n ≡ partsIn map f n
-unfolding partsIn
-parts-yes map f n e = sym (ap (λ (x : Bool). x && all (λ (s : ℕ). eqb (count blocks (λ (b : ℕ). isPart f s (recordIn map b))) 1) n) e)
 
 -- ---- the files that are borne, marked
 
@@ -188,6 +175,10 @@ sizes-name e f q t =
     omega arith
 
 module _ (d : Disk) (k : ℕ) (e : Entry) (q : e ≡ slotEntry d k) where
+  pub entry-name : take (e .named) (e .name) ≡ slotName d k
+  unfolding slotName nameOf
+  entry-name = ap (λ (x : Entry). take (x .named) (x .name)) q
+
   abbrev sizes : Bool
   sizes = leb slotBytes (e .length) && (leb 1 (e .named) && leb (e .named) nameMost)
 

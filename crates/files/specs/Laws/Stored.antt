@@ -4,7 +4,6 @@ use mathlib.Core.Path.{_≡_, refl, sym, ap, ap₂, _∙_}
 use mathlib.Core.Logic.{_≢_}
 use mathlib.Core.List.{List}
 use Prim.Native.Nat.{ℕ, _+_, _-_, _≤_, _<_}
-use native.Mathlib.Nat.{zero-add}
 use native.Mathlib.Omega.{arith}
 use lib.ListN.{length, getD, set}
 use Rattle.laws.specs.Change.{upd, patch, upd-same, upd-other, upd₂-same, upd₂-other, patch-in, patch-below, patch-above, by-place}
@@ -46,15 +45,6 @@ module _ (l : List ℕ) (b o v : ℕ) (e : length l ≡ imageBytes) where
   set-no-block h =
       sym (image-disk l e)
       ∙ image-cong (diskOf l) (setByte (diskOf l) b o v) (λ b′ i hb ho. sym (upd₂-other (diskOf l) b (upd (diskOf l b) o v) b′ i (omega arith)))
-
-  pub set-no-offset : blockBytes ≤ o → l ≡ imageOf (setByte (diskOf l) b o v)
-  unfolding setByte
-  set-no-offset h =
-      sym (image-disk l e)
-      ∙ image-cong (diskOf l) (setByte (diskOf l) b o v)
-      (λ b′ i hb ho. by-equal b′ b
-      (λ q. ap (λ (x : ℕ). diskOf l x i) q ∙ sym (upd₂-same (diskOf l) b (upd (diskOf l b) o v) b′ i q ∙ upd-other (diskOf l b) o v i (omega arith)))
-      (λ q. sym (upd₂-other (diskOf l) b (upd (diskOf l b) o v) b′ i q)))
 
 -- ---- a row of bytes of a block
 
@@ -136,8 +126,3 @@ patched-row d b o s n g e =
     ap (λ (r : List ℕ). imageOf (patched d b o (length r) (λ (i : ℕ). getD r i 0))) e
     ∙ ap (λ (k : ℕ). imageOf (patched d b o k (λ (i : ℕ). getD (tab g n) i 0))) (tab-length g n)
     ∙ patched-cong d b o n (λ (i : ℕ). getD (tab g n) i 0) g (λ i h. tab-in g n i h)
-
--- one byte more of a block that is written from its beginning
-pub block-more : (d : Disk) (b n : ℕ) (g : ℕ → ℕ) (l m : List ℕ) (v : ℕ)
-    → l ≡ imageOf (patched d b 0 n g) → m ≡ imageOf (setByte (diskOf l) b n v) → v ≡ g n → m ≡ imageOf (patched d b 0 (n + 1) g)
-block-more d b n g l m v e q w = patched-more d b 0 n g l m v e (q ∙ ap (λ (k : ℕ). imageOf (setByte (diskOf l) b k v)) (sym (zero-add n))) w

@@ -10,16 +10,17 @@ use lib.Dec.{lit<}
 use lib.ListN.{length, getD}
 use borrow.Author.Tests.{le-leb, eq-eqb}
 use Rattle.laws.specs.Truth.{by-test}
+use Rattle.laws.specs.Tab.{tab, eq-tab}
 use Rattle.cells.specs.Stream.{from, dataByte, dataBytes}
 use Rattle.cells.specs.Sync.{syncAt, threeSync}
-use Rattle.cells.specs.Written.{byteOf, written}
+use Rattle.cells.specs.Written.{byteOf}
 use Rattle.cells.specs.declared.Item.the-variants.{Plain, Sync}
 use Rattle.cells.specs.Theorems.{triple-only}
 use Rattle.cells.specs.Laws.Stream.{from-zero}
 use Rattle.cells.specs.Laws.Number.{bytes-list}
 use Rattle.sectors.specs.declared.Found.the-variants.{One}
 use Rattle.sectors.specs.declared.Sector.the-variants.{Delivered, Fieldless}
-use Rattle.sectors.specs.Search.{crcHolds, dataMark, headerAt, placesBelow, foundOf, findSector, fieldAt, fieldOf, sectorFound, sectorOf, bytesOf}
+use Rattle.sectors.specs.Search.{crcHolds, dataMark, headerAt, placesBelow, foundOf, findSector, fieldAt, fieldOf, sectorFound, sectorOf, sectorByte, bytesOf}
 use Rattle.sectors.specs.Packed.{fieldCrc, withCrc, sectorItem, sideItem}
 use Rattle.sectors.specs.Laws.Search.{crc-two, first-is}
 use Rattle.sectors.specs.Laws.Packed.{sector-field, sector-mark, fieldCrc-lt, crc-before, crc-high, crc-low}
@@ -158,12 +159,11 @@ module _ (t s : ℕ) (d : ℕ → List ℕ) (k : ℕ) (hk : k < 9) (len : length
       ∙ rw (e, le-leb _ _ l, eq-eqb _ _ m, field-holds, r)
 
   -- the sector's bytes are those that were written
-  data-back : dataBytes (from c (16 * (146 + 658 * k + 60))) 0 512 ≡ d (k + 1)
-  unfolding c xs
+  data-back : tab (sectorByte c (16 * (146 + 658 * k + 60))) 512 ≡ d (k + 1)
+  unfolding c xs sectorByte
   data-back =
-      rw len at
-      (bytes-list (from (writtenSide t s d) (16 * (146 + 658 * k + 60))) 0 (d (k + 1))
-      (λ j h. row-byte (suc j) (omega arith) (16 * (146 + 658 * k + 60)) (0 + 16 * j) (omega arith)))
+      sym (eq-tab (d (k + 1)) (sectorByte (writtenSide t s d) (16 * (146 + 658 * k + 60))) 512 len
+      (λ j h. sym (row-byte (suc j) (omega arith) (16 * (146 + 658 * k + 60)) (16 * j) (omega arith))))
 
 -- what sector R = k + 1 of a written side gives, judged alone: its own bytes
 module _ (t s : ℕ) (ht : t < 256) (hs : s < 256) (d : ℕ → List ℕ) (k : ℕ) (hk : k < 9) (len : length (d (k + 1)) ≡ 512) (small : (j : ℕ) → getD (d (k + 1)) j 0 < 256) where

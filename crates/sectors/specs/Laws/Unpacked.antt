@@ -13,9 +13,8 @@ use borrow.Author.Tests.{lt-ltb, le-ltb, eq-eqb, ne-eqb}
 use Rattle.laws.specs.Order.{by-order}
 use Rattle.laws.specs.Tests.{by-equal, orElse}
 use Rattle.laws.specs.Lowest.{lowest-none, lowest-some}
-use Rattle.laws.specs.Tab.{tab}
-use Rattle.cells.specs.Stream.{stream, hfeSide, from, dataByte}
-use Rattle.cells.specs.Laws.Number.{bytes-in}
+use Rattle.laws.specs.Tab.{tab, tab-in}
+use Rattle.cells.specs.Stream.{stream, hfeSide}
 use Rattle.cells.specs.declared.Side.{Side}
 use Rattle.sectors.specs.declared.Reply.{Reply}
 use Rattle.sectors.specs.declared.Found.{Found}
@@ -27,7 +26,7 @@ use Rattle.sectors.specs.declared.Sector.the-variants.{Delivered, Missin
 use Rattle.sectors.specs.Replies.{reply, done, unless}
 use Rattle.sectors.specs.Faults.{refusalAt}
 use Rattle.sectors.specs.Geometry.{imageBytes}
-use Rattle.sectors.specs.Search.{sectorFound, sectorOf, bytesOf}
+use Rattle.sectors.specs.Search.{sectorFound, sectorOf, sectorByte, bytesOf}
 use Rattle.sectors.specs.Hfe.{headerFault, tableFault, trackLength, trackPart, sideStream}
 use Rattle.sectors.specs.Laws.Hfe.{at-not-sound}
 use Rattle.sectors.specs.Laws.Search.{Scanned}
@@ -143,12 +142,12 @@ module _ (h : List ℕ) (m : ℕ) (part : List ℕ) (side : Side) (is-part : par
   unfolding sectorAt sectorOf
   sector-is found s = rw (s .each (m % 9) (omega arith), stream-is)
 
-  pub byte-is : (p k : ℕ) → k < 512 → sectorAt h m ≡ Delivered p → dataByte (from (stream part side) p) (16 * k) ≡ unpackedByte h (512 * m + k)
+  pub byte-is : (p k : ℕ) → k < 512 → sectorAt h m ≡ Delivered p → sectorByte (stream part side) p k ≡ unpackedByte h (512 * m + k)
   unfolding unpackedByte sectorBytesAt bytesOf
   byte-is p k l e =
       let q : (512 * m + k) / 512 ≡ m = omega arith in
       let r : (512 * m + k) % 512 ≡ k = omega arith in
-      rw (q, r, e, stream-is) (sym (bytes-in (from (sideStream h (trackOf m) (sideOf m)) p) 0 512 k l ∙ rw zero-add))
+      rw (q, r, e, stream-is) (sym (tab-in (sectorByte (sideStream h (trackOf m) (sideOf m)) p) 512 k l))
 
 -- sector k of the n-th side
 pub side-sector : (h : List ℕ) (n : ℕ) (part : List ℕ) (side : Side) (found : List Found) → part ≡ trackPart h (n / 2)

@@ -2,6 +2,7 @@
 
 use std::ffi::OsStr;
 use std::fs;
+use std::io::Write;
 use std::path::{Path, PathBuf};
 use std::process::{Command, Output, Stdio};
 use std::sync::atomic::{AtomicUsize, Ordering};
@@ -73,6 +74,21 @@ impl Bench {
         command
     }
 
+    /// A shell, to be run in the folder, that finds the tool and the program
+    /// `first_track` before all others.
+    pub fn shell(&self) -> Command {
+        let package = Path::new(env!("CARGO_MANIFEST_DIR"));
+        let tool = Path::new(env!("CARGO_BIN_EXE_dheg")).parent().unwrap();
+        let own = [tool.to_path_buf(), package.join("../../target/bin")];
+        let others = std::env::var_os("PATH").unwrap_or_default();
+        let paths = own.into_iter().chain(std::env::split_paths(&others));
+        let mut command = Command::new("sh");
+        command.current_dir(&self.folder).stdin(Stdio::null());
+        command.env("PATH", std::env::join_paths(paths).unwrap());
+        command.arg("-c");
+        command
+    }
+
     /// Runs the tool with these arguments.
     pub fn dheg<S: AsRef<OsStr>>(&self, args: impl IntoIterator<Item = S>) -> Ended {
         self.command().args(args).output().unwrap().into()
@@ -131,21 +147,16 @@ impl Bench {
     }
 }
 
+/// Tells of a test that passes. Written past the macros, whose output a
+/// passing test hides.
+pub fn tell(words: &str) {
+    let line = format!("{words}\n");
+    std::io::stderr().write_all(line.as_bytes()).unwrap();
+}
+
 impl Drop for Bench {
     fn drop(&mut self) {
         // A folder that stays is no failure of the test.
         let _ = fs::remove_dir_all(&self.folder);
     }
-}
-
-/// Bytes without a pattern that a disk would have.
-pub fn noise(count: usize, seed: u64) -> Vec<u8> {
-    let mut state = seed | 1;
-    let next = || {
-        state ^= state << 13;
-        state ^= state >> 7;
-        state ^= state << 17;
-        (state >> 32) as u8
-    };
-    std::iter::repeat_with(next).take(count).collect()
 }

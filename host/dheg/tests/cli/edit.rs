@@ -1,12 +1,14 @@
 //! The whole job: unpack, change, pack.
 
-use crate::bench::{noise, Bench, Ended};
+use support::noise::noise;
+
+use crate::bench::{Bench, Ended};
 
 /// An HFE image with the file `old`, and two files to put.
 fn bench() -> Bench {
     let bench = Bench::with_disk();
-    bench.write("one", &noise(5000, 1));
-    bench.write("two", &noise(100, 2));
+    bench.write("one", &noise(1, 5000));
+    bench.write("two", &noise(2, 100));
     bench.quiet("put disk.img old two");
     bench.quiet("pack disk.img in.hfe");
     bench

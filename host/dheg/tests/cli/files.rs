@@ -3,15 +3,16 @@
 use std::ffi::OsStr;
 
 use dhegluubin::IMAGE_LEN;
+use support::noise::noise;
 
-use crate::bench::{noise, Bench, Ended};
+use crate::bench::{Bench, Ended};
 
 #[test]
 fn put_get_rm() {
     let bench = Bench::with_disk();
     let fresh = bench.read("disk.img");
     for (name, length) in [("empty", 0), ("one", 1472), ("two", 1473), ("big", 700_000)] {
-        bench.write(name, &noise(length, 9));
+        bench.write(name, &noise(9, length));
         bench.quiet(&format!("put disk.img {name} {name}"));
         bench.quiet(&format!("get disk.img {name} back"));
         assert!(bench.read("back") == bench.read(name), "{name}");

@@ -1,8 +1,9 @@
 //! unpack, pack, place, format.
 
 use dhegluubin::{HFE_LEN, IMAGE_LEN};
+use support::noise::noise;
 
-use crate::bench::{noise, Bench, Ended};
+use crate::bench::{Bench, Ended};
 
 /// Where track 3 begins in a written HFE image.
 const TRACK_3: usize = 512 * (2 + 49 * 3);
@@ -10,7 +11,7 @@ const TRACK_3: usize = 512 * (2 + 49 * 3);
 #[test]
 fn there_and_back() {
     let bench = Bench::new();
-    bench.write("a.img", &noise(IMAGE_LEN, 1));
+    bench.write("a.img", &noise(1, IMAGE_LEN));
     bench.quiet("pack a.img a.hfe");
     assert_eq!(bench.read("a.hfe").len(), HFE_LEN);
     bench.quiet("unpack a.hfe b.img");

@@ -6,6 +6,8 @@ mod files;
 mod help;
 mod images;
 mod interchange;
+mod progress;
+mod readme;
 mod several;
 mod usage;
 mod writing;

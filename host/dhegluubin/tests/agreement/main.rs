@@ -5,7 +5,6 @@
 //! cases instead of its usual number; name the test when n is large, as in
 //! `DHEG_CASES=100000 cargo test -p dhegluubin random_headers`.
 
-mod cases;
 mod file_layer;
 mod lent;
 mod random_calls;

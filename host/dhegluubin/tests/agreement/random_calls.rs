@@ -3,12 +3,12 @@
 //!
 //! `DHEG_CASES=100000 cargo test -p dhegluubin random_calls` makes as many.
 
-use crate::cases::cases;
 use crate::file_layer::both as files;
 use crate::sector_layer::both as sectors;
 use crate::sector_layer::build::{empty_tracks, packed, sides, track_0};
-use dhegluubin::{raw, FIRST_TRACK_LEN, HFE_LEN, IMAGE_LEN};
+use dhegluubin::{FIRST_TRACK_LEN, HFE_LEN, IMAGE_LEN};
 use std::collections::BTreeMap;
+use support::cases::cases;
 use support::noise::{noise, Generator};
 
 /// A length at or about an interesting one, or any below 2^21.
@@ -114,9 +114,7 @@ fn place(generator: &mut Generator) -> Made {
     let block = generator.below(600);
     let block = *generator.choice(&[0, 479, 480, usize::MAX, block]);
     let sector = *generator.choice(&[0, 1, 2, 3, usize::MAX]);
-    let reply = raw::place(block, sector).parts();
-    assert_eq!(reply, reference::place(block, sector).parts());
-    ("place", reply[0])
+    ("place", sectors::place(block, sector)[0])
 }
 
 fn unpack(generator: &mut Generator, track: &[Vec<u8>; 2]) -> Made {
@@ -133,10 +131,10 @@ fn pack(generator: &mut Generator) -> Made {
     };
     let image = random_bytes(generator, image_len);
     let mut hfe = random_bytes(generator, hfe_len);
-    let after = sectors::pack_into(&image, &hfe);
-    assert_eq!(after.reply, reference::pack(&image, &mut hfe).parts());
-    assert!(after.bytes == hfe);
-    ("pack", after.reply[0])
+    let (reply, after) = sectors::pack_into(&image, &hfe);
+    assert_eq!(reply, reference::pack(&image, &mut hfe).parts());
+    assert!(after == hfe);
+    ("pack", reply[0])
 }
 
 /// A call on a block image; what an accepted one leaves is the next disk.

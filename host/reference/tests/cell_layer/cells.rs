@@ -1,3 +1,5 @@
+//! Cells in bytes: document 01, "The HFE image", second paragraph.
+
 use crate::build::noise;
 use reference::cells::{buffer_cells, pack_cells, side_bytes, side_cells};
 

@@ -1,3 +1,6 @@
+//! The CRC: document 01, "Cells and sectors", first paragraph, and published
+//! values.
+
 use reference::crc::{crc16, crc_of_field};
 
 #[test]

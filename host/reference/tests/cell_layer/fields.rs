@@ -1,3 +1,5 @@
+//! Data fields: document 01, "Cells and sectors", second paragraph.
+
 use crate::build::{byte_items, field, gap, header, header_items, id, join, marked, noise_sector};
 use reference::crc::crc_of_field;
 use reference::field::{data_field, DataField};

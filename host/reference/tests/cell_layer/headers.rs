@@ -1,3 +1,6 @@
+//! The search for headers: document 01, "Cells and sectors", second
+//! paragraph.
+
 use crate::build::{field, gap, header, header_items, id, join, marked, noise_sector};
 use reference::crc::crc_of_field;
 use reference::header::{find_header, header_at, Header, Search, SectorId, HEADER_CELLS};

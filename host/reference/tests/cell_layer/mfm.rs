@@ -1,3 +1,6 @@
+//! MFM bytes and sync bytes: document 01, "Cells and sectors", first
+//! paragraph.
+
 use reference::cells::{buffer_cells, pack_cells};
 use reference::mfm::{
     cell_at, data_byte, data_bytes, encode_byte, is_sync, is_three_sync, word_cells, CELLS_PER_BYTE,

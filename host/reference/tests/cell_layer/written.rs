@@ -1,3 +1,5 @@
+//! A written side: document 01, "Cells and sectors", third paragraph.
+
 use crate::build::{id, noise};
 use reference::cells::{buffer_cells, pack_cells, side_cells, UNIT_LEN};
 use reference::field::SECTOR_LEN;

@@ -1,41 +1,9 @@
+//! Placement and its tables: document 01, "Place of a block".
+
 use reference::geometry::{
     image_sector, running_at, running_sector, REMAINDER, SECTORS, SIDE_AND_PLACE,
 };
 use reference::place;
-
-#[test]
-fn stated_placements() {
-    for (block, sector, expected) in [
-        (0, 0, 0),
-        (2, 0, 1),
-        (1, 0, 9),
-        (1, 1, 12),
-        (1, 2, 15),
-        (6, 0, 23),
-        (6, 1, 26),
-        (6, 2, 20),
-        (7, 0, 32),
-        (474, 0, 1430),
-        (479, 2, 1438),
-    ] {
-        assert_eq!(place(block, sector).parts(), [0, expected, 0, 0]);
-    }
-}
-
-#[test]
-fn block_and_sector_out_of_range() {
-    for (block, sector) in [
-        (480, 0),
-        (0, 3),
-        (479, 3),
-        (480, 3),
-        (usize::MAX, 0),
-        (0, usize::MAX),
-        (usize::MAX, usize::MAX),
-    ] {
-        assert_eq!(place(block, sector).parts(), [12, 0, 0, 0]);
-    }
-}
 
 #[test]
 fn place_is_that_of_the_running_sector() {

@@ -1,4 +1,7 @@
-use crate::build::{assert_refused, assert_unpacks, disk, packed};
+//! Refusal 2, judged on the header alone: document 01, "The HFE image".
+
+use crate::answer::{assert_refused, assert_unpacks};
+use crate::shared::build::{disk, packed};
 use reference::hfe::{judge_header, written_header};
 use reference::reply::Refusal;
 

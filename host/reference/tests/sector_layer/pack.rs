@@ -1,6 +1,11 @@
-use crate::build::{assert_unpacks, disk, packed, packed_image};
+//! A written image byte by byte: document 01, "Cells and sectors", fourth
+//! paragraph.
+
+use crate::answer::{assert_unpacks, pack_into};
+use crate::shared::build::{disk, packed};
 use reference::cells::side_cells;
 use reference::geometry::IMAGE_LEN;
+use reference::pack::HFE_LEN;
 use reference::written::written_side_cells;
 
 #[test]
@@ -40,14 +45,15 @@ fn round_trip() {
     assert_unpacks(&packed(), disk());
     for byte in [0x00, 0xFF, 0xA1, 0x4E, 0xE5] {
         let image = vec![byte; IMAGE_LEN];
-        assert_unpacks(&packed_image(&image), &image);
+        let (reply, hfe) = pack_into(&image, &vec![0x55; HFE_LEN]);
+        assert_eq!(reply, [0; 4]);
+        assert_unpacks(&hfe, &image);
     }
 }
 
 #[test]
 fn every_byte_is_written() {
-    // The buffer is lent full of 55; a second one full of 00 gives the same.
-    let mut hfe = vec![0; packed().len()];
-    reference::pack(disk(), &mut hfe);
+    // One buffer is lent full of 55; another one full of 00 gives the same.
+    let (_, hfe) = pack_into(disk(), &vec![0; HFE_LEN]);
     assert!(hfe == packed());
 }

@@ -4,7 +4,7 @@ use mathlib.Core.Path.{sym, ap, _∙_}
 use Prim.Native.Nat.{ℕ, _-_}
 use borrow.Author.Needs.{needs}
 use Rattle.laws.specs.Tab.{elementAt}
-use Rattle.files.specs.Laws.Sound.{sizes-name, parts-mapped, entry-sizes-wrong, entry-name-wrong, entry-parts}
+use Rattle.files.specs.Laws.Sound.{sizes-name, parts-mapped, entry-sizes-wrong, entry-name-wrong, entry-parts, entry-name}
 use Rattle.files.specs.Disk.{diskOf}
 use Rattle.files.specs.Laws.Slots.{entry-row}
 use Rattle.files.specs.Directory.{entryOf}
@@ -28,7 +28,7 @@ slice-aggregate-new-first : tie.Need-slice-aggregate-new-first
 slice-aggregate-new-first c = search needs
 
 new-first-requires : tie.Need-new-first-requires
-new-first-requires c κs = (c .before .before .before .before .before .before .before .before .pre .0, c .before .before .before .before .before .before .before .before .pre .1, c .before .before .before .before .before .before .before .before .pre .2, sizes-name _ _ (c .before .before .before .before .before .read-entry .ensures) (c .before .if1 .taken))
+new-first-requires c κs = (c .before .before .before .before .before .before .before .before .pre .0, c .before .before .before .before .before .before .before .before .pre .1, c .before .before .before .before .before .before .before .before .pre .2, sizes-name _ _ (c .before .before .before .before .before .read-entry .ensures) (c .before .if1 .taken), c .before .before .before .before .before .before .before .before .pre .4, entry-name _ _ (c .before .before .before .before .before .read-entry .result) (c .before .before .before .before .before .read-entry .ensures ∙ ap (λ (x : ℕ). entryOf (elementAt (c .before .before .before .before .before .before .before .before .args .image .now) x)) (c .before .before .before .before .before .before .slot-place .ensures .0) ∙ sym (entry-row _ _ _ (c .before .before .before .before .before .before .before .before .pre .0) (c .before .before .before .before .before .before .before .before .pre .1) (c .before .before .before .before .before .before .before .before .pre .2))), c .before .before .before .before .before .before .before .before .pre .5)
 
 blocks-of-requires : tie.Need-blocks-of-requires
 blocks-of-requires c κs = search needs

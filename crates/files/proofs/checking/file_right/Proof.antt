@@ -28,7 +28,7 @@ is-listed-requires : tie.Need-is-listed-requires
 is-listed-requires c κs = search needs
 
 entry-right-requires : tie.Need-entry-right-requires
-entry-right-requires c κs = search needs
+entry-right-requires c κs = (c .before .before .before .before .pre .0, c .before .before .before .before .pre .1, c .before .before .before .before .pre .2, c .before .before .before .before .pre .3, c .before .before .before .before .pre .6, ap (λ (x : ℕ). ltb (c .before .before .before .before .args .f) x && held (diskOf (c .before .before .before .before .args .image .now)) (c .before .before .before .before .args .f)) (sym (c .before .before .before .before .pre .5)) ∙ sym (c .before .is-listed .ensures) ∙ c .if2 .taken)
 
 returns-2 : tie.Need-returns-2
 returns-2 c = c .entry-right .ensures ∙ file-listed _ _ (c .before .before .before .if1 .left) (ap (λ (x : ℕ). ltb (c .before .before .before .before .before .args .f) x && held (diskOf (c .before .before .before .before .before .args .image .now)) (c .before .before .before .before .before .args .f)) (sym (c .before .before .before .before .before .pre .5)) ∙ sym (c .before .before .is-listed .ensures) ∙ c .before .if2 .taken)

@@ -9,11 +9,11 @@ use Rattle.files.proofs.directory.load_dir.Tie as tie
 load-map-requires : tie.Need-load-map-requires
 load-map-requires c κs = search needs
 
-dir-blocks-requires : tie.Need-dir-blocks-requires
-dir-blocks-requires c κs = search needs
+file-blocks-requires : tie.Need-file-blocks-requires
+file-blocks-requires c κs = search needs
 
 returns : tie.Need-returns
-returns c = located _ _ _ (c .before .before .load-map .ensures) (c .dir-blocks .ensures)
+returns c = located _ _ _ (c .before .before .load-map .ensures) (c .file-blocks .ensures)
 
 pub load-dir-spec : {M : Type 1} → statement M
-load-dir-spec = tie.close (tie.spec load-map-requires dir-blocks-requires returns)
+load-dir-spec = tie.close (tie.spec load-map-requires file-blocks-requires returns)

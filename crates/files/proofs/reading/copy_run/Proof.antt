@@ -8,7 +8,7 @@ use borrow.Author.Needs.{needs}
 use Rattle.laws.specs.Tab.{elementAt}
 use Rattle.laws.specs.Overlay.{overlay, overlay-none, overlay-more}
 use Rattle.files.specs.Disk.{diskOf}
-use Rattle.files.specs.Laws.Delivered.{run-byte}
+use Rattle.files.specs.Laws.Rows.{run-byte}
 use Rattle.files.proofs.reading.copy_run.Statement.{statement}
 use Rattle.files.proofs.reading.copy_run.Tie as tie
 

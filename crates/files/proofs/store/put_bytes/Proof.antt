@@ -1,41 +1,57 @@
 -- `put_bytes` meets its contract: the first i bytes are written.
 -- Assumes nothing.
-use mathlib.Core.Path.{_≡_, refl, _∙_}
+use mathlib.Core.Path.{_≡_, _∙_}
 use Prim.Native.Nat.{ℕ, _-_, _≤_}
 use native.Mathlib.Omega.{arith}
 use lib.ListN.{length, getD}
 use borrow.Author.Needs.{needs}
-use Rattle.files.specs.Laws.Stored.{patched, patched-none, patched-more}
+use Rattle.files.specs.Laws.Stored.{patched, patched-none}
+use Rattle.files.specs.Laws.Rows.{rows-part}
 use Rattle.files.specs.Disk.{diskOf, imageOf}
 use Rattle.files.proofs.store.put_bytes.Statement.{statement}
 use Rattle.files.proofs.store.put_bytes.Tie as tie
 
 abbrev Inv-loop : tie.InvT-loop
-Inv-loop image₀ b o src i₀ i-end image i = (i ≤ length src) × (length image ≡ 737280) × (image ≡ imageOf (patched (diskOf image₀) b o i (λ (k : ℕ). getD src k 0)))
+Inv-loop image₀ b o src i₀ image i = (i ≤ length src) × (length image ≡ 737280) × (image ≡ imageOf (patched (diskOf image₀) b o i (λ (k : ℕ). getD src k 0)))
 
 abbrev μ-loop : tie.MeasureT-loop
-μ-loop image₀ b o src i₀ i-end image i = length src - i
+μ-loop image₀ b o src i₀ image i = length src - i
 
 loop-holds : tie.Need-loop-holds Inv-loop μ-loop
 loop-holds c = (omega arith, c .before .before .pre .0, patched-none _ _ _ _ (c .before .before .pre .0))
 
-add-set-byte : tie.Need-add-set-byte Inv-loop μ-loop
-add-set-byte c = search needs
+add-run-length : tie.Need-add-run-length Inv-loop μ-loop
+add-run-length c = search needs
 
-shared-slice-read-set-byte : tie.Need-shared-slice-read-set-byte Inv-loop μ-loop
-shared-slice-read-set-byte c = search needs
+sub-run-length : tie.Need-sub-run-length Inv-loop μ-loop
+sub-run-length c = search needs
 
-set-byte-requires : tie.Need-set-byte-requires Inv-loop μ-loop
-set-byte-requires c κs = search needs
+run-length-requires : tie.Need-run-length-requires Inv-loop μ-loop
+run-length-requires c κs = search needs
 
-add-i : tie.Need-add-i Inv-loop μ-loop
-add-i c = search needs
+add-end : tie.Need-add-end Inv-loop μ-loop
+add-end c = search needs
+
+add-put-run : tie.Need-add-put-run Inv-loop μ-loop
+add-put-run c = search needs
+
+sub-put-run : tie.Need-sub-put-run Inv-loop μ-loop
+sub-put-run c = search needs
+
+part-put-run-start : tie.Need-part-put-run-start Inv-loop μ-loop
+part-put-run-start c = search needs
+
+part-put-run-end : tie.Need-part-put-run-end Inv-loop μ-loop
+part-put-run-end c = search needs
+
+put-run-requires : tie.Need-put-run-requires Inv-loop μ-loop
+put-run-requires c κs = search needs
 
 loop-less : tie.Need-loop-less Inv-loop μ-loop
 loop-less c = search needs
 
 loop-again : tie.Need-loop-again Inv-loop μ-loop
-loop-again c = (omega arith, c .before .before .set-byte .kept .0 ∙ c .before .before .before .before .before .before .loop .inv .1, patched-more _ _ _ _ _ _ _ _ (c .before .before .before .before .before .before .loop .inv .2) (c .before .before .set-byte .ensures) refl)
+loop-again c = (omega arith, c .before .before .put-run .kept .0 ∙ c .before .before .before .before .before .before .before .loop .inv .1, rows-part _ _ _ _ _ _ _ _ (c .before .before .before .before .before .before .before .loop .inv .2) (omega arith) (omega arith) (c .before .before .put-run .ensures))
 
 same-length : tie.Need-same-length Inv-loop μ-loop
 same-length c = search needs
@@ -50,10 +66,15 @@ put-bytes-spec =
     Inv-loop
     μ-loop
     loop-holds
-    add-set-byte
-    shared-slice-read-set-byte
-    set-byte-requires
-    add-i
+    add-run-length
+    sub-run-length
+    run-length-requires
+    add-end
+    add-put-run
+    sub-put-run
+    part-put-run-start
+    part-put-run-end
+    put-run-requires
     loop-less
     loop-again
     same-length

@@ -5,7 +5,8 @@ use Prim.Native.Nat.{ℕ, _-_, _≤_}
 use native.Mathlib.Omega.{arith}
 use lib.ListN.{length}
 use borrow.Author.Needs.{needs}
-use Rattle.files.specs.Laws.Stored.{patched, patched-none, patched-more}
+use Rattle.files.specs.Laws.Stored.{patched, patched-none}
+use Rattle.files.specs.Laws.Rows.{rows-next}
 use Rattle.files.specs.Disk.{diskOf, imageOf}
 use Rattle.files.proofs.store.zero_bytes.Statement.{statement}
 use Rattle.files.proofs.store.zero_bytes.Tie as tie
@@ -19,11 +20,20 @@ abbrev μ-loop : tie.MeasureT-loop
 loop-holds : tie.Need-loop-holds Inv-loop μ-loop
 loop-holds c = (omega arith, c .before .pre .0, patched-none _ _ _ _ (c .before .pre .0))
 
-add-set-byte : tie.Need-add-set-byte Inv-loop μ-loop
-add-set-byte c = search needs
+add-run-length : tie.Need-add-run-length Inv-loop μ-loop
+add-run-length c = search needs
 
-set-byte-requires : tie.Need-set-byte-requires Inv-loop μ-loop
-set-byte-requires c κs = search needs
+sub-run-length : tie.Need-sub-run-length Inv-loop μ-loop
+sub-run-length c = search needs
+
+run-length-requires : tie.Need-run-length-requires Inv-loop μ-loop
+run-length-requires c κs = search needs
+
+add-zero-run : tie.Need-add-zero-run Inv-loop μ-loop
+add-zero-run c = search needs
+
+zero-run-requires : tie.Need-zero-run-requires Inv-loop μ-loop
+zero-run-requires c κs = search needs
 
 add-i : tie.Need-add-i Inv-loop μ-loop
 add-i c = search needs
@@ -32,7 +42,7 @@ loop-less : tie.Need-loop-less Inv-loop μ-loop
 loop-less c = search needs
 
 loop-again : tie.Need-loop-again Inv-loop μ-loop
-loop-again c = (omega arith, c .before .before .set-byte .kept .0 ∙ c .before .before .before .before .before .loop .inv .1, patched-more _ _ _ _ _ _ _ _ (c .before .before .before .before .before .loop .inv .2) (c .before .before .set-byte .ensures) refl)
+loop-again c = (omega arith, c .before .before .zero-run .kept .0 ∙ c .before .before .before .before .before .before .loop .inv .1, rows-next _ _ _ _ _ _ _ _ _ (c .before .before .before .before .before .before .loop .inv .2) (c .before .before .zero-run .ensures) (λ i h. refl))
 
 same-length : tie.Need-same-length Inv-loop μ-loop
 same-length c = search needs
@@ -47,8 +57,11 @@ zero-bytes-spec =
     Inv-loop
     μ-loop
     loop-holds
-    add-set-byte
-    set-byte-requires
+    add-run-length
+    sub-run-length
+    run-length-requires
+    add-zero-run
+    zero-run-requires
     add-i
     loop-less
     loop-again

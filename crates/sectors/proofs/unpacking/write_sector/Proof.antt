@@ -1,17 +1,18 @@
 -- `write_sector` meets its contract: the first k bytes are written.
 -- Assumes nothing.
 use mathlib.Core.Path.{_≡_, refl}
-use Prim.Native.Nat.{ℕ, _-_, _*_, _≤_}
+use Prim.Native.Nat.{_-_, _≤_}
 use native.Mathlib.Omega.{arith}
 use lib.ListN.{length, length-set}
 use borrow.Author.Needs.{needs}
 use Rattle.laws.specs.Overlay.{overlay, overlay-none, overlay-more}
-use Rattle.cells.specs.Stream.{stream, from, dataByte}
+use Rattle.cells.specs.Stream.{stream}
+use Rattle.sectors.specs.Search.{sectorByte}
 use Rattle.sectors.proofs.unpacking.write_sector.Statement.{statement}
 use Rattle.sectors.proofs.unpacking.write_sector.Tie as tie
 
 abbrev Inv-loop : tie.InvT-loop
-Inv-loop part side p image₀ at k₀ image k = (k ≤ 512) × (length image ≡ length image₀) × (image ≡ overlay image₀ at k (λ (j : ℕ). dataByte (from (stream part side) p) (16 * j)))
+Inv-loop part side p image₀ at k₀ image k = (k ≤ 512) × (length image ≡ length image₀) × (image ≡ overlay image₀ at k (sectorByte (stream part side) p))
 
 abbrev μ-loop : tie.MeasureT-loop
 μ-loop part side p image₀ at k₀ image k = 512 - k
@@ -38,6 +39,7 @@ loop-less : tie.Need-loop-less Inv-loop μ-loop
 loop-less c = omega arith
 
 loop-again : tie.Need-loop-again Inv-loop μ-loop
+unfolding sectorByte
 loop-again c = (omega arith, simp length-set (c .before .before .loop .inv .1), overlay-more _ _ _ _ _ _ (omega arith) (c .before .before .loop .inv .2) (c .data-byte .ensures))
 
 same-length : tie.Need-same-length Inv-loop μ-loop

@@ -2,8 +2,11 @@
 //! and every lent byte must be the same, a refusal changes nothing, and no
 //! call changes what it may only read.
 
+use super::program;
 use crate::lent::Lent;
-use dhegluubin::{raw, FIRST_TRACK_LEN};
+use dhegluubin::raw;
+
+pub use support::cases::cases;
 
 /// Number and places.
 pub type Parts = [usize; 4];
@@ -98,7 +101,7 @@ pub fn read(image: &[u8], name: &[u8], buffer: &[u8]) -> (Parts, Vec<u8>) {
     )
 }
 
-/// Reply and counts for a first track.
+/// Reply and counts for a first track, of which the program prints the same.
 pub fn first_track(track: &[u8]) -> (Parts, [usize; 3]) {
     let lent = track.to_vec();
     let (reply, counts) = raw::first_track(&lent);
@@ -111,30 +114,11 @@ pub fn first_track(track: &[u8]) -> (Parts, [usize; 3]) {
         (expected.reply.parts(), counts),
         "library, then reference"
     );
+    program::printed(track);
     library
 }
 
-/// Makes every call on the image, add and remove on copies of it, and gives
-/// what check says.
-pub fn all_calls(image: &[u8], name: &[u8]) -> Parts {
-    let checked = check(image);
-    let start = &image[..image.len().min(FIRST_TRACK_LEN)];
-    first_track(start);
-    let (listed, _) = list(image, &[0xAA; 200]);
-    if listed[0] == 16 {
-        // Exactly as long as needed, and one byte less.
-        let needed = listed[1];
-        assert_eq!(list(image, &vec![0xAB; needed]).0, [0, needed, 0, 0]);
-        assert_eq!(list(image, &vec![0xAC; needed - 1]).0, listed);
-    }
-    let (data, _) = read(image, name, &[0xAA; 100]);
-    if data[0] == 16 {
-        let needed = data[1];
-        assert_eq!(read(image, name, &vec![0xAB; needed]).0, [0, needed, 0, 0]);
-        assert_eq!(read(image, name, &vec![0xAC; needed - 1]).0, data);
-    }
-    add(&mut image.to_vec(), b"new file", 0x0A0B_0C0D, &[0x3C; 3000]);
-    add(&mut image.to_vec(), name, 1, &[]);
-    remove(&mut image.to_vec(), name);
-    checked
+/// What the program prints of a first track.
+pub fn first_track_text(track: &[u8]) -> String {
+    program::printed(track)
 }

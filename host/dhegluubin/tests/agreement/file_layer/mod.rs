@@ -1,20 +1,10 @@
 //! Files on block images.
 
 pub mod both;
-mod build;
-mod call;
-mod calls;
-mod corrupted;
-mod corruption;
-mod directory;
-mod disk_header;
-mod first_track;
-mod foreign;
-mod format;
-mod growth;
-mod histories;
-mod map;
 mod named;
-mod random_histories;
-mod secrets;
-mod values;
+mod program;
+#[path = "../../../../reference/tests/file_layer/shared/mod.rs"]
+mod shared;
+
+// What the shared tests ask.
+use both as answer;

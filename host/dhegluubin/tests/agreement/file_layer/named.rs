@@ -1,6 +1,6 @@
 //! The safe calls: results and named refusals.
 
-use super::build::{patch, set_record, set_word, three_files};
+use super::shared::build::{patch, set_record, set_word, three_files};
 use dhegluubin::{
     add, check, first_track, format, list, read, remove, FirstTrack, Lent, Refusal,
     FIRST_TRACK_LEN, IMAGE_LEN,

@@ -3,8 +3,8 @@
 use super::both::{assert_refused, unpack};
 use super::build::{packed, set_entry, set_table_unit, track_0, written_unit, UNIT};
 use super::side::{good_sectors, side_bytes};
-use crate::cases::cases;
 use dhegluubin::HFE_LEN;
+use support::cases::cases;
 use support::noise::Generator;
 
 /// What a packed image gives that is cut to this length.

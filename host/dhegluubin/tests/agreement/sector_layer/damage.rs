@@ -2,8 +2,8 @@
 
 use super::both::unpack;
 use super::build::{packed, sides, track_0, units};
-use crate::cases::cases;
 use reference::cells::{buffer_cells, pack_cells};
+use support::cases::cases;
 use support::noise::Generator;
 
 /// Damages the bytes somewhere, in one of several ways.

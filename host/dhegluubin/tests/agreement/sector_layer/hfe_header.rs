@@ -2,7 +2,7 @@
 
 use super::both::unpack;
 use super::build::{empty_tracks, EMPTY};
-use crate::cases::cases;
+use support::cases::cases;
 use support::noise::Generator;
 
 /// The shared reply for an image without cells and with these header bytes.

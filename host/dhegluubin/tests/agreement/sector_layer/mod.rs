@@ -1,21 +1,20 @@
 //! Reading and writing HFE images, and placement.
 
 pub mod both;
-pub mod build;
 mod clocks;
 mod cuts;
 mod damage;
-mod damaged;
 mod fields;
 mod headers;
 mod hfe_header;
 mod layouts;
-mod mame;
-mod moved_tracks;
-mod placement;
-mod refusals;
+mod named;
 mod round_trip;
+#[path = "../../../../reference/tests/sector_layer/shared/mod.rs"]
+mod shared;
 mod side;
-mod sizes;
 mod soup;
-mod track_table;
+
+// What the shared tests ask.
+use both as answer;
+pub use shared::build;

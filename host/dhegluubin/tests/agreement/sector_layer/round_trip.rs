@@ -1,18 +1,18 @@
 //! Whole disks written, compared byte by byte, and read back.
 
-use super::both::{assert_unpacks, pack_into, pattern, unpack};
-use super::build::{disk, packed};
-use crate::cases::cases;
+use super::both::{assert_unpacks, pack_into, unpack};
+use super::build::{disk, packed, pattern};
 use dhegluubin::{HFE_LEN, IMAGE_LEN};
+use support::cases::cases;
 use support::noise::noise;
 
 /// Packs with both, and unpacks what was written.
 fn there_and_back(image: &[u8]) {
-    let packed = pack_into(image, &noise(8, HFE_LEN));
+    let (reply, packed) = pack_into(image, &noise(8, HFE_LEN));
     let mut hfe = vec![0; HFE_LEN];
-    assert_eq!(packed.reply, reference::pack(image, &mut hfe).parts());
-    assert!(packed.bytes == hfe, "other bytes than the reference");
-    assert_unpacks(&packed.bytes, image);
+    assert_eq!(reply, reference::pack(image, &mut hfe).parts());
+    assert!(packed == hfe, "other bytes than the reference");
+    assert_unpacks(&packed, image);
 }
 
 #[test]

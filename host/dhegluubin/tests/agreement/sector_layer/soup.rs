@@ -3,9 +3,9 @@
 use super::both::{assert_unpacks, unpack};
 use super::build::{disk, move_track, packed, track_0, TRACK_0_GOOD};
 use super::side::{gap_cells, header_items, plain, random_cells, side_cells, Sector};
-use crate::cases::cases;
 use reference::cells::pack_cells;
 use reference::written::{item_cells, Item};
+use support::cases::cases;
 use support::noise::Generator;
 
 /// Cells of a gap: bytes 4E, all 0, or by chance.

@@ -1,0 +1,68 @@
+-- `name_mark` meets its contract: the mark of the first i bytes.
+-- Assumes nothing.
+use mathlib.Core.Path.{_≡_, refl, _∙_}
+use Prim.Native.Nat.{_-_, _≤_, _<_, _+_}
+use native.Mathlib.Omega.{arith}
+use borrow.Author.Needs.{needs}
+use Rattle.laws.specs.Tab.{elementAt}
+use Rattle.files.specs.Laws.Marks.{rowMark, mark-more, mark-row}
+use Rattle.files.proofs.names.name_mark.Statement.{statement}
+use Rattle.files.proofs.names.name_mark.Tie as tie
+
+abbrev Inv-loop : tie.InvT-loop
+Inv-loop image at n mark₀ i₀ mark i = (i ≤ n) × (mark < 16384) × (mark ≡ rowMark (elementAt image (at + 16)) i)
+
+abbrev μ-loop : tie.MeasureT-loop
+μ-loop image at n mark₀ i₀ mark i = n - i
+
+name-length-requires : tie.Need-name-length-requires Inv-loop μ-loop
+name-length-requires c κs = search needs
+
+loop-holds : tie.Need-loop-holds Inv-loop μ-loop
+unfolding rowMark
+loop-holds c = (omega arith, omega arith, refl)
+
+mul-mark : tie.Need-mul-mark Inv-loop μ-loop
+mul-mark c = search needs
+
+add-byte : tie.Need-add-byte Inv-loop μ-loop
+add-byte c = search needs
+
+byte-requires : tie.Need-byte-requires Inv-loop μ-loop
+byte-requires c κs = search needs
+
+wide-requires : tie.Need-wide-requires Inv-loop μ-loop
+wide-requires c κs = search needs
+
+add-mark : tie.Need-add-mark Inv-loop μ-loop
+add-mark c = search needs
+
+add-i : tie.Need-add-i Inv-loop μ-loop
+add-i c = search needs
+
+loop-less : tie.Need-loop-less Inv-loop μ-loop
+loop-less c = omega arith
+
+loop-again : tie.Need-loop-again Inv-loop μ-loop
+loop-again c = (omega arith, omega arith, mark-more _ _ _ _ _ (c .before .before .before .loop .inv .2) (c .wide .ensures .0 ∙ c .before .byte .ensures))
+
+returns : tie.Need-returns Inv-loop μ-loop
+returns c = let e : c .before .loop .i ≡ c .before .before .name-length .result = omega arith in (mark-row _ _ _ _ (c .before .before .name-length .ensures) (rw e at (c .before .loop .inv .2)), c .before .loop .inv .1)
+
+pub name-mark-spec : {M : Type 1} → statement M
+name-mark-spec =
+    tie.close
+    (tie.spec
+    Inv-loop
+    μ-loop
+    name-length-requires
+    loop-holds
+    mul-mark
+    add-byte
+    byte-requires
+    wide-requires
+    add-mark
+    add-i
+    loop-less
+    loop-again
+    returns)

@@ -1,0 +1,86 @@
+-- `put_sector` meets its contract: a part of the data, or a row made for it.
+-- Assumes nothing.
+use mathlib.Core.Path.{_∙_}
+use Prim.Native.Nat.{_+_, _-_, _≤_}
+use native.Mathlib.Omega.{arith}
+use lib.ListN.{length}
+use borrow.Author.Needs.{needs}
+use Rattle.files.specs.Laws.Stored.{patched-row}
+use Rattle.files.specs.Laws.Rows.{content-row, content-past, content-within}
+use Rattle.files.proofs.steps.put_sector.Statement.{statement}
+use Rattle.files.proofs.steps.put_sector.Tie as tie
+
+past : (c : tie.Then1) → 64 ≤ c .before .before .before .before .args .i
+past c = content-past (c .before .before .before .before .args .content .now) (c .before .before .before .before .args .i) (c .if1 .taken)
+
+within : (c : tie.Then1) → c .before .before .before .before .args .i + 512 - 64 ≤ length (c .before .before .before .before .args .content .now)
+within c = content-within (c .before .before .before .before .args .content .now) (c .before .before .before .before .args .i) (c .if1 .taken)
+
+add-end : tie.Need-add-end
+add-end c = search needs
+
+sub-end : tie.Need-sub-end
+sub-end c = search needs
+
+sub-from : tie.Need-sub-from
+sub-from c = omega (arith, past c)
+
+mul-put-run : tie.Need-mul-put-run
+mul-put-run c = search needs
+
+sub-put-run : tie.Need-sub-put-run
+sub-put-run c = search needs
+
+part-put-run-start : tie.Need-part-put-run-start
+part-put-run-start c = search needs
+
+part-put-run-end : tie.Need-part-put-run-end
+part-put-run-end c = omega (arith, past (c .before), within (c .before))
+
+put-run-requires : tie.Need-put-run-requires
+put-run-requires c κs = search needs
+
+same-length : tie.Need-same-length
+same-length c = search needs
+
+returns : tie.Need-returns
+returns c = c .before .before .put-run .ensures ∙ patched-row _ _ _ _ _ _ (content-row (c .before .before .before .before .before .before .before .before .before .args .content .now) (c .before .before .before .before .before .before .before .before .before .args .i) (c .before .before .before .before .before .if1 .taken) (c .before .before .before .before .before .before .before .before .before .args .head .now))
+
+stored-sector-requires : tie.Need-stored-sector-requires
+stored-sector-requires c κs = search needs
+
+mul-put-run-2 : tie.Need-mul-put-run-2
+mul-put-run-2 c = search needs
+
+slice-aggregate-put-run : tie.Need-slice-aggregate-put-run
+slice-aggregate-put-run c = search needs
+
+put-run-requires-2 : tie.Need-put-run-requires-2
+put-run-requires-2 c κs = search needs
+
+same-length-2 : tie.Need-same-length-2
+same-length-2 c = search needs
+
+returns-2 : tie.Need-returns-2
+returns-2 c = c .before .before .put-run2 .ensures ∙ patched-row _ _ _ _ _ _ (c .before .before .before .before .before .stored-sector .ensures)
+
+pub put-sector-spec : {M : Type 1} → statement M
+put-sector-spec =
+    tie.close
+    (tie.spec
+    add-end
+    sub-end
+    sub-from
+    mul-put-run
+    sub-put-run
+    part-put-run-start
+    part-put-run-end
+    put-run-requires
+    same-length
+    returns
+    stored-sector-requires
+    mul-put-run-2
+    slice-aggregate-put-run
+    put-run-requires-2
+    same-length-2
+    returns-2)

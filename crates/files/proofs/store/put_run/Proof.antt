@@ -1,0 +1,23 @@
+-- `put_run` meets its contract.
+-- Assumes nothing.
+use mathlib.Core.Path.{refl, _∙_}
+use borrow.Author.Needs.{needs}
+use Rattle.files.specs.Laws.Steps.{put-row}
+use Rattle.files.specs.Laws.Rows.{row-written}
+use Rattle.files.proofs.store.put_run.Statement.{statement}
+use Rattle.files.proofs.store.put_run.Tie as tie
+
+run-place-requires : tie.Need-run-place-requires
+run-place-requires c κs = search needs
+
+copy-into-requires : tie.Need-copy-into-requires
+copy-into-requires c κs = search needs
+
+same-length : tie.Need-same-length
+same-length c = search needs
+
+returns : tie.Need-returns
+returns c = c .before .before .copy-into .ensures ∙ put-row _ _ _ _ refl ∙ row-written _ _ _ _ (c .before .before .before .before .before .before .before .pre .0) _ _ (c .before .before .before .run-place .ensures) (c .before .before .before .before .before .before .before .pre .1) (c .before .before .before .before .before .before .before .pre .2)
+
+pub put-run-spec : {M : Type 1} → statement M
+put-run-spec = tie.close (tie.spec run-place-requires copy-into-requires same-length returns)

@@ -1,0 +1,113 @@
+// The parts of a file by a loaded map: their blocks in sequence, and whether each stands once.
+ghost use mathlib.Core.Path.{_≡_};
+ghost use Prim.Native.Nat.{ℕ, _≤_, _<_};
+ghost use lib.Dec.{eqb};
+ghost use lib.ListN.{getD};
+ghost use Rattle.laws.specs.Below.{all};
+ghost use Rattle.laws.specs.Lowest.{lowest};
+ghost use Rattle.files.specs.Map.{isPart};
+ghost use Rattle.files.specs.Laws.Loaded.{recordOf, recordIn};
+ghost use Rattle.files.specs.Laws.Tally as Tally;
+ghost use Rattle.files.specs.Laws.Tally.{Tallied};
+ghost use Rattle.files.specs.Laws.Parts.{partOf, partsIn, PartsAt};
+use crate::map::part_block;
+use sectors::Geometry;
+
+// What a tally has for a part from n on, and for a record that is no part of the file.
+const LATER: usize = Geometry::BLOCKS;
+
+const ELSEWHERE: usize = Geometry::BLOCKS + 1;
+
+// The numbers of records that bear a file are below this.
+const FILE_NUMBERS: u32 = 0xF8_0000;
+
+// Which of the first n parts of file f a record is, by its number.
+fn part_of(number: u32, f: usize, n: usize) -> usize
+    requires { ⌜ n ≤ 480 ⌝ }
+    ensures { λ r. ⌜ (r ≡ partOf f n (recordOf number)) × (r < 482) ⌝ }
+{
+    if FILE_NUMBERS <= number {
+        return ELSEWHERE;
+    }
+    if (number / 4096) as usize != f {
+        return ELSEWHERE;
+    }
+    let s = (number % 4096) as usize;
+    if s < n { s } else { LATER }
+}
+
+// One more in a cell of a tally: none, one, or 2 for more.
+pub fn more(v: u8) -> u8
+    ensures { λ r. ⌜ r ≡ Tally.more v ⌝ }
+{
+    if v == 0 { 1 } else { 2 }
+}
+
+// How often each of the first n parts of file f stands, and whether there is a later one.
+fn tally_parts(map: &[u32; 480], f: usize, n: usize) -> [u8; 481]
+    requires { ⌜ n ≤ 480 ⌝ }
+    ensures { λ r. ⌜ Tallied r 481 (λ (b : ℕ). partOf f n (recordIn (now (map .entry)) b)) 480 ⌝ }
+{
+    let mut tally = [0u8; 481];
+    for b in 0..Geometry::BLOCKS {
+        let s = part_of(map[b], f, n);
+        if s < ELSEWHERE {
+            tally[s] = more(tally[s]);
+        }
+    }
+    tally
+}
+
+// Whether each of the first n parts stands once.
+fn all_once(tally: &[u8; 481], n: usize) -> bool
+    requires { ⌜ n ≤ 480 ⌝ }
+    ensures { λ r. ⌜ r ≡ all (λ (s : ℕ). eqb (getD (now (tally .entry)) s 0) 1) n ⌝ }
+{
+    for s in 0..n {
+        if tally[s] != 1 {
+            return false;
+        }
+    }
+    true
+}
+
+// Whether file f's sequences are 0 up to n less 1, each once. More of them than blocks cannot be.
+pub fn parts_right(map: &[u32; 480], f: usize, n: usize) -> bool
+    ensures { λ r. ⌜ r ≡ partsIn (now (map .entry)) f n ⌝ }
+{
+    if Geometry::BLOCKS < n {
+        return false;
+    }
+    let tally = tally_parts(map, f, n);
+    if tally[LATER] != 0 {
+        return false;
+    }
+    all_once(&tally, n)
+}
+
+// The blocks of file f in sequence; the number of blocks where there is none. From the last block down, so that the
+// lowest of several stays.
+pub fn file_blocks(map: &[u32; 480], f: usize) -> [usize; 480]
+    ensures { λ r. ⌜ PartsAt r (now (map .entry)) f ⌝ }
+{
+    let mut row = [480usize; 480];
+    for i in 0..Geometry::BLOCKS {
+        let b = Geometry::BLOCKS - 1 - i;
+        let s = part_of(map[b], f, Geometry::BLOCKS);
+        if s < Geometry::BLOCKS {
+            row[s] = b;
+        }
+    }
+    row
+}
+
+// The block that is sequence s of file f, from its blocks; a sequence that no row has is looked for in the map.
+pub fn nth_block(map: &[u32; 480], row: &[usize; 480], f: usize, s: usize) -> usize
+    requires { ⌜ PartsAt (now row) (now map) f ⌝ }
+    ensures { λ r. ⌜ r ≡ lowest (λ (b : ℕ). isPart f s (recordIn (now (map .entry)) b)) 480 ⌝ }
+{
+    if s < Geometry::BLOCKS {
+        return row[s];
+    }
+    part_block(map, f, s)
+}

@@ -1,0 +1,71 @@
+//! Progress is shown at a terminal, and only there.
+
+use crate::bench::{tell, Bench, Ended};
+
+/// Back to the start of the line, and wipe it.
+const WIPE: &str = "\r\x1b[K";
+
+/// What a terminal gets of a shell line, where `script` is there to make one.
+fn at_a_terminal(bench: &Bench, line: &str) -> Option<String> {
+    let mut command = bench.shell();
+    command.arg("script -qec \"$0\" /dev/null").arg(line);
+    let ended = Ended::from(command.output().unwrap());
+    if ended.status == Some(127) {
+        tell("progress: script is not installed, NOT RUN at a terminal");
+        return None;
+    }
+    assert_eq!((ended.status, ended.err.as_str()), (Some(0), ""), "{line}");
+    Some(ended.out)
+}
+
+fn bench() -> Bench {
+    let bench = Bench::with_disk();
+    bench.write("data", b"data");
+    bench.quiet("put disk.img one data");
+    bench.quiet("pack disk.img disk.hfe");
+    bench
+}
+
+#[test]
+fn shown_and_wiped() {
+    let bench = bench();
+    for (line, steps) in [
+        (
+            "dheg check disk.img disk.img",
+            &["1/2 disk.img", "2/2 disk.img"][..],
+        ),
+        ("dheg unpack disk.hfe out.img", &["unpacking disk.hfe"]),
+        (
+            "dheg edit disk.hfe disk.hfe -- rm one put two data",
+            &[
+                "unpacking disk.hfe",
+                "removing one",
+                "adding data",
+                "packing disk.hfe",
+            ],
+        ),
+    ] {
+        let Some(out) = at_a_terminal(&bench, line) else {
+            return;
+        };
+        let mut rest = out.as_str();
+        for step in steps {
+            let shown = format!("{WIPE}{step}");
+            let found = rest.find(&shown);
+            let at = found.unwrap_or_else(|| panic!("{line}: no {step} in {out:?}"));
+            rest = &rest[at + shown.len()..];
+        }
+        assert!(out.ends_with(WIPE), "{line}: {out:?}");
+    }
+}
+
+#[test]
+fn not_where_standard_error_is_a_file() {
+    let bench = bench();
+    let line = "dheg edit disk.hfe out.hfe -- rm one 2>err; dheg check disk.img 2>>err";
+    let Some(out) = at_a_terminal(&bench, line) else {
+        return;
+    };
+    assert_eq!(out, "disk.img: sound\r\n");
+    assert_eq!(bench.read("err"), b"");
+}

@@ -1,0 +1,49 @@
+//! Map records and their bytes.
+
+use reference::layout::record::Record;
+
+#[test]
+fn stated_record() {
+    let record = Record::File {
+        file: 0x2A5,
+        sequence: 0x013,
+    };
+    assert_eq!(Record::read([0x2A, 0x50, 0x13]), Some(record));
+    assert_eq!(record.bytes(), [0x2A, 0x50, 0x13]);
+}
+
+#[test]
+fn kinds_of_record() {
+    assert_eq!(Record::read([0xFD, 0xFF, 0xFF]), Some(Record::Free));
+    assert_eq!(Record::read([0xF8, 0, 0]), Some(Record::System));
+    for none in [
+        [0xF8, 0x00, 0x01],
+        [0xF8, 0x01, 0x00],
+        [0xF9, 0x00, 0x00],
+        [0xFD, 0xFF, 0xFE],
+        [0xFD, 0x00, 0x00],
+        [0xFC, 0xFF, 0xFF],
+        [0xFE, 0xFF, 0xFF],
+        [0xFF, 0xFF, 0xFF],
+    ] {
+        assert_eq!(Record::read(none), None, "{none:02X?}");
+    }
+    let highest = Record::File {
+        file: 0xF7F,
+        sequence: 0xFFF,
+    };
+    assert_eq!(Record::read([0xF7, 0xFF, 0xFF]), Some(highest));
+}
+
+#[test]
+fn bytes_and_back() {
+    for file in [0, 1, 0x00F, 0x010, 0x123, 0xF7F] {
+        for sequence in [0, 1, 0x0FF, 0x100, 0xABC, 0xFFF] {
+            let record = Record::File { file, sequence };
+            assert_eq!(Record::read(record.bytes()), Some(record));
+        }
+    }
+    for record in [Record::Free, Record::System] {
+        assert_eq!(Record::read(record.bytes()), Some(record));
+    }
+}

@@ -1,0 +1,35 @@
+//! Every call on one image.
+
+use super::answer::{add, check, first_track, list, read, remove, Parts};
+use reference::geometry::TRACK_LEN;
+
+/// Makes every call on the image, add and remove on copies of it, and gives
+/// what check says. What check refuses, list, read, add and remove refuse
+/// alike: they judge the same first.
+pub fn all_calls(image: &[u8], name: &[u8]) -> Parts {
+    let checked = check(image);
+    first_track(&image[..image.len().min(TRACK_LEN)]);
+    let replies = [
+        into_buffers(|buffer| list(image, buffer)),
+        into_buffers(|buffer| read(image, name, buffer)),
+        add(&mut image.to_vec(), b"new file", 0x0A0B_0C0D, &[0x3C; 3000]),
+        add(&mut image.to_vec(), name, 1, &[]),
+        remove(&mut image.to_vec(), name),
+    ];
+    if checked[0] != 0 {
+        assert_eq!(replies, [checked; 5]);
+    }
+    checked
+}
+
+/// The reply with a short buffer. Where it is too short one that is exactly
+/// as long as needed is tried, and one with a byte less.
+fn into_buffers(call: impl Fn(&[u8]) -> (Parts, Vec<u8>)) -> Parts {
+    let (reply, _) = call(&[0xAA; 100]);
+    if reply[0] == 16 {
+        let needed = reply[1];
+        assert_eq!(call(&vec![0xAB; needed]).0, [0, needed, 0, 0]);
+        assert_eq!(call(&vec![0xAC; needed - 1]).0, reply);
+    }
+    reply
+}

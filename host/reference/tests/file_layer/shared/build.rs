@@ -1,0 +1,120 @@
+//! Disks for the tests, and changes to them by block and offset.
+
+use reference::geometry::BLOCKS;
+use reference::geometry::IMAGE_LEN;
+use reference::{add, format, place, Reply};
+
+/// An empty disk.
+pub fn fresh() -> Vec<u8> {
+    let mut image = vec![0; IMAGE_LEN];
+    assert_eq!(format(&mut image, b"DISK", 7), Reply::DONE);
+    image
+}
+
+/// A disk with files `f1` (0 bytes), `f2` (1,500) and `f3` (5,000). The
+/// directory has block 1, the files have 2, then 3 and 4, then 5 to 8.
+pub fn three_files() -> Vec<u8> {
+    let mut image = fresh();
+    for (name, len) in [(b"f1", 0), (b"f2", 1500), (b"f3", 5000)] {
+        let reply = add(&mut image, name, 0x0102_0304, &vec![name[1]; len]);
+        assert_eq!(reply, Reply::DONE);
+    }
+    image
+}
+
+/// Where a byte of a block stands in the image.
+fn at(block: usize, offset: usize) -> usize {
+    512 * place(block, offset / 512).first + offset % 512
+}
+
+/// Lays bytes over a block.
+pub fn patch(image: &mut [u8], block: usize, offset: usize, bytes: &[u8]) {
+    for (index, byte) in bytes.iter().enumerate() {
+        image[at(block, offset + index)] = *byte;
+    }
+}
+
+/// Bytes of a block.
+pub fn peek(image: &[u8], block: usize, offset: usize, count: usize) -> Vec<u8> {
+    (offset..offset + count)
+        .map(|offset| image[at(block, offset)])
+        .collect()
+}
+
+/// A word of the disk header.
+pub fn word(image: &[u8], offset: usize) -> usize {
+    let bytes = peek(image, 0, offset, 2);
+    usize::from(bytes[0]) * 256 + usize::from(bytes[1])
+}
+
+/// Sets a word of the disk header.
+pub fn set_word(image: &mut [u8], offset: usize, word: usize) {
+    patch(image, 0, offset, &(word as u16).to_be_bytes());
+}
+
+pub const FREE: [u8; 3] = [0xFD, 0xFF, 0xFF];
+
+/// The bytes of a record of a file.
+pub fn record(file: usize, sequence: usize) -> [u8; 3] {
+    let bits = (file << 12 | sequence) as u32;
+    let [_, first, second, third] = bits.to_be_bytes();
+    [first, second, third]
+}
+
+/// Sets the map record of a block.
+pub fn set_record(image: &mut [u8], block: usize, bytes: [u8; 3]) {
+    patch(image, 0, 96 + 3 * block, &bytes);
+}
+
+/// The bytes of a map record.
+pub fn record_of(image: &[u8], block: usize) -> Vec<u8> {
+    peek(image, 0, 96 + 3 * block, 3)
+}
+
+/// Sets the free word to what the map says.
+pub fn count_free(image: &mut [u8]) {
+    let free = (0..BLOCKS).filter(|&block| record_of(image, block) == FREE);
+    let free = free.count();
+    set_word(image, 20, 3 * free);
+}
+
+/// The bytes of an entry.
+pub fn entry(len: u32, name_len: u16, name: &[u8]) -> [u8; 64] {
+    let mut bytes = [0; 64];
+    bytes[0..4].copy_from_slice(&len.to_be_bytes());
+    bytes[14..16].copy_from_slice(&name_len.to_be_bytes());
+    bytes[16..16 + name.len()].copy_from_slice(name);
+    bytes
+}
+
+/// A disk whose directory has the blocks from 1 on, all slots vacant.
+pub fn long_directory(blocks: usize) -> Vec<u8> {
+    let mut image = fresh();
+    for sequence in 0..blocks {
+        set_record(&mut image, 1 + sequence, record(0, sequence));
+    }
+    set_word(&mut image, 34, blocks);
+    set_word(&mut image, 36, 0);
+    count_free(&mut image);
+    image
+}
+
+/// A directory of two blocks, 300 before 20, with a file in slots 1 and 24;
+/// the file in slot 24 has its blocks in backward order.
+pub fn scattered() -> Vec<u8> {
+    let mut image = fresh();
+    set_record(&mut image, 1, FREE);
+    set_record(&mut image, 300, record(0, 0));
+    set_record(&mut image, 20, record(0, 1));
+    set_word(&mut image, 34, 1);
+    set_word(&mut image, 36, 64);
+    patch(&mut image, 300, 64, &entry(64, 1, b"a"));
+    set_record(&mut image, 479, record(1, 0));
+    patch(&mut image, 20, 0, &entry(64 + 3000, 1, b"b"));
+    set_record(&mut image, 31, record(24, 0));
+    set_record(&mut image, 30, record(24, 1));
+    patch(&mut image, 31, 0, &[1; 1536]);
+    patch(&mut image, 30, 0, &[2; 1536]);
+    count_free(&mut image);
+    image
+}

@@ -1,0 +1,66 @@
+//! Corrupted block images with the answers of an independent program.
+
+use super::answer::{add, check, first_track, first_track_text, list, read, remove, Parts};
+use super::build::fresh;
+use super::call::Call;
+use reference::geometry::TRACK_LEN;
+use support::cases::{expected_reply, lay_patches, Outside};
+use support::hex::from_hex;
+use support::json::Value;
+use support::noise::noise;
+use support::sha256::sha256_hex;
+
+const CASES: Outside = Outside {
+    lines: include_str!("../../data/corrupted.jsonl"),
+    count: 200,
+};
+
+/// The image of the case: a format, its calls, then its patches.
+fn corrupted_image(case: &Value) -> Vec<u8> {
+    let mut image = fresh();
+    for call in case.get("calls").list() {
+        Call::from_json(call).on_image(&mut image);
+    }
+    lay_patches(case, &mut image);
+    image
+}
+
+/// Compares a reply and the lent bytes afterwards with the case's.
+fn compare(case: &Value, call: &str, reply: Parts, hash: &str, lent: &[u8]) {
+    assert_eq!(reply, *expected_reply(case.get(call)), "{call}");
+    assert_eq!(sha256_hex(lent), case.get(hash).text(), "{call}");
+}
+
+fn run(case: &Value) {
+    let image = corrupted_image(case);
+    let name = from_hex(case.get("name").text());
+    assert_eq!(check(&image), *expected_reply(case.get("check")));
+
+    let (reply, buffer) = list(&image, &[0xAA; 4000]);
+    compare(case, "list", reply, "list_buffer", &buffer);
+
+    let (reply, buffer) = read(&image, &name, &[0xAA; 6000]);
+    compare(case, "read", reply, "read_buffer", &buffer);
+
+    let mut changed = image.clone();
+    let reply = add(&mut changed, b"new", 1, &noise(1, 3000));
+    compare(case, "add", reply, "add_image", &changed);
+
+    let mut changed = image.clone();
+    let reply = remove(&mut changed, &name);
+    compare(case, "remove", reply, "remove_image", &changed);
+
+    let track = &image[..TRACK_LEN];
+    first_track(track);
+    assert_eq!(first_track_text(track), case.get("first_track").text());
+}
+
+#[test]
+fn even_cases() {
+    CASES.run(0, 2, run);
+}
+
+#[test]
+fn odd_cases() {
+    CASES.run(1, 2, run);
+}

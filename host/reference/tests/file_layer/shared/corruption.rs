@@ -1,0 +1,100 @@
+//! Disks with random faults, and images of random bytes.
+
+use super::all_calls::all_calls;
+use super::answer::cases;
+use super::build::{
+    count_free, fresh, patch, record, scattered, set_record, set_word, three_files,
+};
+use reference::geometry::IMAGE_LEN;
+use std::collections::BTreeMap;
+use support::noise::{noise, Generator};
+
+/// A disk with some files, some of them removed again.
+fn random_disk(generator: &mut Generator) -> Vec<u8> {
+    match generator.below(4) {
+        0 => return three_files(),
+        1 => return scattered(),
+        _ => (),
+    }
+    let mut image = fresh();
+    for index in 0..generator.below(30) {
+        let name = [b'f', index as u8];
+        let data = noise(index as u32, generator.below(6000));
+        reference::add(&mut image, &name, 1, &data);
+    }
+    for _ in 0..generator.below(5) {
+        reference::remove(&mut image, &[b'f', generator.below(30) as u8]);
+    }
+    image
+}
+
+/// Changes header, map or a slot somewhere.
+fn corrupt(generator: &mut Generator, image: &mut [u8]) {
+    let block = generator.below(40) * (1 + 11 * generator.below(2));
+    let slot = 64 * generator.below(24);
+    match generator.below(12) {
+        0 => image[generator.below(96)] ^= 1 << generator.below(8),
+        1 => set_word(image, 34, generator.below(4)),
+        2 => set_word(image, 36, 64 * generator.below(26)),
+        3 => set_record(image, block, [0xFD, 0xFF, 0xFF]),
+        4 => {
+            let bytes = [generator.byte(), generator.byte(), generator.byte()];
+            set_record(image, block, bytes);
+        }
+        5..=7 => {
+            let (file, sequence) = (generator.below(26), generator.below(5));
+            set_record(image, block, record(file, sequence));
+        }
+        8 => patch(image, 1, slot + generator.below(64), &[generator.byte()]),
+        9 => patch(image, 1, slot, &[0; 64]),
+        10 => {
+            let len = generator.below(5000) as u32;
+            patch(image, 1, slot, &len.to_be_bytes());
+        }
+        _ => patch(image, 1, slot + 14, &[0, generator.below(40) as u8]),
+    }
+}
+
+#[test]
+fn random_faults() {
+    let mut generator = Generator::new(91);
+    let mut numbers = BTreeMap::new();
+    for case in 0..cases(250) {
+        let mut image = random_disk(&mut generator);
+        for _ in 0..generator.below(4) {
+            corrupt(&mut generator, &mut image);
+        }
+        match generator.below(8) {
+            0 => set_word(&mut image, 20, generator.below(1500)),
+            1 => (),
+            _ => count_free(&mut image),
+        }
+        let name = [b'f', generator.below(20) as u8];
+        println!("case {case}");
+        let [number, ..] = all_calls(&image, &name);
+        *numbers.entry(number).or_insert(0) += 1;
+    }
+    println!("numbers given: {numbers:?}");
+}
+
+#[test]
+fn random_images() {
+    for case in 0..cases(20) {
+        let mut image = noise(case, IMAGE_LEN);
+        assert_eq!(all_calls(&image, b"f1"), [8, 0, 0, 0]);
+        // A good header, then a good map as well.
+        image[..96].copy_from_slice(&three_files()[..96]);
+        all_calls(&image, b"f1");
+        for block in 0..480 {
+            let bytes = if block == 0 {
+                [0xF8, 0, 0]
+            } else {
+                [0xFD, 0xFF, 0xFF]
+            };
+            set_record(&mut image, block, bytes);
+        }
+        set_record(&mut image, 1 + case as usize, record(0, 0));
+        count_free(&mut image);
+        all_calls(&image, b"f1");
+    }
+}

@@ -1,0 +1,25 @@
+//! Tests of the file layer for whoever answers the calls: the module `answer`
+//! beside this one. With the reference they are part of its own tests; in
+//! `dhegluubin/tests/agreement` library, reference and program answer.
+
+use super::answer;
+
+pub mod all_calls;
+pub mod build;
+mod call;
+mod calls;
+mod changes;
+mod corrupted;
+mod corruption;
+mod directory;
+mod disk;
+mod disk_header;
+mod first_track;
+mod foreign;
+mod format;
+mod growth;
+mod histories;
+mod map;
+mod random_histories;
+mod secrets;
+mod values;

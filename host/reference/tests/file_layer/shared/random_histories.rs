@@ -1,0 +1,237 @@
+//! Random histories: the calls on an image, the book, and demand 3's own
+//! count.
+
+use super::answer::cases;
+use super::call::Call;
+use super::disk::Disk;
+use reference::book::Book;
+use std::collections::{BTreeMap, BTreeSet};
+use support::noise::{noise, Generator};
+
+/// What a history is made of.
+struct Kind {
+    /// How many different names there are.
+    names: usize,
+    /// Data lengths are one of these or one less or more.
+    lengths: &'static [usize],
+    /// Of 100 calls, so many are adds and so many removes.
+    adds: usize,
+    removes: usize,
+    calls: usize,
+}
+
+/// Few files, all calls.
+const FEW: Kind = Kind {
+    names: 6,
+    lengths: &[1, 100, 1472, 3008, 5000],
+    adds: 40,
+    removes: 20,
+    calls: 60,
+};
+
+/// The disk is full of long files.
+const LONG: Kind = Kind {
+    names: 12,
+    lengths: &[1, 1472, 60_000, 150_000, 300_000],
+    adds: 55,
+    removes: 25,
+    calls: 80,
+};
+
+/// The directory grows and its slots are used again.
+const GROWING: Kind = Kind {
+    names: 80,
+    lengths: &[1, 1472],
+    adds: 65,
+    removes: 25,
+    calls: 200,
+};
+
+/// Many files until the disk is full.
+const MANY: Kind = Kind {
+    names: 600,
+    lengths: &[1, 1472, 1473, 3000],
+    adds: 94,
+    removes: 3,
+    calls: 500,
+};
+
+/// Almost only removes and reads of what is not there.
+const REFUSED: Kind = Kind {
+    names: 4,
+    lengths: &[500],
+    adds: 15,
+    removes: 45,
+    calls: 40,
+};
+
+impl Kind {
+    /// A name of the kind; now and then one of a wrong or extreme length.
+    fn name(&self, generator: &mut Generator) -> Vec<u8> {
+        let index = generator.below(self.names);
+        match generator.below(40) {
+            0 => Vec::new(),
+            1 => vec![b'n'; 37 + index],
+            2 => vec![index as u8; 36],
+            _ => format!("name {index}").into_bytes(),
+        }
+    }
+
+    /// A buffer of a fitting length, or a short one.
+    fn buffer(&self, generator: &mut Generator) -> Vec<u8> {
+        let longest = self.lengths[self.lengths.len() - 1];
+        let lengths = [0, 64, 128, longest - 1, longest, longest + 1, 40_000];
+        vec![generator.byte(); *generator.choice(&lengths)]
+    }
+
+    fn call(&self, generator: &mut Generator) -> Call {
+        let name = self.name(generator);
+        let kind = generator.below(100);
+        if kind < self.adds {
+            let len = generator.choice(self.lengths) - 1 + generator.below(3);
+            Call::Add {
+                name,
+                date: generator.below(1 << 24) as u32 * 251,
+                data: noise(generator.below(1 << 24) as u32, len),
+            }
+        } else if kind < self.adds + self.removes {
+            Call::Remove { name }
+        } else if generator.below(2) == 0 {
+            let buffer = self.buffer(generator);
+            Call::Read { name, buffer }
+        } else {
+            let buffer = self.buffer(generator);
+            Call::List { buffer }
+        }
+    }
+}
+
+/// The files that accepted calls leave, how many there were at most, and how
+/// many were added.
+#[derive(Default)]
+struct Present {
+    files: BTreeMap<Vec<u8>, (u32, Vec<u8>)>,
+    most: usize,
+    added: usize,
+}
+
+impl Present {
+    fn accept(&mut self, call: &Call) {
+        match call {
+            Call::Add { name, date, data } => {
+                self.files.insert(name.clone(), (*date, data.clone()));
+                self.added += 1;
+            }
+            Call::Remove { name } => {
+                self.files.remove(name);
+            }
+            _ => (),
+        }
+        self.most = self.most.max(self.files.len());
+    }
+
+    fn free_word(&self) -> usize {
+        let blocks = self
+            .files
+            .values()
+            .map(|(_, data)| (64 + data.len()).div_ceil(1536));
+        3 * (479 - (1 + self.most / 24) - blocks.sum::<usize>())
+    }
+
+    fn assert_same_files(&self, book: &Book) {
+        assert_eq!(book.files().count(), self.files.len());
+        for (_, file) in book.files() {
+            let (date, data) = &self.files[&file.name];
+            assert!(file.date == *date && file.data == *data);
+        }
+    }
+}
+
+/// What the histories of a kind came to, all taken together.
+#[derive(Default)]
+struct Shown {
+    /// Numbers of replies.
+    numbers: BTreeSet<usize>,
+    /// Most slots of a directory.
+    slots: usize,
+    /// Most adds of a history that took a slot for the second time or later.
+    again: usize,
+    /// Whether there were as many as usual.
+    enough: bool,
+}
+
+impl Shown {
+    /// Runs the usual number of histories, or as many as are asked for.
+    fn of(kind: &Kind, usual: u32, seed: u32) -> Shown {
+        let mut shown = Shown::default();
+        let runs = cases(usual);
+        for case in 0..runs {
+            shown.run(kind, 1000 * case + seed);
+        }
+        shown.enough = runs >= usual;
+        shown
+    }
+
+    fn run(&mut self, kind: &Kind, seed: u32) {
+        println!("seed {seed}");
+        let mut generator = Generator::new(seed);
+        let name = &b"random dsk"[..generator.below(11)];
+        let mut disk = Disk::formatted(name, generator.below(65_536) as u16, seed);
+        let mut present = Present::default();
+        for index in 0..kind.calls {
+            let call = kind.call(&mut generator);
+            let answer = call.on_image(&mut disk.image);
+            assert!(answer == call.in_book(&mut disk.book), "call {index}");
+            self.numbers.insert(answer.0[0]);
+            if answer.0[0] == 0 {
+                present.accept(&call);
+            }
+            assert_eq!(disk.free(), present.free_word());
+            if index % 16 == 0 {
+                disk.assert_is_the_books();
+            }
+        }
+        disk.assert_is_the_books();
+        present.assert_same_files(&disk.book);
+        self.slots = self.slots.max(disk.slots());
+        self.again = self.again.max(present.added - (disk.slots() - 1));
+    }
+
+    /// Asserts that these numbers were given, that a directory had so many
+    /// blocks and that so many slots were taken again. Too few histories need
+    /// not show all that.
+    fn assert(&self, numbers: &[usize], blocks: usize, again: usize) {
+        let Shown { slots, .. } = self;
+        println!("{:?}, {slots} slots, {} again", self.numbers, self.again);
+        if self.enough {
+            assert!(numbers.iter().all(|number| self.numbers.contains(number)));
+            assert!(slots.div_ceil(24) >= blocks);
+            assert!(self.again >= again);
+        }
+    }
+}
+
+#[test]
+fn few_files() {
+    Shown::of(&FEW, 6, 0).assert(&[0, 12, 13, 14, 16], 1, 5);
+}
+
+#[test]
+fn long_files() {
+    Shown::of(&LONG, 4, 1).assert(&[0, 12, 13, 14, 15, 16], 1, 5);
+}
+
+#[test]
+fn growing_directory() {
+    Shown::of(&GROWING, 3, 2).assert(&[0, 12, 13, 14, 16], 3, 5);
+}
+
+#[test]
+fn many_files() {
+    Shown::of(&MANY, 2, 3).assert(&[0, 12, 13, 14, 15, 16], 10, 1);
+}
+
+#[test]
+fn mostly_refused() {
+    Shown::of(&REFUSED, 4, 4).assert(&[0, 12, 13, 14, 16], 1, 1);
+}

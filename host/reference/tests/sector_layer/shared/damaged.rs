@@ -1,0 +1,56 @@
+//! Damaged HFE images with the answers of an independent program.
+
+use super::answer::{pack_into, unpack_into};
+use super::build::pattern;
+use reference::geometry::IMAGE_LEN;
+use reference::pack::HFE_LEN;
+use support::cases::{expected_reply, lay_patches, Outside};
+use support::json::Value;
+use support::noise::noise;
+use support::sha256::sha256_hex;
+
+const CASES: Outside = Outside {
+    lines: include_str!("../../data/damaged.jsonl"),
+    count: 120,
+};
+
+/// The noise image of the case, packed.
+fn packed(case: &Value) -> Vec<u8> {
+    let seed = case.get("image").number() as u32;
+    let (reply, hfe) = pack_into(&noise(seed, IMAGE_LEN), &vec![0x55; HFE_LEN]);
+    assert_eq!(reply, [0; 4]);
+    assert_eq!(sha256_hex(&hfe), case.get("hfe").text());
+    hfe
+}
+
+fn run(case: &Value) {
+    let mut hfe = packed(case);
+    lay_patches(case, &mut hfe);
+    hfe.truncate(case.get("length").size());
+    let (reply, image) = unpack_into(&hfe, pattern());
+    assert_eq!(reply, *expected_reply(case.get("unpack")));
+    match case.get("unpacked") {
+        Value::Null => assert!(image == pattern()),
+        hash => assert_eq!(sha256_hex(&image), hash.text()),
+    }
+}
+
+#[test]
+fn cases_from_0() {
+    CASES.run(0, 4, run);
+}
+
+#[test]
+fn cases_from_1() {
+    CASES.run(1, 4, run);
+}
+
+#[test]
+fn cases_from_2() {
+    CASES.run(2, 4, run);
+}
+
+#[test]
+fn cases_from_3() {
+    CASES.run(3, 4, run);
+}

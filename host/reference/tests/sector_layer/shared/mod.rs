@@ -1,0 +1,16 @@
+//! Tests of the sector layer for whoever answers the calls: the module
+//! `answer` beside this one. With the reference they are part of its own
+//! tests; in `dhegluubin/tests/agreement` library and reference answer.
+
+use super::answer;
+
+pub mod build;
+mod damaged;
+mod mame;
+mod moved_tracks;
+mod placement;
+mod refusals;
+mod sectors;
+mod sizes;
+pub mod spoil;
+mod track_table;
