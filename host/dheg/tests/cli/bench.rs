@@ -67,6 +67,16 @@ impl Bench {
         bench
     }
 
+    /// A bench with the file `data`, which the disk `disk.img` has as `one`,
+    /// and that disk as `disk.hfe`.
+    pub fn with_file() -> Bench {
+        let bench = Bench::with_disk();
+        bench.write("data", b"data");
+        bench.quiet("put disk.img one data");
+        bench.quiet("pack disk.img disk.hfe");
+        bench
+    }
+
     /// The tool, to be run in the folder.
     pub fn command(&self) -> Command {
         let mut command = Command::new(env!("CARGO_BIN_EXE_dheg"));

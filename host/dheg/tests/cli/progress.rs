@@ -18,17 +18,9 @@ fn at_a_terminal(bench: &Bench, line: &str) -> Option<String> {
     Some(ended.out)
 }
 
-fn bench() -> Bench {
-    let bench = Bench::with_disk();
-    bench.write("data", b"data");
-    bench.quiet("put disk.img one data");
-    bench.quiet("pack disk.img disk.hfe");
-    bench
-}
-
 #[test]
 fn shown_and_wiped() {
-    let bench = bench();
+    let bench = Bench::with_file();
     for (line, steps) in [
         (
             "dheg check disk.img disk.img",
@@ -61,7 +53,7 @@ fn shown_and_wiped() {
 
 #[test]
 fn not_where_standard_error_is_a_file() {
-    let bench = bench();
+    let bench = Bench::with_file();
     let line = "dheg edit disk.hfe out.hfe -- rm one 2>err; dheg check disk.img 2>>err";
     let Some(out) = at_a_terminal(&bench, line) else {
         return;

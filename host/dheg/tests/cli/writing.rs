@@ -4,17 +4,9 @@ use crate::bench::{Bench, Ended};
 
 const MISSING: &str = "No such file or directory (os error 2)";
 
-fn bench() -> Bench {
-    let bench = Bench::with_disk();
-    bench.write("data", b"data");
-    bench.quiet("put disk.img one data");
-    bench.quiet("pack disk.img disk.hfe");
-    bench
-}
-
 #[test]
 fn folder_that_does_not_exist() {
-    let bench = bench();
+    let bench = Bench::with_file();
     for line in [
         "unpack disk.hfe none/out",
         "pack disk.img none/out",
@@ -29,7 +21,7 @@ fn folder_that_does_not_exist() {
 
 #[test]
 fn inputs_that_do_not_exist() {
-    let bench = bench();
+    let bench = Bench::with_file();
     for line in [
         "unpack none out",
         "pack none out",
@@ -48,7 +40,7 @@ fn inputs_that_do_not_exist() {
 
 #[test]
 fn folders_instead_of_files() {
-    let bench = bench();
+    let bench = Bench::with_file();
     std::fs::create_dir(bench.path("folder")).unwrap();
     for line in ["check folder", "unpack folder out", "put folder one data"] {
         let ended = bench.line(line);
@@ -65,7 +57,7 @@ fn folders_instead_of_files() {
 
 #[test]
 fn no_temporary_file_stays() {
-    let bench = bench();
+    let bench = Bench::with_file();
     let names =
         |bench: &Bench| -> Vec<String> { bench.all().into_iter().map(|(name, _)| name).collect() };
     let before = names(&bench);
@@ -86,7 +78,7 @@ mod unix {
 
     #[test]
     fn write_protected_images_stay() {
-        let bench = bench();
+        let bench = Bench::with_file();
         fs::set_permissions(bench.path("disk.img"), Permissions::from_mode(0o444)).unwrap();
         for line in ["rm disk.img one", "put disk.img two data"] {
             bench.fails(line, 3, "disk.img: is write-protected");
@@ -96,14 +88,14 @@ mod unix {
     #[test]
     fn a_rename_that_fails_leaves_nothing() {
         // A file cannot have a name that ends as a folder's.
-        let bench = bench();
+        let bench = Bench::with_file();
         let words = "new.hfe/: Not a directory (os error 20)";
         bench.fails("pack disk.img new.hfe/", 3, words);
     }
 
     #[test]
     fn permissions_are_kept() {
-        let bench = bench();
+        let bench = Bench::with_file();
         fs::set_permissions(bench.path("disk.img"), Permissions::from_mode(0o640)).unwrap();
         bench.quiet("rm disk.img one");
         let mode = fs::metadata(bench.path("disk.img")).unwrap().permissions();
@@ -112,7 +104,7 @@ mod unix {
 
     #[test]
     fn links_stay_links() {
-        let bench = bench();
+        let bench = Bench::with_file();
         symlink("disk.img", bench.path("link.img")).unwrap();
         bench.quiet("rm link.img one");
         assert!(bench.path("link.img").is_symlink());
@@ -126,14 +118,14 @@ mod unix {
 
     #[test]
     fn devices_are_written_directly() {
-        let bench = bench();
+        let bench = Bench::with_file();
         let ended = bench.line("get disk.img one /dev/stdout");
         assert_eq!(ended, Ended::new(0, "data", ""));
     }
 
     #[test]
     fn standard_output_that_fails() {
-        let bench = bench();
+        let bench = Bench::with_file();
         for args in [
             vec!["--help"],
             vec!["ls", "disk.img"],

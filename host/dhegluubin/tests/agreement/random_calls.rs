@@ -11,6 +11,23 @@ use std::collections::BTreeMap;
 use support::cases::cases;
 use support::noise::{noise, Generator};
 
+/// How many calls are usually made.
+const USUAL: u32 = 1500;
+
+/// All that are made.
+const CALLS: [&str; 10] = [
+    "unpack",
+    "pack",
+    "place",
+    "format",
+    "check",
+    "list",
+    "read",
+    "add",
+    "remove",
+    "first_track",
+];
+
 /// A length at or about an interesting one, or any below 2^21.
 fn random_len(generator: &mut Generator) -> usize {
     let lens = [
@@ -182,8 +199,8 @@ fn random_calls() {
     let mut disk = noise(1, IMAGE_LEN);
     files::format(&mut disk, b"RANDOM", 1);
     let track = sides(&packed(), 0);
-    let mut counts = BTreeMap::new();
-    for case in 0..cases(1500) {
+    let mut counts: BTreeMap<Made, u32> = BTreeMap::new();
+    for case in 0..cases(USUAL) {
         if case % 100 == 0 {
             println!("call {case}");
         }
@@ -196,4 +213,19 @@ fn random_calls() {
         *counts.entry(made).or_insert(0) += 1;
     }
     println!("calls by name and number: {counts:?}");
+    if counts.values().sum::<u32>() >= USUAL {
+        assert_done_and_refused(&counts);
+    }
+}
+
+/// Asserts that each call was done and refused, but for unpacking: that is
+/// never tried on a whole good disk, which takes long.
+fn assert_done_and_refused(counts: &BTreeMap<Made, u32>) {
+    for call in CALLS {
+        let numbers = || counts.keys().filter(|made| made.0 == call);
+        let done = call == "unpack" || numbers().any(|made| made.1 == 0);
+        assert!(done, "{call} is never done");
+        let refused = numbers().any(|made| made.1 != 0);
+        assert!(refused, "{call} is never refused");
+    }
 }
