@@ -26,8 +26,29 @@ const HFE_BYTES: usize = UNIT * (FIRST_UNIT + TRACK_UNITS * Geometry::TRACKS);
 // What is not named is FF.
 const FILL: u8 = 0xFF;
 
-// The header up to the table offset; the rest is FF.
-const HEADER: [u8; 20] = *b"HXCPICFE\x00\x50\x02\x00\xFA\x00\x2C\x01\x07\xFF\x01\x00";
+// The header up to the table offset; the rest is FF. Tracks and sides are the disk kind's.
+const HEADER: [u8; 20] = [
+    b'H',
+    b'X',
+    b'C',
+    b'P',
+    b'I',
+    b'C',
+    b'F',
+    b'E',
+    0x00,
+    Geometry::TRACKS as u8,
+    Geometry::SIDES as u8,
+    0x00,
+    0xFA,
+    0x00,
+    0x2C,
+    0x01,
+    0x07,
+    0xFF,
+    0x01,
+    0x00,
+];
 
 // Byte k of the header.
 fn header_byte(k: usize) -> u8

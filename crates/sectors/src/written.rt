@@ -13,16 +13,37 @@ use cells::Item;
 
 const GAP: u8 = 0x4E;
 
-// The items of one sector: sync runs, header, gap and data field.
-const SECTOR_ITEMS: usize = FIELD_END + 84;
+// Where the parts of a side's lead end: gap, zeros, index marks, their byte, and the gap before the first sector.
+const INDEX_GAP: usize = 80;
 
-// Where a sector's data field begins, at its mark, and where it ends: mark, data and CRC.
-const FIELD_START: usize = 59;
+const INDEX_ZEROS: usize = INDEX_GAP + 12;
+
+const INDEX_MARKS: usize = INDEX_ZEROS + 3;
+
+const INDEX_END: usize = INDEX_MARKS + 1;
+
+const LEAD: usize = INDEX_END + 50;
+
+// Where the parts of a sector end, before its data field: zeros, sync marks, header with CRC, gap, zeros, sync marks.
+const ZEROS: usize = 12;
+
+const HEADER_START: usize = ZEROS + 3;
+
+const HEADER_END: usize = HEADER_START + 7;
+
+const GAP_END: usize = HEADER_END + 22;
+
+const FIELD_ZEROS: usize = GAP_END + 12;
+
+const FIELD_START: usize = FIELD_ZEROS + 3;
 
 // Where the CRC's high byte stands, counted from the mark.
 const HIGH_CRC: usize = 1 + Geometry::SECTOR_BYTES;
 
+// Where the data field ends: mark, data and CRC; then comes the gap to the next sector.
 const FIELD_END: usize = FIELD_START + 1 + Geometry::SECTOR_BYTES + 2;
+
+const SECTOR_ITEMS: usize = FIELD_END + 84;
 
 // Where sector R of a side begins in the block image.
 fn sector_start(t: usize, s: usize, r: usize) -> usize
@@ -77,19 +98,19 @@ fn header_item(t: usize, s: usize, r: usize, o: usize) -> Item
     requires { ⌜ (t < 80) × (s < 2) × (r ≤ 9) × (o < 59) ⌝ }
     ensures { λ x. ⌜ ((d : List ℕ) → x ≡ sectorItem t s r d o) ⌝ }
 {
-    if o < 12 {
+    if o < ZEROS {
         return Item::Plain(0);
     }
-    if o < 15 {
+    if o < HEADER_START {
         return Item::Sync;
     }
-    if o < 22 {
-        return Item::Plain(header_byte(t, s, r, o - 15));
+    if o < HEADER_END {
+        return Item::Plain(header_byte(t, s, r, o - HEADER_START));
     }
-    if o < 44 {
+    if o < GAP_END {
         return Item::Plain(GAP);
     }
-    if o < 56 {
+    if o < FIELD_ZEROS {
         return Item::Plain(0);
     }
     Item::Sync
@@ -114,16 +135,16 @@ fn lead_item(q: usize) -> Item
     requires { ⌜ q < 146 ⌝ }
     ensures { λ x. ⌜ ((image : List ℕ) (t s : ℕ) → x ≡ imageSide image t s q) ⌝ }
 {
-    if q < 80 {
+    if q < INDEX_GAP {
         return Item::Plain(GAP);
     }
-    if q < 92 {
+    if q < INDEX_ZEROS {
         return Item::Plain(0);
     }
-    if q < 95 {
+    if q < INDEX_MARKS {
         return Item::Index;
     }
-    if q < 96 {
+    if q < INDEX_END {
         return Item::Plain(0xFC);
     }
     Item::Plain(GAP)
@@ -134,10 +155,10 @@ fn side_item(image: &[u8], t: usize, s: usize, q: usize) -> Item
     requires { ⌜ (length (now image) ≡ imageBytes) × (t < 80) × (s < 2) ⌝ }
     ensures { λ x. ⌜ x ≡ imageSide (now (image .entry)) t s q ⌝ }
 {
-    if q < 146 {
+    if q < LEAD {
         return lead_item(q);
     }
-    let o = q - 146;
+    let o = q - LEAD;
     if o < Geometry::SECTORS * SECTOR_ITEMS {
         return sector_item(image, t, s, o / SECTOR_ITEMS + 1, o % SECTOR_ITEMS);
     }
