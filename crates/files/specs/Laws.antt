@@ -1,6 +1,6 @@
--- Laws of the definitions: what proofs cite. No public contract and no statement outside cites them. Verdict, Loaded, Slots, Sound, Delivered, Judged,
--- Fresh, Given, Steps and Stored also define what contracts of private functions cite: the tie of a verdict (verdictOf), of a table (Mapped, Located,
--- Marked, Gave) or of a part of a call to the definitions.
+-- Laws of the definitions: what proofs cite. No public contract and no statement outside cites them. Verdict, Loaded, Slots, Sound, Parts,
+-- Tally, Marks, Rows, Delivered, Judged, Fresh, Given, Steps and Stored also define what contracts of private functions cite: the tie of a verdict
+-- (verdictOf), of a table (Mapped, Located, Marked, Tallied, Named, Gave) or of a part of a call to the definitions.
 pub mod Disk
 pub mod Blocks
 pub mod Verdict
