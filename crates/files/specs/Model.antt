@@ -27,7 +27,7 @@ use Rattle.files.specs.Map.{isFree}
 use Rattle.files.specs.Sizes.{slotBytes, blockSlots}
 use Rattle.files.specs.Written.{headerByte, diskWith, storedByte, part, blocksFor}
 
--- ---- lines
+-- ---- slots: 01's lines of the book
 
 -- a file as it is given to add
 pub record NamedFile : Type 0 where
@@ -35,11 +35,11 @@ pub record NamedFile : Type 0 where
   pub date : ℕ
   pub content : List ℕ
 
--- a file, or none
-abbrev pub Line : Type 0
-Line = Option NamedFile
+-- what a slot holds: a file, or none
+abbrev pub HeldFile : Type 0
+HeldFile = Option NamedFile
 
--- a filled line: a file and its blocks, in sequence
+-- a filled slot: a file and its blocks, in sequence
 pub record Filled : Type 0 where
   pub file : NamedFile
   pub taken : List ℕ
@@ -53,13 +53,13 @@ pub record Model : Type 0 where
   pub updates : ℕ
   -- P: the greatest number of files present at once
   pub peak : ℕ
-  -- the lines from 1 up, by their number; line 0 stays empty
-  pub lines : ℕ → Option Filled
+  -- the slots from 1 up, by their number; slot 0 stays empty
+  pub slots : ℕ → Option Filled
   -- the directory's blocks, in sequence
   pub dir : List ℕ
 
--- a line's file, and its blocks
-unfoldable pub fileOf : Option Filled → Line
+-- a slot's file, and its blocks
+unfoldable pub fileOf : Option Filled → HeldFile
 fileOf none = none
 fileOf (some h) = some (h .file)
 
@@ -73,18 +73,18 @@ entryFrom x = entryFor (x .name) (x .date) (length (x .content))
 
 -- ---- the sizes of demand 3
 
--- the blocks of a line's file: (64 + length of data) / 1536, rounded up
-unfoldable pub lineBlocks : Line → ℕ
-lineBlocks none = 0
-lineBlocks (some x) = blocksFor (length (x .content))
+-- the blocks of a slot's file: (64 + length of data) / 1536, rounded up
+unfoldable pub heldBlocks : HeldFile → ℕ
+heldBlocks none = 0
+heldBlocks (some x) = blocksFor (length (x .content))
 
 -- how many files are present
 unfoldable pub presentIn : Model → ℕ
-presentIn m = count (suc (m .peak)) (λ (k : ℕ). isSome (fileOf (m .lines k)))
+presentIn m = count (suc (m .peak)) (λ (k : ℕ). isSome (fileOf (m .slots k)))
 
 -- S: the blocks of all files present
 unfoldable pub sizeIn : Model → ℕ
-sizeIn m = sum (suc (m .peak)) (λ (k : ℕ). lineBlocks (fileOf (m .lines k)))
+sizeIn m = sum (suc (m .peak)) (λ (k : ℕ). heldBlocks (fileOf (m .slots k)))
 
 -- D: 1 + P / 24, rounded down
 unfoldable pub dirBlocks : ℕ → ℕ
@@ -100,21 +100,21 @@ freeWord peak size = blockSectors * (usable - (dirBlocks peak + size))
 
 -- ---- the model's image
 
--- byte i of a line's slot, and of its file with the entry in front
-unfoldable pub slotOf : Line → ℕ → ℕ
+-- byte i of a slot, and of its file with the entry in front
+unfoldable pub slotOf : HeldFile → ℕ → ℕ
 slotOf none i = 0
 slotOf (some x) i = entryByte (entryFrom x) i
 
-unfoldable pub bytesOf : Line → ℕ → ℕ
+unfoldable pub bytesOf : HeldFile → ℕ → ℕ
 bytesOf none i = 0
 bytesOf (some x) i = storedByte (entryFrom x) (x .content) i
 
 -- byte o of block s of the directory: entries in their slots
-unfoldable pub dirByte : (ℕ → Line) → ℕ → ℕ → ℕ
+unfoldable pub dirByte : (ℕ → HeldFile) → ℕ → ℕ → ℕ
 dirByte entries s o = slotOf (entries (s * blockSlots + o / slotBytes)) (o % slotBytes)
 
 -- byte o of a block with this record, where the directory has these entries and the files are these
-unfoldable pub content : (ℕ → Line) → (ℕ → Line) → Record → ℕ → ℕ
+unfoldable pub content : (ℕ → HeldFile) → (ℕ → HeldFile) → Record → ℕ → ℕ
 content entries files Free o = 0
 content entries files System o = 0
 content entries files Other o = 0
@@ -131,14 +131,14 @@ unfoldable pub orRecord : ℕ → Option ℕ → Record → Record
 orRecord k none r = r
 orRecord k (some s) r = File k s
 
--- the record of block b by the lines below n: the line that has it, and its place there
-unfoldable pub lineRecord : (ℕ → Option Filled) → ℕ → ℕ → Record
-lineRecord lines zero b = Free
-lineRecord lines (suc k) b = orRecord k (position b 0 (takenBy (lines k))) (lineRecord lines k b)
+-- the record of block b by the slots below n: the slot that has it, and its place there
+unfoldable pub slotRecord : (ℕ → Option Filled) → ℕ → ℕ → Record
+slotRecord slots zero b = Free
+slotRecord slots (suc k) b = orRecord k (position b 0 (takenBy (slots k))) (slotRecord slots k b)
 
 -- the record of block b: block 0 is system, the directory is file 0
 unfoldable pub recordIn : (ℕ → Option Filled) → List ℕ → ℕ → ℕ → Record
-recordIn lines dir peak b = cond (eqb b 0) System (orRecord 0 (position b 0 dir) (lineRecord lines (suc peak) b))
+recordIn slots dir peak b = cond (eqb b 0) System (orRecord 0 (position b 0 dir) (slotRecord slots (suc peak) b))
 
 -- the header, with the free word by demand 3
 unfoldable pub modelHeader : Model → ℕ → ℕ
@@ -147,14 +147,14 @@ modelHeader m = headerByte (m .title) (m .number) (m .updates) (freeWord (m .pea
 -- the formatted disk with map and header, entries in their slots, files in their blocks
 unfoldable pub modelDisk : Model → Disk
 modelDisk m =
-    diskWith (modelHeader m) (recordIn (m .lines) (m .dir) (m .peak))
-    (content (λ (k : ℕ). fileOf (m .lines k)) (λ (k : ℕ). fileOf (m .lines k)))
+    diskWith (modelHeader m) (recordIn (m .slots) (m .dir) (m .peak))
+    (content (λ (k : ℕ). fileOf (m .slots k)) (λ (k : ℕ). fileOf (m .slots k)))
 
 -- ---- format
 
--- no lines, and block 1 for the directory
+-- no file, and block 1 for the directory
 unfoldable pub modelFormat : List ℕ → ℕ → Model
-modelFormat title number = record { title = title; number = number; updates = 0; peak = 0; lines = λ (k : ℕ). none; dir = 1 ∷ [] }
+modelFormat title number = record { title = title; number = number; updates = 0; peak = 0; slots = λ (k : ℕ). none; dir = 1 ∷ [] }
 
 -- ---- names and result buffers
 
@@ -169,47 +169,47 @@ resultOf bytes buf =
     (record { answer = reply 0 (length bytes) 0 0; buffer = bytes ++ drop (length bytes) buf })
     (record { answer = reply 16 (length bytes) 0 0; buffer = buf })
 
--- ---- which line
+-- ---- which slot
 
--- whether a line has the file of that name
-unfoldable pub named : List ℕ → Line → Bool
+-- whether a slot has the file of that name
+unfoldable pub named : List ℕ → HeldFile → Bool
 named name none = false
 named name (some x) = nameEq (x .name) name
 
--- the line with the file of that name, or the first past the peak
-unfoldable pub lineNamed : Model → List ℕ → ℕ
-lineNamed m name = lowest (λ (k : ℕ). named name (fileOf (m .lines k))) (suc (m .peak))
+-- the slot with the file of that name, or the first past the peak
+unfoldable pub slotNamed : Model → List ℕ → ℕ
+slotNamed m name = lowest (λ (k : ℕ). named name (fileOf (m .slots k))) (suc (m .peak))
 
--- the lowest empty line from 1 on
-unfoldable pub lineEmpty : Model → ℕ
-lineEmpty m = lowest (λ (k : ℕ). ltb 0 k && not (isSome (fileOf (m .lines k)))) (suc (m .peak))
+-- the lowest empty slot from 1 on
+unfoldable pub slotVacant : Model → ℕ
+slotVacant m = lowest (λ (k : ℕ). ltb 0 k && not (isSome (fileOf (m .slots k)))) (suc (m .peak))
 
 -- ---- list and read
 
 -- the 64 bytes of its entry
-unfoldable pub lineEntry : Line → List ℕ
-lineEntry none = []
-lineEntry (some x) = tab (entryByte (entryFrom x)) slotBytes
+unfoldable pub heldEntry : HeldFile → List ℕ
+heldEntry none = []
+heldEntry (some x) = tab (entryByte (entryFrom x)) slotBytes
 
--- the entries of the filled lines below n, in order
-unfoldable pub lineEntries : (ℕ → Line) → ℕ → List ℕ
-lineEntries lines zero = []
-lineEntries lines (suc n) = lineEntries lines n ++ lineEntry (lines n)
+-- the entries of the filled slots below n, in order
+unfoldable pub heldEntries : (ℕ → HeldFile) → ℕ → List ℕ
+heldEntries slots zero = []
+heldEntries slots (suc n) = heldEntries slots n ++ heldEntry (slots n)
 
 -- 16 or the entries
 unfoldable pub modelList : Model → List ℕ → Outcome
-modelList m buf = resultOf (lineEntries (λ (k : ℕ). fileOf (m .lines k)) (suc (m .peak))) buf
+modelList m buf = resultOf (heldEntries (λ (k : ℕ). fileOf (m .slots k)) (suc (m .peak))) buf
 
 -- its data
-unfoldable pub lineData : Line → List ℕ
-lineData none = []
-lineData (some x) = x .content
+unfoldable pub heldData : HeldFile → List ℕ
+heldData none = []
+heldData (some x) = x .content
 
--- 12, 14, 16 or the line's data
+-- 12, 14, 16 or the slot's data
 unfoldable pub modelRead : Model → List ℕ → List ℕ → Outcome
 modelRead m name buf =
     cond (acceptable name)
-    (cond (ltb (lineNamed m name) (suc (m .peak))) (resultOf (lineData (fileOf (m .lines (lineNamed m name)))) buf)
+    (cond (ltb (slotNamed m name) (suc (m .peak))) (resultOf (heldData (fileOf (m .slots (slotNamed m name)))) buf)
     (record { answer = refusal 14; buffer = buf }))
     (record { answer = refusal 12; buffer = buf })
 
@@ -227,17 +227,17 @@ peakThen m = max (m .peak) (suc (presentIn m))
 unfoldable pub fits : Model → NamedFile → Bool
 fits m x = leb (dirBlocks (peakThen m) + (sizeIn m + blocksFor (length (x .content)))) usable
 
--- whether no line and not the directory has block b
+-- whether no slot and not the directory has block b
 unfoldable pub freeIn : (ℕ → Option Filled) → List ℕ → ℕ → ℕ → Bool
-freeIn lines dir peak b = isFree (recordIn lines dir peak b)
+freeIn slots dir peak b = isFree (recordIn slots dir peak b)
 
 -- the directory's blocks once a file more is present: a new one is the lowest free
 unfoldable pub dirThen : Model → List ℕ
 dirThen m =
     cond (ltb (dirBlocks (m .peak)) (dirBlocks (peakThen m)))
-    (m .dir ++ firsts blocks 1 (freeIn (m .lines) (m .dir) (m .peak))) (m .dir)
+    (m .dir ++ firsts blocks 1 (freeIn (m .slots) (m .dir) (m .peak))) (m .dir)
 
--- line k is filled; the file's blocks are the lowest free, in sequence
+-- slot k is filled; the file's blocks are the lowest free, in sequence
 unfoldable pub fill : Model → ℕ → NamedFile → Model
 fill m k x =
     record {
@@ -245,13 +245,13 @@ fill m k x =
       number = m .number;
       updates = wrap (m .updates + 1);
       peak = peakThen m;
-      lines =
-          upd (m .lines) k
-          (some (record { file = x; taken = firsts blocks (blocksFor (length (x .content))) (freeIn (m .lines) (dirThen m) (m .peak)) }));
+      slots =
+          upd (m .slots) k
+          (some (record { file = x; taken = firsts blocks (blocksFor (length (x .content))) (freeIn (m .slots) (dirThen m) (m .peak)) }));
       dir = dirThen m;
     }
 
--- line k is emptied; the directory keeps its blocks
+-- slot k is emptied; the directory keeps its blocks
 unfoldable pub clear : Model → ℕ → Model
 clear m k =
     record {
@@ -259,7 +259,7 @@ clear m k =
       number = m .number;
       updates = wrap (m .updates + 1);
       peak = m .peak;
-      lines = upd (m .lines) k none;
+      slots = upd (m .slots) k none;
       dir = m .dir;
     }
 
@@ -268,18 +268,18 @@ pub record ModelChanged : Type 0 where
   pub answer : Reply
   pub model : Model
 
--- 12, 13 with the line, 15 or done
+-- 12, 13 with the slot, 15 or done
 unfoldable pub modelAdd : Model → NamedFile → ModelChanged
 modelAdd m x =
     cond (acceptable (x .name))
-    (cond (ltb (lineNamed m (x .name)) (suc (m .peak))) (record { answer = reply 13 (lineNamed m (x .name)) 0 0; model = m })
-    (cond (fits m x) (record { answer = done; model = fill m (lineEmpty m) x }) (record { answer = refusal 15; model = m })))
+    (cond (ltb (slotNamed m (x .name)) (suc (m .peak))) (record { answer = reply 13 (slotNamed m (x .name)) 0 0; model = m })
+    (cond (fits m x) (record { answer = done; model = fill m (slotVacant m) x }) (record { answer = refusal 15; model = m })))
     (record { answer = refusal 12; model = m })
 
 -- 12, 14 or done
 unfoldable pub modelRemove : Model → List ℕ → ModelChanged
 modelRemove m name =
     cond (acceptable name)
-    (cond (ltb (lineNamed m name) (suc (m .peak))) (record { answer = done; model = clear m (lineNamed m name) })
+    (cond (ltb (slotNamed m name) (suc (m .peak))) (record { answer = done; model = clear m (slotNamed m name) })
     (record { answer = refusal 14; model = m }))
     (record { answer = refusal 12; model = m })

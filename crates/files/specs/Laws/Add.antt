@@ -25,14 +25,14 @@ use Rattle.files.specs.Calls.{opensBlock, growDir, endAfter, addAt, need
 use Rattle.files.specs.Directory.{nameEq, entryByte, entryFor, dirEnd}
 use Rattle.files.specs.Disk.{Disk}
 use Rattle.files.specs.Laws.Facts.{parts-none, dirEnd-is, freeCount-at}
-use Rattle.files.specs.Laws.Inner.{Inner, present, fileBlocks, header, render, findM, emptyLine, give, freeOf, growOwner, peakAfter, addAtM, roomFor}
+use Rattle.files.specs.Laws.Inner.{Inner, present, fileBlocks, header, render, findM, emptySlot, give, freeOf, growOwner, peakAfter, addAtM, roomFor}
 use Rattle.files.specs.Laws.Invariant.{partsOf, Owned, Inv}
 use Rattle.files.specs.Laws.Last.{end-step, finish, slot-step}
 use Rattle.files.specs.Laws.Names.{name-sym}
 use Rattle.files.specs.Laws.Owners.{owned-cong, give-owned, give-count}
 use Rattle.files.specs.Laws.Whole.{With, with-is, with-only, free-is, give-block, with-same, part-out}
 use Rattle.files.specs.Map.{isFree, freeAt, freeCount}
-use Rattle.files.specs.Model.{NamedFile, Line, entryFrom, lineBlocks, dirBlocks, usable, freeWord, slotOf, bytesOf, dirByte, content, named, wrap}
+use Rattle.files.specs.Model.{NamedFile, HeldFile, entryFrom, heldBlocks, dirBlocks, usable, freeWord, slotOf, bytesOf, dirByte, content, named, wrap}
 use Rattle.files.specs.Sizes.{blockBytes, slotBytes, blockSlots, nameMost}
 use Rattle.files.specs.Written.{headerByte, storedByte, part, blocksFor, zeros, setBlock, setRecord, setSlot, setEnd, giveBlocks}
 
@@ -56,20 +56,20 @@ give-step (b ∷ bs) d h owner c f s g w e p =
     (λ t o q l. e t o (omega arith) l)
     (give-block d h owner c p b (File f s) (part g s) (w .0) (w .1) (λ o l. e s o (omega arith) l) (λ o l. part-out g s o l))
 
--- ---- the line that is filled
+-- ---- the slot that is filled
 
-none-line : (l : Line) → isSome l ≡ false → l ≡ none
+none-slot : (l : HeldFile) → isSome l ≡ false → l ≡ none
 unfolding isSome
-none-line none e = refl
-none-line (some x) e = true≢false true refl e
+none-slot none e = refl
+none-slot (some x) e = true≢false true refl e
 
-none-blocks : (l : Line) → l ≡ none → lineBlocks l ≡ 0
-unfolding lineBlocks
-none-blocks l e = ap lineBlocks e
+none-blocks : (l : HeldFile) → l ≡ none → heldBlocks l ≡ 0
+unfolding heldBlocks
+none-blocks l e = ap heldBlocks e
 
 -- a file has a block at least
-some-blocks : (l : Line) → isSome l ≡ true → 1 ≤ lineBlocks l
-unfolding lineBlocks isSome blocksFor up
+some-blocks : (l : HeldFile) → isSome l ≡ true → 1 ≤ heldBlocks l
+unfolding heldBlocks isSome blocksFor up
 some-blocks none e = true≢false false e refl
 some-blocks (some x) e = omega arith
 
@@ -81,13 +81,13 @@ sum-least (suc n) f e =
 
 module _ (m : Inner) (v : Inv m) where
   abbrev k : ℕ
-  k = emptyLine m
+  k = emptySlot m
 
   vacant : ℕ → Bool
-  vacant j = (ltb 0 j && not (isSome (m .lines j)))
+  vacant j = (ltb 0 j && not (isSome (m .slots j)))
 
   k-is : k ≡ lowest vacant (suc (m .peak))
-  unfolding emptyLine vacant
+  unfolding emptySlot vacant
   k-is = refl
 
   k-le : k ≤ suc (m .peak)
@@ -99,47 +99,47 @@ module _ (m : Inner) (v : Inv m) where
   pub k-pos : 0 < k
   unfolding vacant
   k-pos =
-      by-order k (suc (m .peak)) (λ h. true-lt (and-left (ltb 0 k) (not (isSome (m .lines k))) (k-vacant h))) (λ h. omega arith)
+      by-order k (suc (m .peak)) (λ h. true-lt (and-left (ltb 0 k) (not (isSome (m .slots k))) (k-vacant h))) (λ h. omega arith)
 
-  pub k-none : m .lines k ≡ none
+  pub k-none : m .slots k ≡ none
   unfolding vacant
   k-none =
       by-order k (suc (m .peak))
-      (λ h. none-line (m .lines k) (not-was (isSome (m .lines k)) (and-right (ltb 0 k) (not (isSome (m .lines k))) (k-vacant h))))
-      (λ h. v .line-past k h)
+      (λ h. none-slot (m .slots k) (not-was (isSome (m .slots k)) (and-right (ltb 0 k) (not (isSome (m .slots k))) (k-vacant h))))
+      (λ h. v .slot-past k h)
 
-  -- if no line is empty, all are filled
-  all-filled : k ≡ suc (m .peak) → (j : ℕ) → 0 < j → j ≤ m .peak → isSome (m .lines j) ≡ true
+  -- if no slot is empty, all are filled
+  all-filled : k ≡ suc (m .peak) → (j : ℕ) → 0 < j → j ≤ m .peak → isSome (m .slots j) ≡ true
   unfolding vacant
   all-filled e j h l =
-      by-test (isSome (m .lines j)) (λ t. t)
+      by-test (isSome (m .slots j)) (λ t. t)
       (λ t. true≢false (vacant j) (and-true (lt-true h) (ap not t)) (lowest-low vacant (suc (m .peak)) j (omega (arith, k-is))))
 
-  zero-empty : isSome (m .lines 0) ≡ false
+  zero-empty : isSome (m .slots 0) ≡ false
   unfolding isSome
-  zero-empty = ap isSome (v .line-zero)
+  zero-empty = ap isSome (v .slot-zero)
 
   peak-same : k ≤ m .peak → peakAfter m ≡ m .peak
   unfolding peakAfter present
   peak-same h =
       let few : present m + 2 ≤ suc (m .peak) =
-      count-two-out (suc (m .peak)) 0 k (λ (j : ℕ). isSome (m .lines j)) (omega arith) (omega arith) (omega (arith, k-pos)) zero-empty k-empty in
+      count-two-out (suc (m .peak)) 0 k (λ (j : ℕ). isSome (m .slots j)) (omega arith) (omega arith) (omega (arith, k-pos)) zero-empty k-empty in
       omega arith
     where
-      k-empty : isSome (m .lines k) ≡ false
+      k-empty : isSome (m .slots k) ≡ false
       k-empty = unfold isSome in ap isSome k-none
 
   peak-more : k ≡ suc (m .peak) → peakAfter m ≡ suc (m .peak)
   unfolding peakAfter present
   peak-more e =
-      let all-present : present m ≡ m .peak = count-but-zero (m .peak) (λ (j : ℕ). isSome (m .lines j)) zero-empty (all-filled e) in
+      let all-present : present m ≡ m .peak = count-but-zero (m .peak) (λ (j : ℕ). isSome (m .slots j)) zero-empty (all-filled e) in
       omega arith
 
   -- the files present are no more than their blocks
   filled-blocks : k ≡ suc (m .peak) → m .peak ≤ fileBlocks m
   unfolding fileBlocks
   filled-blocks e =
-      omega (arith, sum-least (suc (m .peak)) (λ (j : ℕ). lineBlocks (m .lines j)) (λ j h l. some-blocks (m .lines j) (all-filled e j h (omega arith))))
+      omega (arith, sum-least (suc (m .peak)) (λ (j : ℕ). heldBlocks (m .slots j)) (λ j h l. some-blocks (m .slots j) (all-filled e j h (omega arith))))
 
   -- whether the directory takes a block
   abbrev grows : Bool
@@ -191,27 +191,27 @@ module _ (m : Inner) (v : Inv m) where
       leb-iff (dirBlocks (peakAfter m) + (fileBlocks m + n)) usable (cond (opensBlock (render m) k) (suc n) n) (freeCount (render m))
       (λ h. omega (arith, v .free-sum, freeCount-at m v)) (λ h. omega (arith, v .free-sum, freeCount-at m v)))
 
-some-same : (x y : NamedFile) → _≡_ {A = Line} (some x) (some y) → x ≡ y
+some-same : (x y : NamedFile) → _≡_ {A = HeldFile} (some x) (some y) → x ≡ y
 some-same x y e = cc
 
-file-content : (E F : ℕ → Line) (f s o : ℕ) → 0 < f → content E F (File f s) o ≡ part (bytesOf (F f)) s o
+file-content : (E F : ℕ → HeldFile) (f s o : ℕ) → 0 < f → content E F (File f s) o ≡ part (bytesOf (F f)) s o
 unfolding content
 file-content E F zero s o h = absurd (omega arith)
 file-content E F (suc f) s o h = refl
 
 -- files that no block belongs to do not matter
-other-file : (E F G : ℕ → Line) (r : Record) (o : ℕ) → ((f s : ℕ) → r ≡ File f s → F f ≡ G f) → content E F r o ≡ content E G r o
+other-file : (E F G : ℕ → HeldFile) (r : Record) (o : ℕ) → ((f s : ℕ) → r ≡ File f s → F f ≡ G f) → content E F r o ≡ content E G r o
 unfolding content
 other-file E F G Free o e = refl
 other-file E F G System o e = refl
 other-file E F G Other o e = refl
 other-file E F G (File zero s) o e = refl
-other-file E F G (File (suc f) s) o e = ap (λ (x : Line). part (bytesOf x) s o) (e (suc f) s refl)
+other-file E F G (File (suc f) s) o e = ap (λ (x : HeldFile). part (bytesOf x) s o) (e (suc f) s refl)
 
 module _ (m : Inner) (v : Inv m) (x : NamedFile) (right : (1 ≤ length (x .name)) × (length (x .name) ≤ nameMost))
     (new : suc (m .peak) ≤ findM m (x .name)) (room : dirBlocks (peakAfter m) + (fileBlocks m + blocksFor (length (x .content))) ≤ usable) where
   abbrev kk : ℕ
-  kk = emptyLine m
+  kk = emptySlot m
 
   abbrev n : ℕ
   n = blocksFor (length (x .content))
@@ -222,8 +222,8 @@ module _ (m : Inner) (v : Inv m) (x : NamedFile) (right : (1 ≤ length (x .name
   abbrev owner₁ : ℕ → Record
   owner₁ = growOwner m (peakAfter m)
 
-  abbrev L′ : ℕ → Line
-  L′ = upd (m .lines) kk (some x)
+  abbrev L′ : ℕ → HeldFile
+  L′ = upd (m .slots) kk (some x)
 
   abbrev parts₁ : ℕ → ℕ
   parts₁ = upd (partsOf m) 0 (dirBlocks (peakAfter m))
@@ -281,16 +281,16 @@ module _ (m : Inner) (v : Inv m) (x : NamedFile) (right : (1 ≤ length (x .name
   parts₁-k = upd-other (partsOf m) 0 (dirBlocks (peakAfter m)) kk (omega (arith, k-pos m v)) ∙ parts-none m kk (k-none m v) (k-pos m v)
 
   pub parts-after : (f : ℕ) → upd parts₁ kk (0 + length rest) f ≡ partsOf m′ f
-  unfolding partsOf addAtM lineBlocks
+  unfolding partsOf addAtM heldBlocks
   parts-after zero = upd-other parts₁ kk (0 + length rest) 0 (omega (arith, k-pos m v)) ∙ upd-same (partsOf m) 0 (dirBlocks (peakAfter m)) 0 refl
   parts-after (suc f) =
       by-equal (suc f) kk
       (λ q.
-      let l : lineBlocks (L′ (suc f)) ≡ n = ap lineBlocks (upd-same (m .lines) kk (some x) (suc f) q) in
+      let l : heldBlocks (L′ (suc f)) ≡ n = ap heldBlocks (upd-same (m .slots) kk (some x) (suc f) q) in
       omega (arith, upd-same parts₁ kk (0 + length rest) (suc f) q, rest-length))
       (λ q.
       upd-other parts₁ kk (0 + length rest) (suc f) q ∙ upd-other (partsOf m) 0 (dirBlocks (peakAfter m)) (suc f) (omega arith)
-      ∙ ap lineBlocks (sym (upd-other (m .lines) kk (some x) (suc f) q)))
+      ∙ ap heldBlocks (sym (upd-other (m .slots) kk (some x) (suc f) q)))
 
   owned₂ : Owned (m′ .owner) (partsOf m′)
   unfolding addAtM
@@ -304,9 +304,9 @@ module _ (m : Inner) (v : Inv m) (x : NamedFile) (right : (1 ≤ length (x .name
   count₂ = omega (arith, give-count rest owner₁ kk 0 0 (firsts-picks blocks n (freeOf owner₁)), rest-length)
 
   -- the blocks of all files
-  line-n : lineBlocks (L′ kk) ≡ n
-  unfolding lineBlocks
-  line-n = ap lineBlocks (upd-same (m .lines) kk (some x) kk refl)
+  slot-n : heldBlocks (L′ kk) ≡ n
+  unfolding heldBlocks
+  slot-n = ap heldBlocks (upd-same (m .slots) kk (some x) kk refl)
 
   blocks-after : fileBlocks m′ ≡ fileBlocks m + n
   unfolding fileBlocks addAtM sum
@@ -314,20 +314,20 @@ module _ (m : Inner) (v : Inv m) (x : NamedFile) (right : (1 ≤ length (x .name
       by-order kk (suc (m .peak))
       (λ h.
       let e : peakAfter m ≡ m .peak = peak-same m v (omega arith) in
-      ap (λ (p : ℕ). sum (suc p) (λ (j : ℕ). lineBlocks (L′ j))) e
+      ap (λ (p : ℕ). sum (suc p) (λ (j : ℕ). heldBlocks (L′ j))) e
       ∙ omega (
         arith,
-        line-n,
-        none-blocks (m .lines kk) (k-none m v),
-        sum-change (suc (m .peak)) kk (λ (j : ℕ). lineBlocks (m .lines j)) (λ (j : ℕ). lineBlocks (L′ j)) h
-            (λ j l q. ap lineBlocks (sym (upd-other (m .lines) kk (some x) j q))),
+        slot-n,
+        none-blocks (m .slots kk) (k-none m v),
+        sum-change (suc (m .peak)) kk (λ (j : ℕ). heldBlocks (m .slots j)) (λ (j : ℕ). heldBlocks (L′ j)) h
+            (λ j l q. ap heldBlocks (sym (upd-other (m .slots) kk (some x) j q))),
       ))
       (λ h.
       let e : kk ≡ suc (m .peak) = omega (arith, k-le m v) in
-      ap (λ (p : ℕ). sum (suc p) (λ (j : ℕ). lineBlocks (L′ j))) (peak-more m v e)
+      ap (λ (p : ℕ). sum (suc p) (λ (j : ℕ). heldBlocks (L′ j))) (peak-more m v e)
       ∙ ap₂ (λ (a b : ℕ). a + b)
-      (sum-cong (suc (m .peak)) (λ (j : ℕ). lineBlocks (L′ j)) (λ (j : ℕ). lineBlocks (m .lines j)) (λ j l. ap lineBlocks (upd-other (m .lines) kk (some x) j (omega arith))))
-      (ap (λ (j : ℕ). lineBlocks (L′ j)) (sym e) ∙ line-n))
+      (sum-cong (suc (m .peak)) (λ (j : ℕ). heldBlocks (L′ j)) (λ (j : ℕ). heldBlocks (m .slots j)) (λ j l. ap heldBlocks (upd-other (m .slots) kk (some x) j (omega arith))))
+      (ap (λ (j : ℕ). heldBlocks (L′ j)) (sym e) ∙ slot-n))
 
   k-in : kk ≤ peakAfter m
   k-in = by-order kk (suc (m .peak)) (λ h. omega (arith, peak-same m v (omega arith))) (λ h. omega (arith, k-le m v, peak-more m v (omega (arith, k-le m v))))
@@ -337,34 +337,34 @@ module _ (m : Inner) (v : Inv m) (x : NamedFile) (right : (1 ≤ length (x .name
   peak-up = omega arith
 
   -- no other file has the name
-  no-such : (j : ℕ) (y : NamedFile) → m .lines j ≡ some y → nameEq (y .name) (x .name) ≡ true → ⊥
+  no-such : (j : ℕ) (y : NamedFile) → m .slots j ≡ some y → nameEq (y .name) (x .name) ≡ true → ⊥
   unfolding named findM isSome
   no-such j y e q =
       by-order (m .peak) j
-      (λ h. true≢false (isSome (m .lines j)) (ap isSome e) (ap isSome (v .line-past j h)))
-      (λ h. true≢false (named (x .name) (m .lines j)) (ap (named (x .name)) e ∙ q)
-      (lowest-low (λ (i : ℕ). named (x .name) (m .lines i)) (suc (m .peak)) j (omega arith)))
+      (λ h. true≢false (isSome (m .slots j)) (ap isSome e) (ap isSome (v .slot-past j h)))
+      (λ h. true≢false (named (x .name) (m .slots j)) (ap (named (x .name)) e ∙ q)
+      (lowest-low (λ (i : ℕ). named (x .name) (m .slots i)) (suc (m .peak)) j (omega arith)))
 
   pub add-inv : Inv m′
   unfolding addAtM wrap dirBlocks
   add-inv =
-      let at-k : L′ kk ≡ some x = upd-same (m .lines) kk (some x) kk refl in
-      let off-k : (j : ℕ) → j ≢ kk → L′ j ≡ m .lines j = λ j q. upd-other (m .lines) kk (some x) j q in
+      let at-k : L′ kk ≡ some x = upd-same (m .slots) kk (some x) kk refl in
+      let off-k : (j : ℕ) → j ≢ kk → L′ j ≡ m .slots j = λ j q. upd-other (m .slots) kk (some x) j q in
       record {
         own = owned₂;
-        line-zero = off-k 0 (omega (arith, k-pos m v)) ∙ v .line-zero;
-        line-past = λ j h. off-k j (omega (arith, k-in)) ∙ v .line-past j (omega (arith, peak-up));
-        line-name = λ j y e.
+        slot-zero = off-k 0 (omega (arith, k-pos m v)) ∙ v .slot-zero;
+        slot-past = λ j h. off-k j (omega (arith, k-in)) ∙ v .slot-past j (omega (arith, peak-up));
+        slot-name = λ j y e.
             by-equal j kk
             (λ q. subst (λ (z : NamedFile). (1 ≤ length (z .name)) × (length (z .name) ≤ nameMost)) (some-same x y (sym (ap L′ q ∙ at-k) ∙ e)) right)
-            (λ q. v .line-name j y (sym (off-k j q) ∙ e));
-        line-once = λ i j y z ei ej s.
+            (λ q. v .slot-name j y (sym (off-k j q) ∙ e));
+        slot-once = λ i j y z ei ej s.
             by-equal i kk
             (λ q. by-equal j kk (λ r. q ∙ sym r)
             (λ r. absurd (no-such j z (sym (off-k j r) ∙ ej) (name-sym (x .name) (z .name) (ap (λ (f : NamedFile). nameEq (f .name) (z .name)) (some-same x y (sym (ap L′ q ∙ at-k) ∙ ei)) ∙ s)))))
             (λ q. by-equal j kk
             (λ r. absurd (no-such i y (sym (off-k i q) ∙ ei) (ap (λ (f : NamedFile). nameEq (y .name) (f .name)) (some-same x z (sym (ap L′ r ∙ at-k) ∙ ej)) ∙ s)))
-            (λ r. v .line-once i j y z (sym (off-k i q) ∙ ei) (sym (off-k j r) ∙ ej) s));
+            (λ r. v .slot-once i j y z (sym (off-k i q) ∙ ei) (sym (off-k j r) ∙ ej) s));
         free-sum = omega (arith, v .free-sum, count₁, count₂, blocks-after);
         peak-most =
             by-order kk (suc (m .peak)) (λ h. omega (arith, peak-same m v (omega arith), v .peak-most))
@@ -387,46 +387,46 @@ module _ (m : Inner) (v : Inv m) (x : NamedFile) (right : (1 ≤ length (x .name
   abbrev d₀ : Disk
   d₀ = render m
 
-  start : With d₀ (header m) (m .owner) (content (m .lines) L′)
+  start : With d₀ (header m) (m .owner) (content (m .slots) L′)
   unfolding render
   start =
-      with-same d₀ (header m) (m .owner) (content (m .lines) (m .lines)) (with-is (header m) (m .owner) (content (m .lines) (m .lines)))
-      (header m) (m .owner) (content (m .lines) L′) (λ o l. refl) (λ b l. refl)
-      (λ b o i j l. other-file (m .lines) (m .lines) L′ (m .owner b) o
-      (λ f s e. sym (upd-other (m .lines) kk (some x) f
+      with-same d₀ (header m) (m .owner) (content (m .slots) (m .slots)) (with-is (header m) (m .owner) (content (m .slots) (m .slots)))
+      (header m) (m .owner) (content (m .slots) L′) (λ o l. refl) (λ b l. refl)
+      (λ b o i j l. other-file (m .slots) (m .slots) L′ (m .owner b) o
+      (λ f s e. sym (upd-other (m .slots) kk (some x) f
       (λ q. omega (arith, v .own .own-below b f s j e, ap (partsOf m) q, parts-none m kk (k-none m v) (k-pos m v))))))
 
   -- a new block of the directory has no entries
-  new-dir : (t o : ℕ) → dirBlocks (m .peak) ≤ t → o < blockBytes → part zeros t o ≡ content (m .lines) L′ (File 0 t) o
+  new-dir : (t o : ℕ) → dirBlocks (m .peak) ≤ t → o < blockBytes → part zeros t o ≡ content (m .slots) L′ (File 0 t) o
   unfolding part zeros content dirByte dirBlocks slotOf
   new-dir t o h l =
       cond-true _ _ (lt-true l)
-      ∙ sym (ap (λ (y : Line). slotOf y (o % slotBytes)) (v .line-past (t * blockSlots + o / slotBytes) (omega arith)))
+      ∙ sym (ap (λ (y : HeldFile). slotOf y (o % slotBytes)) (v .slot-past (t * blockSlots + o / slotBytes) (omega arith)))
 
   abbrev d₁ : Disk
   d₁ = growDir d₀ kk
 
-  grown : With d₁ (header m) owner₁ (content (m .lines) L′)
+  grown : With d₁ (header m) owner₁ (content (m .slots) L′)
   unfolding growDir growOwner
   grown =
       by-growth m v
       (λ t e q r.
       let same-first : firsts blocks 1 (freeAt d₀) ≡ first =
       firsts-cong blocks 1 (freeAt d₀) (freeOf (m .owner))
-      (λ j l. unfold freeOf in free-is d₀ (header m) (m .owner) (content (m .lines) L′) start (v .own .own-valid) j l) in
-      let p : With (giveBlocks d₀ 0 zeros (dirBlocks (m .peak)) first) (header m) (give (m .owner) 0 (dirBlocks (m .peak)) first) (content (m .lines) L′) =
-      give-step first d₀ (header m) (m .owner) (content (m .lines) L′) 0 (dirBlocks (m .peak)) zeros
+      (λ j l. unfold freeOf in free-is d₀ (header m) (m .owner) (content (m .slots) L′) start (v .own .own-valid) j l) in
+      let p : With (giveBlocks d₀ 0 zeros (dirBlocks (m .peak)) first) (header m) (give (m .owner) 0 (dirBlocks (m .peak)) first) (content (m .slots) L′) =
+      give-step first d₀ (header m) (m .owner) (content (m .slots) L′) 0 (dirBlocks (m .peak)) zeros
       (picks-inside (freeOf (m .owner)) 0 first owner-free (firsts-picks blocks 1 (freeOf (m .owner)))) new-dir start in
       let dd : d₁ ≡ giveBlocks d₀ 0 zeros (dirBlocks (m .peak)) first =
       cond-true _ _ (grows-is m v ∙ t) ∙ ap₂ (λ (s : ℕ) (bs : List ℕ). giveBlocks d₀ 0 zeros s bs) q same-first in
       let oo : owner₁ ≡ give (m .owner) 0 (dirBlocks (m .peak)) first = cond-true _ _ t in
-      subst (λ (z : Disk). With z (header m) owner₁ (content (m .lines) L′)) (sym dd)
-      (subst (λ (z : ℕ → Record). With (giveBlocks d₀ 0 zeros (dirBlocks (m .peak)) first) (header m) z (content (m .lines) L′)) (sym oo) p))
+      subst (λ (z : Disk). With z (header m) owner₁ (content (m .slots) L′)) (sym dd)
+      (subst (λ (z : ℕ → Record). With (giveBlocks d₀ 0 zeros (dirBlocks (m .peak)) first) (header m) z (content (m .slots) L′)) (sym oo) p))
       (λ t r.
       let dd : d₁ ≡ d₀ = cond-false _ _ (grows-is m v ∙ t) in
       let oo : owner₁ ≡ m .owner = cond-false _ _ t in
-      subst (λ (z : Disk). With z (header m) owner₁ (content (m .lines) L′)) (sym dd)
-      (subst (λ (z : ℕ → Record). With d₀ (header m) z (content (m .lines) L′)) (sym oo) start))
+      subst (λ (z : Disk). With z (header m) owner₁ (content (m .slots) L′)) (sym dd)
+      (subst (λ (z : ℕ → Record). With d₀ (header m) z (content (m .slots) L′)) (sym oo) start))
 
   abbrev stored : ℕ → ℕ
   stored = storedByte (entryFor (x .name) (x .date) (length (x .content))) (x .content)
@@ -434,16 +434,16 @@ module _ (m : Inner) (v : Inv m) (x : NamedFile) (right : (1 ≤ length (x .name
   abbrev d₂ : Disk
   d₂ = giveBlocks d₁ kk stored 0 (firsts blocks n (freeAt d₁))
 
-  filled : With d₂ (header m) (give owner₁ kk 0 rest) (content (m .lines) L′)
+  filled : With d₂ (header m) (give owner₁ kk 0 rest) (content (m .slots) L′)
   unfolding bytesOf
   filled =
       let same-rest : firsts blocks n (freeAt d₁) ≡ rest =
       firsts-cong blocks n (freeAt d₁) (freeOf owner₁)
-      (λ j l. unfold freeOf in free-is d₁ (header m) owner₁ (content (m .lines) L′) grown (owned₁ .own-valid) j l) in
-      subst (λ (bs : List ℕ). With (giveBlocks d₁ kk stored 0 bs) (header m) (give owner₁ kk 0 rest) (content (m .lines) L′)) (sym same-rest)
-      (give-step rest d₁ (header m) owner₁ (content (m .lines) L′) kk 0 stored
+      (λ j l. unfold freeOf in free-is d₁ (header m) owner₁ (content (m .slots) L′) grown (owned₁ .own-valid) j l) in
+      subst (λ (bs : List ℕ). With (giveBlocks d₁ kk stored 0 bs) (header m) (give owner₁ kk 0 rest) (content (m .slots) L′)) (sym same-rest)
+      (give-step rest d₁ (header m) owner₁ (content (m .slots) L′) kk 0 stored
       (picks-inside (freeOf owner₁) 0 rest owner₁-free (firsts-picks blocks n (freeOf owner₁)))
-      (λ t o h l. sym (file-content (m .lines) L′ kk t o (k-pos m v) ∙ ap (λ (y : Line). part (bytesOf y) t o) (upd-same (m .lines) kk (some x) kk refl)))
+      (λ t o h l. sym (file-content (m .slots) L′ kk t o (k-pos m v) ∙ ap (λ (y : HeldFile). part (bytesOf y) t o) (upd-same (m .slots) kk (some x) kk refl)))
       grown)
 
   abbrev entry : ℕ → ℕ
@@ -458,7 +458,7 @@ module _ (m : Inner) (v : Inv m) (x : NamedFile) (right : (1 ≤ length (x .name
 
   slotted : With d₃ (header m) (m′ .owner) (content L′ L′)
   unfolding addAtM slotOf
-  slotted = slot-step d₂ (header m) (m′ .owner) (partsOf m′) owned₂ (m .lines) L′ filled kk (some x) entry (λ i l. refl) in-dir
+  slotted = slot-step d₂ (header m) (m′ .owner) (partsOf m′) owned₂ (m .slots) L′ filled kk (some x) entry (λ i l. refl) in-dir
 
   abbrev d₄ : Disk
   d₄ = endAfter kk (dirEnd d₀) d₃
@@ -493,17 +493,17 @@ module _ (m : Inner) (v : Inv m) (x : NamedFile) (right : (1 ≤ length (x .name
   pub present-add : present m′ ≡ suc (present m)
   unfolding present addAtM isSome
   present-add =
-      let at-k : isSome (L′ kk) ≡ true = ap isSome (upd-same (m .lines) kk (some x) kk refl) in
-      let off-k : (j : ℕ) → j ≢ kk → isSome (L′ j) ≡ isSome (m .lines j) = λ j q. ap isSome (upd-other (m .lines) kk (some x) j q) in
+      let at-k : isSome (L′ kk) ≡ true = ap isSome (upd-same (m .slots) kk (some x) kk refl) in
+      let off-k : (j : ℕ) → j ≢ kk → isSome (L′ j) ≡ isSome (m .slots j) = λ j q. ap isSome (upd-other (m .slots) kk (some x) j q) in
       by-order kk (suc (m .peak))
       (λ h.
       ap (λ (p : ℕ). count (suc p) (λ (j : ℕ). isSome (L′ j))) (peak-same m v (omega arith))
-      ∙ count-drop (suc (m .peak)) kk (λ (j : ℕ). isSome (L′ j)) (λ (j : ℕ). isSome (m .lines j)) h at-k (ap isSome (k-none m v)) (λ j l q. off-k j q))
+      ∙ count-drop (suc (m .peak)) kk (λ (j : ℕ). isSome (L′ j)) (λ (j : ℕ). isSome (m .slots j)) h at-k (ap isSome (k-none m v)) (λ j l q. off-k j q))
       (λ h.
       let e : kk ≡ suc (m .peak) = omega (arith, k-le m v) in
       ap (λ (p : ℕ). count (suc p) (λ (j : ℕ). isSome (L′ j))) (peak-more m v e)
       ∙ count-yes (suc (m .peak)) (λ (j : ℕ). isSome (L′ j)) (ap (λ (j : ℕ). isSome (L′ j)) (sym e) ∙ at-k)
-      ∙ ap suc (count-cong (suc (m .peak)) (λ (j : ℕ). isSome (L′ j)) (λ (j : ℕ). isSome (m .lines j)) (λ j l. off-k j (omega arith))))
+      ∙ ap suc (count-cong (suc (m .peak)) (λ (j : ℕ). isSome (L′ j)) (λ (j : ℕ). isSome (m .slots j)) (λ j l. off-k j (omega arith))))
 
 pub room-fits : (m : Inner) (x : NamedFile) → roomFor m x ≡ true → dirBlocks (peakAfter m) + (fileBlocks m + blocksFor (length (x .content))) ≤ usable
 unfolding roomFor

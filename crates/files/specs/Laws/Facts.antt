@@ -31,11 +31,11 @@ use Rattle.files.specs.Calls.{Outcome, kept, unless, deliver, entries, l
 use Rattle.files.specs.Check.{signature, lengthRight, sizesFault, headerFault, recordFault, mapFault, partsRight, unborne, newName, entryRight, fileRight, fileFault, freeRight, refusal8, refusal9, refusal10, refusal11, judged}
 use Rattle.files.specs.Directory.{nameEq, nameRight, entryOf, entryByte, nameOf, entryFor, slotByte, slotEntry, slotName, held, dirBytes, dirEnd, findName, vacantSlot}
 use Rattle.files.specs.Disk.{Disk}
-use Rattle.files.specs.Laws.Inner.{Inner, fileBlocks, header, render, findM, emptyLine, freeOf, listM, readM}
+use Rattle.files.specs.Laws.Inner.{Inner, fileBlocks, header, render, findM, emptySlot, freeOf, listM, readM}
 use Rattle.files.specs.Laws.Invariant.{partsOf, Inv}
 use Rattle.files.specs.Laws.Whole.{Valid, With, with-is, record-is, freeCount-is, partBlock-is}
 use Rattle.files.specs.Map.{recordAt, isSystem, isOther, bears, isPart, within, freeCount, partBlock, fileByte}
-use Rattle.files.specs.Model.{NamedFile, Line, lineBlocks, dirBlocks, usable, freeWord, slotOf, bytesOf, dirByte, content, named, lineEntry, lineEntries, lineData}
+use Rattle.files.specs.Model.{NamedFile, HeldFile, heldBlocks, dirBlocks, usable, freeWord, slotOf, bytesOf, dirByte, content, named, heldEntry, heldEntries, heldData}
 use Rattle.files.specs.Sizes.{blockBytes, slotBytes, blockSlots, slotCount, mapStart, nameMost}
 use Rattle.files.specs.Written.{fixedByte, headerByte, storedByte, part, blocksFor}
 
@@ -80,15 +80,15 @@ module _ (name : List ℕ) (date size : ℕ) where
 
 -- ---- how many blocks a file has
 
-parts-some : (m : Inner) (k : ℕ) (x : NamedFile) → m .lines k ≡ some x → 0 < k → partsOf m k ≡ up (slotBytes + length (x .content)) blockBytes
-unfolding partsOf lineBlocks blocksFor
+parts-some : (m : Inner) (k : ℕ) (x : NamedFile) → m .slots k ≡ some x → 0 < k → partsOf m k ≡ up (slotBytes + length (x .content)) blockBytes
+unfolding partsOf heldBlocks blocksFor
 parts-some m zero x e p = absurd (omega arith)
-parts-some m (suc k) x e p = ap lineBlocks e
+parts-some m (suc k) x e p = ap heldBlocks e
 
-pub parts-none : (m : Inner) (k : ℕ) → m .lines k ≡ none → 0 < k → partsOf m k ≡ 0
-unfolding partsOf lineBlocks
+pub parts-none : (m : Inner) (k : ℕ) → m .slots k ≡ none → 0 < k → partsOf m k ≡ 0
+unfolding partsOf heldBlocks
 parts-none m zero e p = absurd (omega arith)
-parts-none m (suc k) e p = ap lineBlocks e
+parts-none m (suc k) e p = ap heldBlocks e
 
 parts-dir : (m : Inner) → up (suc (m .peak) * slotBytes) blockBytes ≡ partsOf m 0
 unfolding partsOf up dirBlocks
@@ -131,16 +131,16 @@ module _ (m : Inner) (v : Inv m) where
   abbrev d : Disk
   d = render m
 
-  P : With d (header m) (m .owner) (content (m .lines) (m .lines))
+  P : With d (header m) (m .owner) (content (m .slots) (m .slots))
   unfolding render
-  P = with-is (header m) (m .owner) (content (m .lines) (m .lines))
+  P = with-is (header m) (m .owner) (content (m .slots) (m .slots))
 
   pub rec : (b : ℕ) → b < blocks → recordAt d b ≡ m .owner b
-  rec b h = record-is d (header m) (m .owner) (content (m .lines) (m .lines)) P b h (v .own .own-valid b h)
+  rec b h = record-is d (header m) (m .owner) (content (m .slots) (m .slots)) P b h (v .own .own-valid b h)
 
   home-is : (b f s : ℕ) → b < blocks → m .owner b ≡ File f s → partBlock d f s ≡ b
   home-is b f s h e =
-      partBlock-is d (header m) (m .owner) (content (m .lines) (m .lines)) P (v .own .own-valid) f s
+      partBlock-is d (header m) (m .owner) (content (m .slots) (m .slots)) P (v .own .own-valid) f s
       ∙ lowest-only (λ (j : ℕ). isPart f s (m .owner j)) blocks b h (isPart-true f s (m .owner b) e)
       (λ j k t. v .own .own-once j b f s k h (true-isPart f s (m .owner j) t) e)
 
@@ -168,7 +168,7 @@ module _ (m : Inner) (v : Inv m) where
 
   pub freeCount-at : freeCount d ≡ count blocks (freeOf (m .owner))
   unfolding freeOf
-  freeCount-at = freeCount-is d (header m) (m .owner) (content (m .lines) (m .lines)) P (v .own .own-valid)
+  freeCount-at = freeCount-is d (header m) (m .owner) (content (m .slots) (m .slots)) P (v .own .own-valid)
 
   -- ---- judgement 8
 
@@ -239,49 +239,49 @@ module _ (m : Inner) (v : Inv m) where
   -- ---- the directory
 
   -- byte o of part s of file f
-  part-byte : (f s o : ℕ) → s < partsOf m f → o < blockBytes → d (partBlock d f s) o ≡ content (m .lines) (m .lines) (File f s) o
+  part-byte : (f s o : ℕ) → s < partsOf m f → o < blockBytes → d (partBlock d f s) o ≡ content (m .slots) (m .slots) (File f s) o
   unfolding isSystem
   part-byte f s o h l =
       let w : (b : ℕ) × (b < blocks) × (m .owner b ≡ File f s) = v .own .own-part f s h in
       let nz : w .0 ≢ 0 = not-zero (w .0) (File f s) (w .2) refl in
       ap (λ (x : ℕ). d x o) (home-is (w .0) f s (w .1) (w .2))
       ∙ P .block (w .0) o (omega arith) (w .1) l
-      ∙ ap (λ (r : Record). content (m .lines) (m .lines) r o) (w .2)
+      ∙ ap (λ (r : Record). content (m .slots) (m .slots) r o) (w .2)
 
-  pub slot-is : (k i : ℕ) → k ≤ m .peak → i < slotBytes → slotByte d k i ≡ slotOf (m .lines k) i
+  pub slot-is : (k i : ℕ) → k ≤ m .peak → i < slotBytes → slotByte d k i ≡ slotOf (m .slots k) i
   unfolding slotByte partsOf dirBlocks content dirByte
   slot-is k i h l =
       let e : k / blockSlots * blockSlots + (k % blockSlots * slotBytes + i) / slotBytes ≡ k = omega arith in
       let e′ : (k % blockSlots * slotBytes + i) % slotBytes ≡ i = omega arith in
       part-byte 0 (k / blockSlots) (k % blockSlots * slotBytes + i) (omega arith) (omega arith)
-      ∙ ap₂ (λ (x y : ℕ). slotOf (m .lines x) y) e e′
+      ∙ ap₂ (λ (x y : ℕ). slotOf (m .slots x) y) e e′
 
   module _ (k : ℕ) (h : k ≤ m .peak) where
-    pub held-is : (l : Line) → m .lines k ≡ l → held d k ≡ isSome l
+    pub held-is : (l : HeldFile) → m .slots k ≡ l → held d k ≡ isSome l
     unfolding held isSome slotOf
     held-is none e =
         and-false-right (ltb 0 k)
-        (ap not (all-is (λ (i : ℕ). eqb (slotByte d k i) 0) slotBytes (λ i g. eq-true (slot-is k i h g ∙ ap (λ (x : Line). slotOf x i) e))))
+        (ap not (all-is (λ (i : ℕ). eqb (slotByte d k i) 0) slotBytes (λ i g. eq-true (slot-is k i h g ∙ ap (λ (x : HeldFile). slotOf x i) e))))
     held-is (some x) e =
         let b15 : slotByte d k 15 ≡ length (x .name) =
-        slot-is k 15 h (omega arith) ∙ ap (λ (y : Line). slotOf y 15) e
-        ∙ entry-low (x .name) (x .date) (length (x .content)) (v .line-name k x e .1) in
-        let nz : k ≢ 0 = λ z. true≢false (isSome (m .lines k)) (ap isSome e) (ap (λ (j : ℕ). isSome (m .lines j)) z ∙ ap isSome (v .line-zero)) in
+        slot-is k 15 h (omega arith) ∙ ap (λ (y : HeldFile). slotOf y 15) e
+        ∙ entry-low (x .name) (x .date) (length (x .content)) (v .slot-name k x e .1) in
+        let nz : k ≢ 0 = λ z. true≢false (isSome (m .slots k)) (ap isSome e) (ap (λ (j : ℕ). isSome (m .slots j)) z ∙ ap isSome (v .slot-zero)) in
         and-true (lt-true {a = 0} {b = k} (omega arith))
         (ap not (all-false (λ (i : ℕ). eqb (slotByte d k i) 0) slotBytes 15 (omega arith)
-        (eq-false {a = slotByte d k 15} {b = 0} (λ z. omega (arith, v .line-name k x e .0)))))
+        (eq-false {a = slotByte d k 15} {b = 0} (λ z. omega (arith, v .slot-name k x e .0)))))
 
-    module _ (x : NamedFile) (e : m .lines k ≡ some x) where
+    module _ (x : NamedFile) (e : m .slots k ≡ some x) where
       size-fits : slotBytes + length (x .content) ≤ 735744
-      unfolding fileBlocks lineBlocks blocksFor up
+      unfolding fileBlocks heldBlocks blocksFor up
       size-fits =
-          let one : lineBlocks (m .lines k) ≤ fileBlocks m = sum-at (suc (m .peak)) k (λ (j : ℕ). lineBlocks (m .lines j)) (omega arith) in
-          let it : (slotBytes + length (x .content) + (blockBytes - 1)) / blockBytes ≤ usable = omega (arith, v .free-sum, ap lineBlocks e) in
+          let one : heldBlocks (m .slots k) ≤ fileBlocks m = sum-at (suc (m .peak)) k (λ (j : ℕ). heldBlocks (m .slots j)) (omega arith) in
+          let it : (slotBytes + length (x .content) + (blockBytes - 1)) / blockBytes ≤ usable = omega (arith, v .free-sum, ap heldBlocks e) in
           omega arith
 
       pub entry-is : (i : ℕ) → i < slotBytes → slotByte d k i ≡ entryByte (entryFor (x .name) (x .date) (length (x .content))) i
       unfolding slotOf
-      entry-is i l = slot-is k i h l ∙ ap (λ (y : Line). slotOf y i) e
+      entry-is i l = slot-is k i h l ∙ ap (λ (y : HeldFile). slotOf y i) e
 
       pub slotLength-is : (slotEntry d k .length) ≡ slotBytes + length (x .content)
       unfolding slotEntry entryOf at32 bigEndian
@@ -293,25 +293,25 @@ module _ (m : Inner) (v : Inv m) where
       unfolding slotEntry entryOf at16 bigEndian
       slotNameLength-is =
           rw (entry-is 14 (omega arith), entry-is 15 (omega arith))
-          (entry-name-length (x .name) (x .date) (length (x .content)) (v .line-name k x e .1))
+          (entry-name-length (x .name) (x .date) (length (x .content)) (v .slot-name k x e .1))
 
       pub slotName-is : slotName d k ≡ x .name
       unfolding slotName nameOf slotEntry entryOf
       slotName-is =
           ap (λ (n : ℕ). take n (tab (λ (i : ℕ). slotByte d k (16 + i)) nameMost)) slotNameLength-is
-          ∙ take-tab (λ (i : ℕ). slotByte d k (16 + i)) (length (x .name)) nameMost (v .line-name k x e .1)
+          ∙ take-tab (λ (i : ℕ). slotByte d k (16 + i)) (length (x .name)) nameMost (v .slot-name k x e .1)
           ∙ tab-ext (λ (i : ℕ). slotByte d k (16 + i)) (λ (i : ℕ). getD (x .name) i 0) (length (x .name))
-          (λ i l. entry-is (16 + i) (omega (arith, v .line-name k x e .1))
-          ∙ entry-name-byte (x .name) (x .date) (length (x .content)) i (omega (arith, v .line-name k x e .1)))
+          (λ i l. entry-is (16 + i) (omega (arith, v .slot-name k x e .1))
+          ∙ entry-name-byte (x .name) (x .date) (length (x .content)) i (omega (arith, v .slot-name k x e .1)))
           ∙ tab-self (x .name)
 
-    named-is : (name : List ℕ) (l : Line) → m .lines k ≡ l → (held d k && nameEq (slotName d k) name) ≡ named name l
+    named-is : (name : List ℕ) (l : HeldFile) → m .slots k ≡ l → (held d k && nameEq (slotName d k) name) ≡ named name l
     unfolding named isSome
     named-is name none e = and-false-left (nameEq (slotName d k) name) (held-is none e)
     named-is name (some x) e = ap₂ (λ (a b : Bool). a && b) (held-is (some x) e) (ap (λ (n : List ℕ). nameEq n name) (slotName-is x e))
 
-    entry-list : (l : Line) → m .lines k ≡ l → cond (held d k) (tab (slotByte d k) slotBytes) [] ≡ lineEntry l
-    unfolding lineEntry isSome
+    entry-list : (l : HeldFile) → m .slots k ≡ l → cond (held d k) (tab (slotByte d k) slotBytes) [] ≡ heldEntry l
+    unfolding heldEntry isSome
     entry-list none e = cond-false _ _ (held-is none e)
     entry-list (some x) e =
         cond-true _ _ (held-is (some x) e)
@@ -321,29 +321,29 @@ module _ (m : Inner) (v : Inv m) where
   unfolding findName findM
   findName-is name =
       ap (λ (n : ℕ). lowest (λ (k : ℕ). (held d k && nameEq (slotName d k) name)) n) dirEnd-is
-      ∙ lowest-cong (λ (k : ℕ). (held d k && nameEq (slotName d k) name)) (λ (k : ℕ). named name (m .lines k)) (suc (m .peak))
-      (λ k h. named-is k (omega arith) name (m .lines k) refl)
+      ∙ lowest-cong (λ (k : ℕ). (held d k && nameEq (slotName d k) name)) (λ (k : ℕ). named name (m .slots k)) (suc (m .peak))
+      (λ k h. named-is k (omega arith) name (m .slots k) refl)
 
-  pub vacantSlot-is : vacantSlot d ≡ emptyLine m
-  unfolding vacantSlot emptyLine
+  pub vacantSlot-is : vacantSlot d ≡ emptySlot m
+  unfolding vacantSlot emptySlot
   vacantSlot-is =
       ap (λ (n : ℕ). lowest (λ (k : ℕ). (ltb 0 k && not (held d k))) n) dirEnd-is
-      ∙ lowest-cong (λ (k : ℕ). (ltb 0 k && not (held d k))) (λ (k : ℕ). (ltb 0 k && not (isSome (m .lines k)))) (suc (m .peak))
-      (λ k h. ap (λ (b : Bool). (ltb 0 k && not b)) (held-is k (omega arith) (m .lines k) refl))
+      ∙ lowest-cong (λ (k : ℕ). (ltb 0 k && not (held d k))) (λ (k : ℕ). (ltb 0 k && not (isSome (m .slots k)))) (suc (m .peak))
+      (λ k h. ap (λ (b : Bool). (ltb 0 k && not b)) (held-is k (omega arith) (m .slots k) refl))
 
-  entries-below : (n : ℕ) → n ≤ suc (m .peak) → entries d n ≡ lineEntries (m .lines) n
-  unfolding entries lineEntries
+  entries-below : (n : ℕ) → n ≤ suc (m .peak) → entries d n ≡ heldEntries (m .slots) n
+  unfolding entries heldEntries
   entries-below zero h = refl
-  entries-below (suc n) h = ap₂ (λ (xs ys : List ℕ). xs ++ ys) (entries-below n (omega arith)) (entry-list n (omega arith) (m .lines n) refl)
+  entries-below (suc n) h = ap₂ (λ (xs ys : List ℕ). xs ++ ys) (entries-below n (omega arith)) (entry-list n (omega arith) (m .slots n) refl)
 
-  pub entries-is : entries d (dirEnd d) ≡ lineEntries (m .lines) (suc (m .peak))
+  pub entries-is : entries d (dirEnd d) ≡ heldEntries (m .slots) (suc (m .peak))
   entries-is = ap (entries d) dirEnd-is ∙ entries-below (suc (m .peak)) (omega arith)
 
-  pub readAt-is : (k : ℕ) (x : NamedFile) → suc k ≤ m .peak → m .lines (suc k) ≡ some x → dataOf d (suc k) ≡ x .content
-  unfolding dataOf fileByte partsOf lineBlocks blocksFor up content part bytesOf storedByte
+  pub readAt-is : (k : ℕ) (x : NamedFile) → suc k ≤ m .peak → m .slots (suc k) ≡ some x → dataOf d (suc k) ≡ x .content
+  unfolding dataOf fileByte partsOf heldBlocks blocksFor up content part bytesOf storedByte
   readAt-is k x h e =
       let n : ℕ = length (x .content) in
-      let size : lineBlocks (m .lines (suc k)) ≡ (slotBytes + n + (blockBytes - 1)) / blockBytes = ap lineBlocks e in
+      let size : heldBlocks (m .slots (suc k)) ≡ (slotBytes + n + (blockBytes - 1)) / blockBytes = ap heldBlocks e in
       let long : (slotEntry d (suc k) .length) - slotBytes ≡ n = omega (arith, slotLength-is (suc k) h x e) in
       ap (λ (j : ℕ). tab (λ (i : ℕ). fileByte d (suc k) (slotBytes + i)) j) long
       ∙ tab-ext (λ (i : ℕ). fileByte d (suc k) (slotBytes + i)) (λ (i : ℕ). getD (x .content) i 0) n
@@ -397,20 +397,20 @@ module _ (m : Inner) (v : Inv m) where
       all-is (λ (b : ℕ). not (bears f (recordAt d b))) blocks
       (λ b h. ap (λ (r : Record). not (bears f r)) (rec b h) ∙ ap not (none-bears f b z h (m .owner b) refl))
 
-  module _ (k : ℕ) (h : k ≤ m .peak) (x : NamedFile) (e : m .lines k ≡ some x) where
-    other-name : (j : ℕ) → j < k → (l : Line) → m .lines j ≡ l → (held d j && nameEq (slotName d j) (slotName d k)) ≡ false
+  module _ (k : ℕ) (h : k ≤ m .peak) (x : NamedFile) (e : m .slots k ≡ some x) where
+    other-name : (j : ℕ) → j < k → (l : HeldFile) → m .slots j ≡ l → (held d j && nameEq (slotName d j) (slotName d k)) ≡ false
     unfolding isSome
     other-name j q none a = and-false-left (nameEq (slotName d j) (slotName d k)) (held-is j (omega arith) none a)
     other-name j q (some y) a =
         and-false-right (held d j)
         (ap₂ nameEq (slotName-is j (omega arith) y a) (slotName-is k h x e)
-        ∙ by-test (nameEq (y .name) (x .name)) (λ t. absurd (omega (arith, v .line-once j k y x a e t))) (λ t. t))
+        ∙ by-test (nameEq (y .name) (x .name)) (λ t. absurd (omega (arith, v .slot-once j k y x a e t))) (λ t. t))
 
     newName-right : newName d k ≡ true
     unfolding newName
     newName-right =
         all-is (λ (j : ℕ). not (held d j && nameEq (slotName d j) (slotName d k))) k
-        (λ j q. ap not (other-name j q (m .lines j) refl))
+        (λ j q. ap not (other-name j q (m .slots j) refl))
 
     entry-right : 0 < k → entryRight d k ≡ true
     unfolding entryRight
@@ -418,11 +418,11 @@ module _ (m : Inner) (v : Inv m) where
         let size : (slotEntry d k .length) ≡ slotBytes + length (x .content) = slotLength-is k h x e in
         let long : (slotEntry d k .named) ≡ length (x .name) = slotNameLength-is k h x e in
         and-true (le-true {a = slotBytes} {b = (slotEntry d k .length)} (omega arith))
-        (and-true (le-true {a = 1} {b = (slotEntry d k .named)} (omega (arith, v .line-name k x e .0)))
-        (and-true (le-true {a = (slotEntry d k .named)} {b = nameMost} (omega (arith, v .line-name k x e .1)))
+        (and-true (le-true {a = 1} {b = (slotEntry d k .named)} (omega (arith, v .slot-name k x e .0)))
+        (and-true (le-true {a = (slotEntry d k .named)} {b = nameMost} (omega (arith, v .slot-name k x e .1)))
         (and-true newName-right (parts-right k (up ((slotEntry d k .length)) blockBytes) (ap (λ (n : ℕ). up n blockBytes) size ∙ sym (parts-some m k x e pos))))))
 
-  vacant-right : (f : ℕ) → 0 < f → (l : Line) → m .lines f ≡ l → cond (ltb f (dirEnd d) && held d f) (entryRight d f) (unborne d f) ≡ true
+  vacant-right : (f : ℕ) → 0 < f → (l : HeldFile) → m .slots f ≡ l → cond (ltb f (dirEnd d) && held d f) (entryRight d f) (unborne d f) ≡ true
   unfolding isSome
   vacant-right f p none e =
       by-order f (suc (m .peak))
@@ -431,7 +431,7 @@ module _ (m : Inner) (v : Inv m) where
       ∙ unborne-right f (parts-none m f e p)
   vacant-right f p (some x) e =
       by-order (m .peak) f
-      (λ h. true≢false (isSome (m .lines f)) (ap isSome e) (ap isSome (v .line-past f h)))
+      (λ h. true≢false (isSome (m .slots f)) (ap isSome e) (ap isSome (v .slot-past f h)))
       (λ h. cond-true _ _ (and-true (lt-true {a = f} {b = dirEnd d} (omega (arith, dirEnd-is))) (held-is f h (some x) e)) ∙ entry-right f h x e p)
 
   file-right : (f : ℕ) → fileRight d f ≡ true
@@ -439,7 +439,7 @@ module _ (m : Inner) (v : Inv m) where
   file-right f =
       by-equal f 0
       (λ z. cond-true _ _ (eq-true z) ∙ parts-right 0 (up (dirBytes d) blockBytes) (ap (λ (n : ℕ). up n blockBytes) dirBytes-is ∙ parts-dir m))
-      (λ z. cond-false _ _ (eq-false z) ∙ vacant-right f (omega arith) (m .lines f) refl)
+      (λ z. cond-false _ _ (eq-false z) ∙ vacant-right f (omega arith) (m .slots f) refl)
 
   files-right : fileFault d ≡ slotCount
   unfolding fileFault
@@ -469,30 +469,30 @@ module _ (m : Inner) (v : Inv m) where
 
   -- ---- list and read
 
-  pub found-line : (name : List ℕ) → findM m name < suc (m .peak) → (x : NamedFile) × (m .lines (findM m name) ≡ some x) × (nameEq (x .name) name ≡ true) × (0 < findM m name)
+  pub found-slot : (name : List ℕ) → findM m name < suc (m .peak) → (x : NamedFile) × (m .slots (findM m name) ≡ some x) × (nameEq (x .name) name ≡ true) × (0 < findM m name)
   unfolding findM named isSome
-  found-line name h =
-      go (m .lines (findM m name)) refl (lowest-hit (λ (k : ℕ). named name (m .lines k)) (suc (m .peak)) h)
+  found-slot name h =
+      go (m .slots (findM m name)) refl (lowest-hit (λ (k : ℕ). named name (m .slots k)) (suc (m .peak)) h)
     where
-      pos : (x : NamedFile) → m .lines (findM m name) ≡ some x → 0 < findM m name
+      pos : (x : NamedFile) → m .slots (findM m name) ≡ some x → 0 < findM m name
       pos x e =
           by-equal (findM m name) 0
-          (λ z. true≢false (isSome (m .lines (findM m name))) (ap isSome e) (ap (λ (j : ℕ). isSome (m .lines j)) z ∙ ap isSome (v .line-zero)))
+          (λ z. true≢false (isSome (m .slots (findM m name))) (ap isSome e) (ap (λ (j : ℕ). isSome (m .slots j)) z ∙ ap isSome (v .slot-zero)))
           (λ z. omega arith)
 
-      go : (l : Line) → m .lines (findM m name) ≡ l → named name (m .lines (findM m name)) ≡ true
-          → (x : NamedFile) × (m .lines (findM m name) ≡ some x) × (nameEq (x .name) name ≡ true) × (0 < findM m name)
-      go none e t = true≢false (named name (m .lines (findM m name))) t (ap (named name) e)
+      go : (l : HeldFile) → m .slots (findM m name) ≡ l → named name (m .slots (findM m name)) ≡ true
+          → (x : NamedFile) × (m .slots (findM m name) ≡ some x) × (nameEq (x .name) name ≡ true) × (0 < findM m name)
+      go none e t = true≢false (named name (m .slots (findM m name))) t (ap (named name) e)
       go (some x) e t = (x, e, sym (ap (named name) e) ∙ t, pos x e)
 
   pub list-is : (buf : List ℕ) → listDisk d buf ≡ listM m buf
   unfolding listDisk listM unless
   list-is buf = rw judged-none (ap (λ (xs : List ℕ). deliver xs buf) entries-is)
 
-  data-is : (k : ℕ) (x : NamedFile) → 0 < k → k ≤ m .peak → m .lines k ≡ some x → dataOf d k ≡ lineData (m .lines k)
-  unfolding lineData
+  data-is : (k : ℕ) (x : NamedFile) → 0 < k → k ≤ m .peak → m .slots k ≡ some x → dataOf d k ≡ heldData (m .slots k)
+  unfolding heldData
   data-is zero x p h e = absurd (omega arith)
-  data-is (suc k) x p h e = readAt-is k x h e ∙ sym (ap lineData e)
+  data-is (suc k) x p h e = readAt-is k x h e ∙ sym (ap heldData e)
 
   pub read-is : (name buf : List ℕ) → readDisk d name buf ≡ readM m name buf
   unfolding readDisk readM unless
@@ -501,7 +501,7 @@ module _ (m : Inner) (v : Inv m) where
       (ap (λ (o : Outcome). cond (nameRight name) o (kept buf (refusal 12)))
       (by-order (findM m name) (suc (m .peak))
       (λ h.
-      let w : (x : NamedFile) × (m .lines (findM m name) ≡ some x) × (nameEq (x .name) name ≡ true) × (0 < findM m name) = found-line name h in
+      let w : (x : NamedFile) × (m .slots (findM m name) ≡ some x) × (nameEq (x .name) name ≡ true) × (0 < findM m name) = found-slot name h in
       ap (λ (xs : List ℕ). cond (ltb (findM m name) (suc (m .peak))) (deliver xs buf) (kept buf (refusal 14)))
       (data-is (findM m name) (w .0) (w .3) (omega arith) (w .1)))
       (λ h. cond-false _ _ (lt-false h) ∙ sym (cond-false _ _ (lt-false h)))))

@@ -24,8 +24,8 @@ use Rattle.files.specs.Histories.{Call, imageOut, imageOuts, imageEnd, m
 use Rattle.files.specs.History.{dataFound, HasEntry, Belongs, Holds, formatted, History}
 use Rattle.files.specs.Laws.Agree.{agree, fresh-listed, start-is}
 use Rattle.files.specs.Laws.Disk.{length-image}
-use Rattle.files.specs.Laws.Facts.{dirEnd-is, word20, held-is, judged-none, found-line}
-use Rattle.files.specs.Laws.Inner.{Inner, present, fileBlocks, render, emptyLines, formatM, findM, readM, ChangedM, refusedM, peakAfter, roomFor, addM, outM, outsM, endM}
+use Rattle.files.specs.Laws.Facts.{dirEnd-is, word20, held-is, judged-none, found-slot}
+use Rattle.files.specs.Laws.Inner.{Inner, present, fileBlocks, render, emptySlots, formatM, findM, readM, ChangedM, refusedM, peakAfter, roomFor, addM, outM, outsM, endM}
 use Rattle.files.specs.Laws.Invariant.{partsOf, Inv}
 use Rattle.files.specs.Laws.Left.{count-is, left-is}
 use Rattle.files.specs.Laws.Listed.{withOwner, Listed}
@@ -33,8 +33,8 @@ use Rattle.files.specs.Laws.Present.{Fills, none-some, fills-size, fills
 use Rattle.files.specs.Laws.Names.{bounds-name}
 use Rattle.files.specs.Laws.Results.{result-is}
 use Rattle.files.specs.Laws.Run.{format-is, format-inv, img-right, img-disk, out-is, runs, end-inv}
-use Rattle.files.specs.Laws.Zero.{by-line, filled-below, line-entry, zero-outside}
-use Rattle.files.specs.Model.{NamedFile, Line, Model, dirBlocks, usable, freeWord, modelDisk, modelFormat, named, lineData}
+use Rattle.files.specs.Laws.Zero.{by-slot, filled-below, slot-entry, zero-outside}
+use Rattle.files.specs.Model.{NamedFile, HeldFile, Model, dirBlocks, usable, freeWord, modelDisk, modelFormat, named, heldData}
 use Rattle.files.specs.Sizes.{nameMost, titleMost}
 use Rattle.files.specs.Written.{blocksFor}
 
@@ -45,12 +45,12 @@ format-is-done : (old title : List ℕ) (number : ℕ) → length old ≡ imageB
 unfolding format imageRight
 format-is-done old title number long short = cond-true _ _ (eq-true long) ∙ cond-true _ _ (le-true short)
 
-fresh-fills : (title : List ℕ) (number : ℕ) → Fills (formatM title number .lines) []
-unfolding formatM emptyLines
+fresh-fills : (title : List ℕ) (number : ℕ) → Fills (formatM title number .slots) []
+unfolding formatM emptySlots
 fresh-fills title number k = refl
 
 fresh-few : (title : List ℕ) (number : ℕ) → present (formatM title number) ≤ formatM title number .peak
-unfolding formatM emptyLines isSome present count
+unfolding formatM emptySlots isSome present count
 fresh-few title number = omega arith
 
 fresh-peak : (title : List ℕ) (number : ℕ) → formatM title number .peak ≡ 0
@@ -59,36 +59,36 @@ fresh-peak title number = refl
 
 -- ---- what is read of the inner model at the end
 
-module _ (m : Inner) (v : Inv m) (fs : List NamedFile) (r : Fills (m .lines) fs) where
+module _ (m : Inner) (v : Inv m) (fs : List NamedFile) (r : Fills (m .slots) fs) where
   size-is : fileBlocks m ≡ sizeOf fs
   unfolding fileBlocks
-  size-is = fills-size fs (m .lines) (suc (m .peak)) (λ k h. v .line-past k h) r
+  size-is = fills-size fs (m .slots) (suc (m .peak)) (λ k h. v .slot-past k h) r
 
-  -- a name that no line has
-  no-line : (name : List ℕ) → suc (m .peak) ≤ findM m name → (k : ℕ) (x : NamedFile) → m .lines k ≡ some x → nameEq (x .name) name ≡ false
+  -- a name that no slot has
+  no-slot : (name : List ℕ) → suc (m .peak) ≤ findM m name → (k : ℕ) (x : NamedFile) → m .slots k ≡ some x → nameEq (x .name) name ≡ false
   unfolding findM named
-  no-line name h k x e =
+  no-slot name h k x e =
       ap (named name) (sym e)
-      ∙ lowest-low (λ (j : ℕ). named name (m .lines j)) (suc (m .peak)) k (omega (arith, filled-below m v fs r k x e .1))
+      ∙ lowest-low (λ (j : ℕ). named name (m .slots j)) (suc (m .peak)) k (omega (arith, filled-below m v fs r k x e .1))
 
-  -- by whether a line has it
+  -- by whether a slot has it
   by-name : {X : Type 0} (name : List ℕ)
-      → ((x : NamedFile) → findM m name < suc (m .peak) → m .lines (findM m name) ≡ some x → fileNamed name fs ≡ some x → X)
+      → ((x : NamedFile) → findM m name < suc (m .peak) → m .slots (findM m name) ≡ some x → fileNamed name fs ≡ some x → X)
       → (suc (m .peak) ≤ findM m name → fileNamed name fs ≡ none → X) → X
   by-name name f g =
       by-order (findM m name) (suc (m .peak))
       (λ h.
-      let w : (x : NamedFile) × (m .lines (findM m name) ≡ some x) × (nameEq (x .name) name ≡ true) × (0 < findM m name) = found-line m v name h in
-      f (w .0) h (w .1) (fills-named fs (m .lines) (λ i j y z a b n. v .line-once i j y z a b n) (findM m name) (w .0) name (w .1) (w .2) r))
-      (λ h. g h (fills-not-named fs (m .lines) name (no-line name h) r))
+      let w : (x : NamedFile) × (m .slots (findM m name) ≡ some x) × (nameEq (x .name) name ≡ true) × (0 < findM m name) = found-slot m v name h in
+      f (w .0) h (w .1) (fills-named fs (m .slots) (λ i j y z a b n. v .slot-once i j y z a b n) (findM m name) (w .0) name (w .1) (w .2) r))
+      (λ h. g h (fills-not-named fs (m .slots) name (no-slot name h) r))
 
   read-found : (name buf : List ℕ) → 1 ≤ length name → length name ≤ nameMost → readM m name buf ≡ dataFound (fileNamed name fs) buf
-  unfolding readM dataFound lineData kept
+  unfolding readM dataFound heldData kept
   read-found name buf p q =
       cond-true _ _ (bounds-name name p q)
       ∙ by-name name
-      (λ x h e f. cond-true _ _ (lt-true h) ∙ ap (λ (l : Line). deliver (lineData l) buf) e ∙ result-is (x .content) buf ∙ ap (λ (l : Line). dataFound l buf) (sym f))
-      (λ h f. cond-false _ _ (lt-false h) ∙ ap (λ (l : Line). dataFound l buf) (sym f))
+      (λ x h e f. cond-true _ _ (lt-true h) ∙ ap (λ (l : HeldFile). deliver (heldData l) buf) e ∙ result-is (x .content) buf ∙ ap (λ (l : HeldFile). dataFound l buf) (sym f))
+      (λ h f. cond-false _ _ (lt-false h) ∙ ap (λ (l : HeldFile). dataFound l buf) (sym f))
 
   add-found : (x : NamedFile) → 1 ≤ length (x .name) → length (x .name) ≤ nameMost → fileNamed (x .name) fs ≡ none → addM m x .answer ≡ cond (roomFor m x) done (refusal 15)
   unfolding addM refusedM
@@ -107,17 +107,17 @@ module _ (m : Inner) (v : Inv m) (fs : List NamedFile) (r : Fills (m .lines) fs)
 
   slot-of : (x : NamedFile) → Present x fs → (k : ℕ) × (0 < k) × (k < dirEnd (render m)) × HasEntry (render m) k x
   slot-of x p =
-      let w : (k : ℕ) × (m .lines k ≡ some x) = present-fills fs (m .lines) x p r in
+      let w : (k : ℕ) × (m .slots k ≡ some x) = present-fills fs (m .slots) x p r in
       let b : (0 < w .0) × (w .0 ≤ m .peak) = filled-below m v fs r (w .0) x (w .1) in
-      (w .0, b .0, omega (arith, b .1, dirEnd-is m v), line-entry m v fs r (w .0) x (w .1))
+      (w .0, b .0, omega (arith, b .1, dirEnd-is m v), slot-entry m v fs r (w .0) x (w .1))
 
   of-slot : (k : ℕ) → k < dirEnd (render m) → held (render m) k ≡ true → (x : NamedFile) × Present x fs × HasEntry (render m) k x
   unfolding isSome
   of-slot k l h =
       let low : k ≤ m .peak = omega (arith, dirEnd-is m v) in
-      by-line (m .lines k)
+      by-slot (m .slots k)
       (λ e. true≢false (held (render m) k) h (held-is m v k low none e))
-      (λ x e. (x, fills-present fs (m .lines) k x e r, line-entry m v fs r k x e))
+      (λ x e. (x, fills-present fs (m .slots) k x e r, slot-entry m v fs r k x e))
 
 -- ---- the whole
 
@@ -143,7 +143,7 @@ module _ (title : List ℕ) (number : ℕ) (calls : List Call) where
   v : Inv m
   v = end-inv calls m₀ (format-inv title number)
 
-  both : Fills (m .lines) fs × (m .peak ≡ max (m₀ .peak) P)
+  both : Fills (m .slots) fs × (m .peak ≡ max (m₀ .peak) P)
   both = left-is calls m₀ [] (format-inv title number) (fresh-fills title number) (fresh-few title number)
 
   peak-most-is : m .peak ≡ P
@@ -153,8 +153,8 @@ module _ (title : List ℕ) (number : ℕ) (calls : List Call) where
   with-model =
       let e : m₀ ≡ withOwner b₀ freshOwner = start-is title number in
       let w : Inv (withOwner b₀ freshOwner) = subst Inv e (format-inv title number) in
-      let l : Listed (b₀ .lines) (b₀ .dir) freshOwner (partsOf (withOwner b₀ freshOwner)) =
-      subst (λ (z : Inner). Listed (b₀ .lines) (b₀ .dir) freshOwner (partsOf z)) e (fresh-listed title number) in
+      let l : Listed (b₀ .slots) (b₀ .dir) freshOwner (partsOf (withOwner b₀ freshOwner)) =
+      subst (λ (z : Inner). Listed (b₀ .slots) (b₀ .dir) freshOwner (partsOf z)) e (fresh-listed title number) in
       let h : (outsM (withOwner b₀ freshOwner) calls ≡ modelOuts b₀ calls)
       × (render (endM (withOwner b₀ freshOwner) calls) ≡ modelDisk (modelEnd b₀ calls))
       × (endM (withOwner b₀ freshOwner) calls .peak ≡ modelEnd b₀ calls .peak) = agree calls b₀ freshOwner w l in (

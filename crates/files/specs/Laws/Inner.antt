@@ -1,4 +1,4 @@
--- The inner model, which the proofs alone use: lines without their blocks, and for each block the record that it has.
+-- The inner model, which the proofs alone use: slots without their blocks, and for each block the record that it has.
 -- Assumes nothing.
 use mathlib.Core.Bool.{Bool, not, cond, _&&_}
 use mathlib.Core.List.{List, [], _∷_}
@@ -22,7 +22,7 @@ use Rattle.files.specs.Disk.{Disk}
 use Rattle.files.specs.Histories.{Call, toAdd, toRemove, toList, toRead}
 use Rattle.files.specs.Laws.Whole.{unowned}
 use Rattle.files.specs.Map.{isFree}
-use Rattle.files.specs.Model.{NamedFile, Line, lineBlocks, dirBlocks, usable, freeWord, content, named, lineEntries, lineData, wrap}
+use Rattle.files.specs.Model.{NamedFile, HeldFile, heldBlocks, dirBlocks, usable, freeWord, content, named, heldEntries, heldData, wrap}
 use Rattle.files.specs.Written.{headerByte, diskWith, blocksFor}
 
 pub record Inner : Type 0 where
@@ -33,19 +33,19 @@ pub record Inner : Type 0 where
   pub updates : ℕ
   -- the greatest number of files present at once since the format
   pub peak : ℕ
-  -- line k has the file of slot k; line 0 stays empty
-  pub lines : ℕ → Line
-  -- what each block is given to: a file, by its line, and the block's place in it; file 0 is the directory
+  -- slot k has the file of slot k; slot 0 stays empty
+  pub slots : ℕ → HeldFile
+  -- what each block is given to: a file, by its slot, and the block's place in it; file 0 is the directory
   pub owner : ℕ → Record
 
 -- ---- sizes
 
 unfoldable pub present : Inner → ℕ
-present m = count (suc (m .peak)) (λ (k : ℕ). isSome (m .lines k))
+present m = count (suc (m .peak)) (λ (k : ℕ). isSome (m .slots k))
 
 -- S of demand 3
 unfoldable pub fileBlocks : Inner → ℕ
-fileBlocks m = sum (suc (m .peak)) (λ (k : ℕ). lineBlocks (m .lines k))
+fileBlocks m = sum (suc (m .peak)) (λ (k : ℕ). heldBlocks (m .slots k))
 
 -- ---- the image of a model
 
@@ -53,24 +53,24 @@ unfoldable pub header : Inner → ℕ → ℕ
 header m = headerByte (m .title) (m .number) (m .updates) (freeWord (m .peak) (fileBlocks m)) (suc (m .peak))
 
 unfoldable pub render : Inner → Disk
-render m = diskWith (header m) (m .owner) (content (m .lines) (m .lines))
+render m = diskWith (header m) (m .owner) (content (m .slots) (m .slots))
 
 -- ---- the steps
 
-unfoldable pub emptyLines : ℕ → Line
-emptyLines k = none
+unfoldable pub emptySlots : ℕ → HeldFile
+emptySlots k = none
 
 unfoldable pub formatM : List ℕ → ℕ → Inner
 formatM title number =
-    record { title = title; number = number; updates = 0; peak = 0; lines = emptyLines; owner = freshOwner }
+    record { title = title; number = number; updates = 0; peak = 0; slots = emptySlots; owner = freshOwner }
 
--- the line of that name, or the first past the peak
+-- the slot of that name, or the first past the peak
 unfoldable pub findM : Inner → List ℕ → ℕ
-findM m name = lowest (λ (k : ℕ). named name (m .lines k)) (suc (m .peak))
+findM m name = lowest (λ (k : ℕ). named name (m .slots k)) (suc (m .peak))
 
--- the lowest empty line
-unfoldable pub emptyLine : Inner → ℕ
-emptyLine m = lowest (λ (k : ℕ). (ltb 0 k && not (isSome (m .lines k)))) (suc (m .peak))
+-- the lowest empty slot
+unfoldable pub emptySlot : Inner → ℕ
+emptySlot m = lowest (λ (k : ℕ). (ltb 0 k && not (isSome (m .slots k)))) (suc (m .peak))
 
 -- the blocks are given to file f, from place s on
 unfoldable pub give : (ℕ → Record) → ℕ → ℕ → List ℕ → ℕ → Record
@@ -81,12 +81,12 @@ unfoldable pub freeOf : (ℕ → Record) → ℕ → Bool
 freeOf owner b = isFree (owner b)
 
 unfoldable pub listM : Inner → List ℕ → Outcome
-listM m buf = deliver (lineEntries (m .lines) (suc (m .peak))) buf
+listM m buf = deliver (heldEntries (m .slots) (suc (m .peak))) buf
 
 unfoldable pub readM : Inner → List ℕ → List ℕ → Outcome
 readM m name buf =
     cond (nameRight name)
-    (cond (ltb (findM m name) (suc (m .peak))) (deliver (lineData (m .lines (findM m name))) buf) (kept buf (refusal 14)))
+    (cond (ltb (findM m name) (suc (m .peak))) (deliver (heldData (m .slots (findM m name))) buf) (kept buf (refusal 14)))
     (kept buf (refusal 12))
 
 pub record ChangedM : Type 0 where
@@ -103,7 +103,7 @@ removeAtM m k =
       number = m .number;
       updates = wrap (m .updates + 1);
       peak = m .peak;
-      lines = upd (m .lines) k none;
+      slots = upd (m .slots) k none;
       owner = λ (b : ℕ). unowned k (m .owner b);
     }
 
@@ -130,7 +130,7 @@ addAtM m k x =
       number = m .number;
       updates = wrap (m .updates + 1);
       peak = peakAfter m;
-      lines = upd (m .lines) k (some x);
+      slots = upd (m .slots) k (some x);
       owner = give owner₁ k 0 (firsts blocks (blocksFor (length (x .content))) (freeOf owner₁));
     }
 
@@ -142,7 +142,7 @@ unfoldable pub addM : Inner → NamedFile → ChangedM
 addM m x =
     cond (nameRight (x .name))
     (cond (ltb (findM m (x .name)) (suc (m .peak))) (refusedM m (reply 13 (findM m (x .name)) 0 0))
-    (cond (roomFor m x) (record { answer = done; model = addAtM m (emptyLine m) x }) (refusedM m (refusal 15))))
+    (cond (roomFor m x) (record { answer = done; model = addAtM m (emptySlot m) x }) (refusedM m (refusal 15))))
     (refusedM m (refusal 12))
 
 -- ---- histories

@@ -12,13 +12,13 @@ use Rattle.files.specs.declared.Record.the-variants.{System, File}
 use Rattle.files.specs.Directory.{nameEq}
 use Rattle.files.specs.Laws.Inner.{Inner, fileBlocks, freeOf}
 use Rattle.files.specs.Laws.Whole.{Valid}
-use Rattle.files.specs.Model.{NamedFile, lineBlocks, dirBlocks, usable}
+use Rattle.files.specs.Model.{NamedFile, heldBlocks, dirBlocks, usable}
 use Rattle.files.specs.Sizes.{nameMost}
 
 -- how many blocks file f has
 unfoldable pub partsOf : Inner → ℕ → ℕ
 partsOf m zero = dirBlocks (m .peak)
-partsOf m (suc f) = lineBlocks (m .lines (suc f))
+partsOf m (suc f) = heldBlocks (m .slots (suc f))
 
 -- the blocks are owned so that file f has `parts f` of them, each sequence once
 pub record Owned (owner : ℕ → Record) (parts : ℕ → ℕ) : Type 0 where
@@ -31,11 +31,11 @@ pub record Owned (owner : ℕ → Record) (parts : ℕ → ℕ) : Type 0 where
 
 pub record Inv (m : Inner) : Type 0 where
   pub own : Owned (m .owner) (partsOf m)
-  -- the lines
-  pub line-zero : m .lines 0 ≡ none
-  pub line-past : (k : ℕ) → m .peak < k → m .lines k ≡ none
-  pub line-name : (k : ℕ) (x : NamedFile) → m .lines k ≡ some x → (1 ≤ length (x .name)) × (length (x .name) ≤ nameMost)
-  pub line-once : (j k : ℕ) (x y : NamedFile) → m .lines j ≡ some x → m .lines k ≡ some y → nameEq (x .name) (y .name) ≡ true → j ≡ k
+  -- the slots
+  pub slot-zero : m .slots 0 ≡ none
+  pub slot-past : (k : ℕ) → m .peak < k → m .slots k ≡ none
+  pub slot-name : (k : ℕ) (x : NamedFile) → m .slots k ≡ some x → (1 ≤ length (x .name)) × (length (x .name) ≤ nameMost)
+  pub slot-once : (j k : ℕ) (x y : NamedFile) → m .slots j ≡ some x → m .slots k ≡ some y → nameEq (x .name) (y .name) ≡ true → j ≡ k
   -- the counts
   pub free-sum : count blocks (freeOf (m .owner)) + (dirBlocks (m .peak) + fileBlocks m) ≡ usable
   pub peak-most : m .peak ≤ 460

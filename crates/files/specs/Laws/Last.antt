@@ -20,7 +20,7 @@ use Rattle.files.specs.Laws.Inner.{freeOf}
 use Rattle.files.specs.Laws.Invariant.{Owned}
 use Rattle.files.specs.Laws.Whole.{Valid, With, freeCount-is, partBlock-is, write-head, write-block, with-same}
 use Rattle.files.specs.Map.{isSystem, isPart, freeCount, partBlock}
-use Rattle.files.specs.Model.{Line, slotOf, dirByte, content, wrap}
+use Rattle.files.specs.Model.{HeldFile, slotOf, dirByte, content, wrap}
 use Rattle.files.specs.Sizes.{blockBytes, slotBytes, blockSlots}
 use Rattle.files.specs.Written.{fixedByte, headerByte, setSlot, setWord, setFree, setEnd, stepUpdate}
 
@@ -129,7 +129,7 @@ finish title number u w e owner c d p v small =
 
 -- ---- a slot is written
 
-module _ (d : Disk) (h : ℕ → ℕ) (owner : ℕ → Record) (parts : ℕ → ℕ) (v : Owned owner parts) (L F : ℕ → Line)
+module _ (d : Disk) (h : ℕ → ℕ) (owner : ℕ → Record) (parts : ℕ → ℕ) (v : Owned owner parts) (L F : ℕ → HeldFile)
     (p : With d h owner (content L F)) where
   pub owned-block : (b f s : ℕ) → b < blocks → owner b ≡ File f s → partBlock d f s ≡ b
   owned-block b f s l e =
@@ -141,8 +141,8 @@ module _ (d : Disk) (h : ℕ → ℕ) (owner : ℕ → Record) (parts : ℕ → 
   unfolding isSystem
   owned-not-zero b f s e z = true≢false (isSystem (owner 0)) (ap isSystem (v .own-zero)) (ap (λ (x : ℕ). isSystem (owner x)) (sym z) ∙ ap isSystem e)
 
-  module _ (k : ℕ) (x : Line) (e : ℕ → ℕ) (same-entry : (i : ℕ) → i < slotBytes → e i ≡ slotOf x i) (inDir : k / blockSlots < parts 0) where
-    abbrev L′ : ℕ → Line
+  module _ (k : ℕ) (x : HeldFile) (e : ℕ → ℕ) (same-entry : (i : ℕ) → i < slotBytes → e i ≡ slotOf x i) (inDir : k / blockSlots < parts 0) where
+    abbrev L′ : ℕ → HeldFile
     L′ = upd L k x
 
     -- the block with the slot
@@ -155,20 +155,20 @@ module _ (d : Disk) (h : ℕ → ℕ) (owner : ℕ → Record) (parts : ℕ → 
         let here : s * blockSlots + o / slotBytes ≡ k = omega arith in
         let off : o - k % blockSlots * slotBytes ≡ o % slotBytes = omega arith in
         patch-in (λ (i : ℕ). dirByte L s i) (k % blockSlots * slotBytes) slotBytes e o a b
-        ∙ ap e off ∙ same-entry (o % slotBytes) (omega arith) ∙ ap (λ (y : Line). slotOf y (o % slotBytes)) (sym (upd-same L k x (s * blockSlots + o / slotBytes) here)))
+        ∙ ap e off ∙ same-entry (o % slotBytes) (omega arith) ∙ ap (λ (y : HeldFile). slotOf y (o % slotBytes)) (sym (upd-same L k x (s * blockSlots + o / slotBytes) here)))
         (λ a.
         let there : s * blockSlots + o / slotBytes ≢ k = omega arith in
-        patch-below (λ (i : ℕ). dirByte L s i) (k % blockSlots * slotBytes) slotBytes e o a ∙ ap (λ (y : Line). slotOf y (o % slotBytes)) (sym (upd-other L k x (s * blockSlots + o / slotBytes) there)))
+        patch-below (λ (i : ℕ). dirByte L s i) (k % blockSlots * slotBytes) slotBytes e o a ∙ ap (λ (y : HeldFile). slotOf y (o % slotBytes)) (sym (upd-other L k x (s * blockSlots + o / slotBytes) there)))
         (λ a.
         let there : s * blockSlots + o / slotBytes ≢ k = omega arith in
-        patch-above (λ (i : ℕ). dirByte L s i) (k % blockSlots * slotBytes) slotBytes e o a ∙ ap (λ (y : Line). slotOf y (o % slotBytes)) (sym (upd-other L k x (s * blockSlots + o / slotBytes) there)))
+        patch-above (λ (i : ℕ). dirByte L s i) (k % blockSlots * slotBytes) slotBytes e o a ∙ ap (λ (y : HeldFile). slotOf y (o % slotBytes)) (sym (upd-other L k x (s * blockSlots + o / slotBytes) there)))
 
     -- any other block of the directory
     other-block : (s o : ℕ) → s ≢ k / blockSlots → o < blockBytes → dirByte L s o ≡ dirByte L′ s o
     unfolding dirByte
     other-block s o q l =
         let there : s * blockSlots + o / slotBytes ≢ k = omega arith in
-        ap (λ (y : Line). slotOf y (o % slotBytes)) (sym (upd-other L k x (s * blockSlots + o / slotBytes) there))
+        ap (λ (y : HeldFile). slotOf y (o % slotBytes)) (sym (upd-other L k x (s * blockSlots + o / slotBytes) there))
 
     other-content : (r : Record) (o : ℕ) → r ≢ File 0 (k / blockSlots) → o < blockBytes → content L F r o ≡ content L′ F r o
     unfolding content

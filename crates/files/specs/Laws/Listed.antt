@@ -23,7 +23,7 @@ use Rattle.files.specs.Laws.Invariant.{Owned}
 use Rattle.files.specs.Laws.Owners.{keeps, still-free}
 use Rattle.files.specs.Laws.Whole.{Valid, unowned}
 use Rattle.files.specs.Map.{isFree}
-use Rattle.files.specs.Model.{Filled, Model, fileOf, takenBy, position, orRecord, lineRecord, recordIn}
+use Rattle.files.specs.Model.{Filled, Model, fileOf, takenBy, position, orRecord, slotRecord, recordIn}
 
 -- ---- positions
 
@@ -62,64 +62,64 @@ by-position (some s) f g = g s refl
 -- ---- the blocks of a book are owned as its lists say
 
 unfoldable pub blocksOf : (ℕ → Option Filled) → List ℕ → ℕ → List ℕ
-blocksOf lines dir zero = dir
-blocksOf lines dir (suc k) = takenBy (lines (suc k))
+blocksOf slots dir zero = dir
+blocksOf slots dir (suc k) = takenBy (slots (suc k))
 
--- the inner model with the lines of a model, and these owners
+-- the inner model with the slots of a model, and these owners
 unfoldable pub withOwner : Model → (ℕ → Record) → Inner
 withOwner b owner =
-    record { title = b .title; number = b .number; updates = b .updates; peak = b .peak; lines = λ (k : ℕ). fileOf (b .lines k); owner = owner }
+    record { title = b .title; number = b .number; updates = b .updates; peak = b .peak; slots = λ (k : ℕ). fileOf (b .slots k); owner = owner }
 
-pub record Listed (lines : ℕ → Option Filled) (dir : List ℕ) (owner : ℕ → Record) (parts : ℕ → ℕ) : Type 0 where
-  pub sizes : (k : ℕ) → length (blocksOf lines dir k) ≡ parts k
-  pub each : (k s : ℕ) → s < parts k → (getD (blocksOf lines dir k) s 0 < blocks) × (owner (getD (blocksOf lines dir k) s 0) ≡ File k s)
+pub record Listed (slots : ℕ → Option Filled) (dir : List ℕ) (owner : ℕ → Record) (parts : ℕ → ℕ) : Type 0 where
+  pub sizes : (k : ℕ) → length (blocksOf slots dir k) ≡ parts k
+  pub each : (k s : ℕ) → s < parts k → (getD (blocksOf slots dir k) s 0 < blocks) × (owner (getD (blocksOf slots dir k) s 0) ≡ File k s)
 
-module _ (lines : ℕ → Option Filled) (dir : List ℕ) (owner : ℕ → Record) (parts : ℕ → ℕ) (v : Owned owner parts) (r : Listed lines dir owner parts)
-    (first : lines 0 ≡ none) (peak : ℕ) (past : (k : ℕ) → peak < k → parts k ≡ 0) where
+module _ (slots : ℕ → Option Filled) (dir : List ℕ) (owner : ℕ → Record) (parts : ℕ → ℕ) (v : Owned owner parts) (r : Listed slots dir owner parts)
+    (first : slots 0 ≡ none) (peak : ℕ) (past : (k : ℕ) → peak < k → parts k ≡ 0) where
   -- what a search finds is the owner
-  hit : (b k s : ℕ) → position b 0 (blocksOf lines dir k) ≡ some s → owner b ≡ File k s
+  hit : (b k s : ℕ) → position b 0 (blocksOf slots dir k) ≡ some s → owner b ≡ File k s
   hit b k s e =
-      let w : (0 ≤ s) × (s < 0 + length (blocksOf lines dir k)) × (getD (blocksOf lines dir k) (s - 0) 0 ≡ b) = found b 0 (blocksOf lines dir k) s e in
+      let w : (0 ≤ s) × (s < 0 + length (blocksOf slots dir k)) × (getD (blocksOf slots dir k) (s - 0) 0 ≡ b) = found b 0 (blocksOf slots dir k) s e in
       let z : s - 0 ≡ s = omega arith in
-      let at : getD (blocksOf lines dir k) s 0 ≡ b = ap (λ (j : ℕ). getD (blocksOf lines dir k) j 0) (sym z) ∙ w .2 in
+      let at : getD (blocksOf slots dir k) s 0 ≡ b = ap (λ (j : ℕ). getD (blocksOf slots dir k) j 0) (sym z) ∙ w .2 in
       ap owner (sym at) ∙ r .each k s (omega (arith, w .1, r .sizes k)) .1
 
   -- where it finds nothing there is no owner
-  miss : (b k s : ℕ) → b < blocks → position b 0 (blocksOf lines dir k) ≡ none → owner b ≡ File k s → ⊥
+  miss : (b k s : ℕ) → b < blocks → position b 0 (blocksOf slots dir k) ≡ none → owner b ≡ File k s → ⊥
   miss b k s l e q =
       let h : s < parts k = v .own-below b k s l q in
-      let w : (getD (blocksOf lines dir k) s 0 < blocks) × (owner (getD (blocksOf lines dir k) s 0) ≡ File k s) = r .each k s h in
-      missed b 0 (blocksOf lines dir k) e s (omega (arith, r .sizes k)) (v .own-once (getD (blocksOf lines dir k) s 0) b k s (w .0) l (w .1) q)
+      let w : (getD (blocksOf slots dir k) s 0 < blocks) × (owner (getD (blocksOf slots dir k) s 0) ≡ File k s) = r .each k s h in
+      missed b 0 (blocksOf slots dir k) e s (omega (arith, r .sizes k)) (v .own-once (getD (blocksOf slots dir k) s 0) b k s (w .0) l (w .1) q)
 
-  -- lines below n
-  line-is : (n b : ℕ) → b < blocks → ((k s : ℕ) → n ≤ k → owner b ≡ File k s → ⊥) → ((s : ℕ) → owner b ≡ File 0 s → ⊥) → owner b ≢ System → lineRecord lines n b ≡ owner b
-  unfolding lineRecord orRecord blocksOf takenBy position
-  line-is zero b l high low sys = sym (go (owner b) refl)
+  -- slots below n
+  slot-is : (n b : ℕ) → b < blocks → ((k s : ℕ) → n ≤ k → owner b ≡ File k s → ⊥) → ((s : ℕ) → owner b ≡ File 0 s → ⊥) → owner b ≢ System → slotRecord slots n b ≡ owner b
+  unfolding slotRecord orRecord blocksOf takenBy position
+  slot-is zero b l high low sys = sym (go (owner b) refl)
     where
       go : (x : Record) → owner b ≡ x → owner b ≡ Free
       go Free e = e
       go System e = absurd (sys e)
       go (File k s) e = absurd (high k s (omega arith) e)
       go Other e = absurd (subst Valid e (v .own-valid b l))
-  line-is (suc zero) b l high low sys =
-      ap (λ (x : Option Filled). orRecord 0 (position b 0 (takenBy x)) (lineRecord lines 0 b)) first
-      ∙ line-is zero b l (λ k s h e. by-equal k 0 (λ q. low s (e ∙ ap (λ (j : ℕ). File j s) q)) (λ q. high k s (omega arith) e)) low sys
-  line-is (suc (suc n)) b l high low sys =
-      by-position (position b 0 (takenBy (lines (suc n))))
-      (λ e. ap (λ (o : Option ℕ). orRecord (suc n) o (lineRecord lines (suc n) b)) e
-      ∙ line-is (suc n) b l (λ k s h q. by-equal k (suc n) (λ p. miss b (suc n) s l e (q ∙ ap (λ (j : ℕ). File j s) p)) (λ p. high k s (omega arith) q)) low sys)
-      (λ s e. ap (λ (o : Option ℕ). orRecord (suc n) o (lineRecord lines (suc n) b)) e ∙ sym (hit b (suc n) s e))
+  slot-is (suc zero) b l high low sys =
+      ap (λ (x : Option Filled). orRecord 0 (position b 0 (takenBy x)) (slotRecord slots 0 b)) first
+      ∙ slot-is zero b l (λ k s h e. by-equal k 0 (λ q. low s (e ∙ ap (λ (j : ℕ). File j s) q)) (λ q. high k s (omega arith) e)) low sys
+  slot-is (suc (suc n)) b l high low sys =
+      by-position (position b 0 (takenBy (slots (suc n))))
+      (λ e. ap (λ (o : Option ℕ). orRecord (suc n) o (slotRecord slots (suc n) b)) e
+      ∙ slot-is (suc n) b l (λ k s h q. by-equal k (suc n) (λ p. miss b (suc n) s l e (q ∙ ap (λ (j : ℕ). File j s) p)) (λ p. high k s (omega arith) q)) low sys)
+      (λ s e. ap (λ (o : Option ℕ). orRecord (suc n) o (slotRecord slots (suc n) b)) e ∙ sym (hit b (suc n) s e))
 
-  pub owner-is : (b : ℕ) → b < blocks → recordIn lines dir peak b ≡ owner b
+  pub owner-is : (b : ℕ) → b < blocks → recordIn slots dir peak b ≡ owner b
   unfolding recordIn orRecord blocksOf
   owner-is b l =
       by-equal b 0
       (λ z. cond-true _ _ (eq-true z) ∙ sym (ap owner z ∙ v .own-zero))
       (λ z. cond-false _ _ (eq-false z)
       ∙ by-position (position b 0 dir)
-      (λ e. ap (λ (o : Option ℕ). orRecord 0 o (lineRecord lines (suc peak) b)) e
-      ∙ line-is (suc peak) b l (λ k s h q. omega (arith, v .own-below b k s l q, past k (omega arith))) (λ s q. miss b 0 s l e q) (λ q. z (v .own-system b l q)))
-      (λ s e. ap (λ (o : Option ℕ). orRecord 0 o (lineRecord lines (suc peak) b)) e ∙ sym (hit b 0 s e)))
+      (λ e. ap (λ (o : Option ℕ). orRecord 0 o (slotRecord slots (suc peak) b)) e
+      ∙ slot-is (suc peak) b l (λ k s h q. omega (arith, v .own-below b k s l q, past k (omega arith))) (λ s q. miss b 0 s l e q) (λ q. z (v .own-system b l q)))
+      (λ s e. ap (λ (o : Option ℕ). orRecord 0 o (slotRecord slots (suc peak) b)) e ∙ sym (hit b 0 s e)))
 
 -- ---- blocks are given
 
@@ -152,28 +152,28 @@ give-at (x ∷ xs) owner f s i (suc j) t h =
     let z : suc s + j ≡ s + suc j = omega arith in
     (w .0, w .1 ∙ ap (File f) z)
 
-module _ (lines lines′ : ℕ → Option Filled) (dir dir′ : List ℕ) (owner : ℕ → Record) (parts : ℕ → ℕ) (r : Listed lines dir owner parts) where
+module _ (slots slots′ : ℕ → Option Filled) (dir dir′ : List ℕ) (owner : ℕ → Record) (parts : ℕ → ℕ) (r : Listed slots dir owner parts) where
   pub give-listed : (bs : List ℕ) (f s i : ℕ) → Picks blocks (freeOf owner) i bs → parts f ≡ s
-      → ((k : ℕ) → k ≢ f → blocksOf lines′ dir′ k ≡ blocksOf lines dir k) → blocksOf lines′ dir′ f ≡ blocksOf lines dir f ++ bs
-      → Listed lines′ dir′ (give owner f s bs) (upd parts f (s + length bs))
+      → ((k : ℕ) → k ≢ f → blocksOf slots′ dir′ k ≡ blocksOf slots dir k) → blocksOf slots′ dir′ f ≡ blocksOf slots dir f ++ bs
+      → Listed slots′ dir′ (give owner f s bs) (upd parts f (s + length bs))
   give-listed bs f s i t e others this =
-      let old : List ℕ = blocksOf lines dir f in
+      let old : List ℕ = blocksOf slots dir f in
       let long : length old ≡ s = r .sizes f ∙ e in
       record {
         sizes = λ k.
             by-equal k f
-            (λ q. ap (λ (j : ℕ). length (blocksOf lines′ dir′ j)) q ∙ ap length this ∙ length-append old bs
+            (λ q. ap (λ (j : ℕ). length (blocksOf slots′ dir′ j)) q ∙ ap length this ∙ length-append old bs
             ∙ omega (arith, upd-same parts f (s + length bs) k q))
             (λ q. ap length (others k q) ∙ r .sizes k ∙ sym (upd-other parts f (s + length bs) k q));
         each = λ k u h.
             by-equal k f
             (λ q.
             let n : upd parts f (s + length bs) k ≡ s + length bs = upd-same parts f (s + length bs) k q in
-            let l : blocksOf lines′ dir′ k ≡ old ++ bs = ap (blocksOf lines′ dir′) q ∙ this in
+            let l : blocksOf slots′ dir′ k ≡ old ++ bs = ap (blocksOf slots′ dir′) q ∙ this in
             let goal : (x : ℕ) → (x < blocks) × (give owner f s bs x ≡ File f u) → getD (old ++ bs) u 0 ≡ x
-            → (getD (blocksOf lines′ dir′ k) u 0 < blocks) × (give owner f s bs (getD (blocksOf lines′ dir′ k) u 0) ≡ File k u) =
+            → (getD (blocksOf slots′ dir′ k) u 0 < blocks) × (give owner f s bs (getD (blocksOf slots′ dir′ k) u 0) ≡ File k u) =
             λ x w p.
-            let y : getD (blocksOf lines′ dir′ k) u 0 ≡ x = ap (λ (xs : List ℕ). getD xs u 0) l ∙ p in
+            let y : getD (blocksOf slots′ dir′ k) u 0 ≡ x = ap (λ (xs : List ℕ). getD xs u 0) l ∙ p in
             (omega (arith, w .0), ap (give owner f s bs) y ∙ w .1 ∙ ap (λ (j : ℕ). File j u) (sym q)) in
             by-order u s
             (λ a.
@@ -188,33 +188,33 @@ module _ (lines lines′ : ℕ → Option Filled) (dir dir′ : List ℕ) (owner
             (ap (λ (j : ℕ). getD (old ++ bs) j 0) z ∙ getD-append-add old bs (u - s) 0)))
             (λ q.
             let n : upd parts f (s + length bs) k ≡ parts k = upd-other parts f (s + length bs) k q in
-            let w : (getD (blocksOf lines dir k) u 0 < blocks) × (owner (getD (blocksOf lines dir k) u 0) ≡ File k u) = r .each k u (omega arith) in
-            let y : getD (blocksOf lines′ dir′ k) u 0 ≡ getD (blocksOf lines dir k) u 0 = ap (λ (xs : List ℕ). getD xs u 0) (others k q) in (
+            let w : (getD (blocksOf slots dir k) u 0 < blocks) × (owner (getD (blocksOf slots dir k) u 0) ≡ File k u) = r .each k u (omega arith) in
+            let y : getD (blocksOf slots′ dir′ k) u 0 ≡ getD (blocksOf slots dir k) u 0 = ap (λ (xs : List ℕ). getD xs u 0) (others k q) in (
               omega (arith, w .0),
               ap (give owner f s bs) y
-                  ∙ give-off bs owner f s i (getD (blocksOf lines dir k) u 0) t (file-not-free owner (getD (blocksOf lines dir k) u 0) k u (w .1)) ∙ w .1,
+                  ∙ give-off bs owner f s i (getD (blocksOf slots dir k) u 0) t (file-not-free owner (getD (blocksOf slots dir k) u 0) k u (w .1)) ∙ w .1,
             ));
       }
 
   -- ---- a file's blocks are freed
 
   pub freed-listed : (f : ℕ) (parts′ : ℕ → ℕ) → ((k : ℕ) → k ≢ f → parts′ k ≡ parts k) → parts′ f ≡ 0
-      → ((k : ℕ) → k ≢ f → blocksOf lines′ dir′ k ≡ blocksOf lines dir k) → blocksOf lines′ dir′ f ≡ []
-      → Listed lines′ dir′ (λ (b : ℕ). unowned f (owner b)) parts′
+      → ((k : ℕ) → k ≢ f → blocksOf slots′ dir′ k ≡ blocksOf slots dir k) → blocksOf slots′ dir′ f ≡ []
+      → Listed slots′ dir′ (λ (b : ℕ). unowned f (owner b)) parts′
   freed-listed f parts′ e z others this =
       record {
         sizes = λ k.
-            by-equal k f (λ q. ap (λ (j : ℕ). length (blocksOf lines′ dir′ j)) q ∙ ap length this ∙ sym (ap parts′ q ∙ z))
+            by-equal k f (λ q. ap (λ (j : ℕ). length (blocksOf slots′ dir′ j)) q ∙ ap length this ∙ sym (ap parts′ q ∙ z))
             (λ q. ap length (others k q) ∙ r .sizes k ∙ sym (e k q));
         each = λ k u h.
             by-equal k f (λ q. absurd (omega (arith, ap parts′ q)))
             (λ q.
-            let w : (getD (blocksOf lines dir k) u 0 < blocks) × (owner (getD (blocksOf lines dir k) u 0) ≡ File k u) = r .each k u (omega (arith, e k q)) in
-            let y : getD (blocksOf lines′ dir′ k) u 0 ≡ getD (blocksOf lines dir k) u 0 = ap (λ (xs : List ℕ). getD xs u 0) (others k q) in
-            (omega (arith, w .0), ap (λ (b : ℕ). unowned f (owner b)) y ∙ keeps f k u (owner (getD (blocksOf lines dir k) u 0)) (w .1) q));
+            let w : (getD (blocksOf slots dir k) u 0 < blocks) × (owner (getD (blocksOf slots dir k) u 0) ≡ File k u) = r .each k u (omega (arith, e k q)) in
+            let y : getD (blocksOf slots′ dir′ k) u 0 ≡ getD (blocksOf slots dir k) u 0 = ap (λ (xs : List ℕ). getD xs u 0) (others k q) in
+            (omega (arith, w .0), ap (λ (b : ℕ). unowned f (owner b)) y ∙ keeps f k u (owner (getD (blocksOf slots dir k) u 0)) (w .1) q));
       }
 
-pub listed-cong : (lines : ℕ → Option Filled) (dir : List ℕ) (owner : ℕ → Record) (parts parts′ : ℕ → ℕ) → ((k : ℕ) → parts k ≡ parts′ k)
-    → Listed lines dir owner parts → Listed lines dir owner parts′
-listed-cong lines dir owner parts parts′ e r =
+pub listed-cong : (slots : ℕ → Option Filled) (dir : List ℕ) (owner : ℕ → Record) (parts parts′ : ℕ → ℕ) → ((k : ℕ) → parts k ≡ parts′ k)
+    → Listed slots dir owner parts → Listed slots dir owner parts′
+listed-cong slots dir owner parts parts′ e r =
     record { sizes = λ k. r .sizes k ∙ e k; each = λ k u h. r .each k u (subst (λ (x : ℕ). u < x) (sym (e k)) h) }

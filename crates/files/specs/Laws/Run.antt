@@ -22,21 +22,21 @@ use Rattle.files.specs.Disk.{Disk, diskOf, imageOf}
 use Rattle.files.specs.Histories.{Call, imageOut, imageStep, imageOuts, imageEnd, toAdd, toRemove, toList, toRead}
 use Rattle.files.specs.Laws.Add.{room-is, add-inv, add-image}
 use Rattle.files.specs.Laws.Disk.{length-image, disk-image}
-use Rattle.files.specs.Laws.Facts.{dirEnd-is, findName-is, vacantSlot-is, judged-none, found-line, list-is, read-is}
-use Rattle.files.specs.Laws.Inner.{Inner, fileBlocks, header, render, emptyLines, formatM, findM, emptyLine, freeOf, ChangedM, refusedM, removeAtM, removeM, addAtM, roomFor, addM, stepM, outM, outsM, endM}
+use Rattle.files.specs.Laws.Facts.{dirEnd-is, findName-is, vacantSlot-is, judged-none, found-slot, list-is, read-is}
+use Rattle.files.specs.Laws.Inner.{Inner, fileBlocks, header, render, emptySlots, formatM, findM, emptySlot, freeOf, ChangedM, refusedM, removeAtM, removeM, addAtM, roomFor, addM, stepM, outM, outsM, endM}
 use Rattle.files.specs.Laws.Invariant.{partsOf, Inv}
 use Rattle.files.specs.Laws.Names.{name-bounds}
 use Rattle.files.specs.Laws.Remove.{remove-inv, remove-image}
 use Rattle.files.specs.Laws.Whole.{Valid, with-is, with-only, with-same}
 use Rattle.files.specs.Map.{isFree, isSystem}
-use Rattle.files.specs.Model.{NamedFile, lineBlocks, dirBlocks, freeWord, slotOf, bytesOf, dirByte, content}
+use Rattle.files.specs.Model.{NamedFile, heldBlocks, dirBlocks, freeWord, slotOf, bytesOf, dirByte, content}
 use Rattle.files.specs.Sizes.{blockBytes, nameMost}
 use Rattle.files.specs.Written.{headerByte, part}
 
 -- ---- format
 
-blank : (r : Record) (o : ℕ) → content emptyLines emptyLines r o ≡ 0
-unfolding content dirByte slotOf bytesOf part emptyLines
+blank : (r : Record) (o : ℕ) → content emptySlots emptySlots r o ≡ 0
+unfolding content dirByte slotOf bytesOf part emptySlots
 blank Free o = refl
 blank System o = refl
 blank Other o = refl
@@ -44,12 +44,12 @@ blank (File zero s) o = refl
 blank (File (suc f) s) o = by-test (ltb o blockBytes) (λ t. cond-true _ _ t) (λ t. cond-false _ _ t)
 
 pub format-is : (title : List ℕ) (number : ℕ) → formatDisk title number ≡ render (formatM title number)
-unfolding formatDisk render formatM header freeWord fileBlocks dirBlocks sum lineBlocks emptyLines
+unfolding formatDisk render formatM header freeWord fileBlocks dirBlocks sum heldBlocks emptySlots
 format-is title number =
-    with-only (headerByte title number 0 (blockSectors * (blocks - 2)) 1) freshOwner (content emptyLines emptyLines) (formatDisk title number)
+    with-only (headerByte title number 0 (blockSectors * (blocks - 2)) 1) freshOwner (content emptySlots emptySlots) (formatDisk title number)
     (with-same (formatDisk title number) (headerByte title number 0 (blockSectors * (blocks - 2)) 1) freshOwner (λ (r : Record) (o : ℕ). 0)
     (with-is (headerByte title number 0 (blockSectors * (blocks - 2)) 1) freshOwner (λ (r : Record) (o : ℕ). 0))
-    (headerByte title number 0 (blockSectors * (blocks - 2)) 1) freshOwner (content emptyLines emptyLines)
+    (headerByte title number 0 (blockSectors * (blocks - 2)) 1) freshOwner (content emptySlots emptySlots)
     (λ o l. refl) (λ b l. refl) (λ b o i j l. sym (blank (freshOwner b) o)))
 
 fresh-valid : (b : ℕ) → Valid (freshOwner b)
@@ -71,12 +71,12 @@ fresh-file (suc zero) f s e = (refl, cc, cc)
 fresh-file (suc (suc b)) f s e = true≢false (isFree Free) refl (ap isFree e)
 
 fresh-part : (title : List ℕ) (number f s : ℕ) → s < partsOf (formatM title number) f → (b : ℕ) × (b < blocks) × (freshOwner b ≡ File f s)
-unfolding freshOwner partsOf formatM dirBlocks lineBlocks emptyLines
+unfolding freshOwner partsOf formatM dirBlocks heldBlocks emptySlots
 fresh-part title number zero s h = (1, omega arith, ap (File 0) (omega arith))
 fresh-part title number (suc f) s h = absurd (omega arith)
 
 pub format-inv : (title : List ℕ) (number : ℕ) → Inv (formatM title number)
-unfolding formatM partsOf dirBlocks fileBlocks lineBlocks emptyLines sum count freeOf freshOwner isFree isSome
+unfolding formatM partsOf dirBlocks fileBlocks heldBlocks emptySlots sum count freeOf freshOwner isFree isSome
 format-inv title number =
     record {
       own =
@@ -90,10 +90,10 @@ format-inv title number =
             own-part = λ f s h. fresh-part title number f s h;
             own-once = λ b b′ f s l l′ e e′. fresh-file b f s e .0 ∙ sym (fresh-file b′ f s e′ .0);
           };
-      line-zero = refl;
-      line-past = λ k h. refl;
-      line-name = λ k x e. true≢false (isSome (some x)) refl (ap isSome (sym e));
-      line-once = λ j k x y e e′ n. true≢false (isSome (some x)) refl (ap isSome (sym e));
+      slot-zero = refl;
+      slot-past = λ k h. refl;
+      slot-name = λ k x e. true≢false (isSome (some x)) refl (ap isSome (sym e));
+      slot-once = λ j k x y e e′ n. true≢false (isSome (some x)) refl (ap isSome (sym e));
       free-sum = refl;
       peak-most = omega arith;
       updates-fit = omega arith;
@@ -111,7 +111,7 @@ module _ (m : Inner) (v : Inv m) where
       by-test (nameRight name)
       (λ t. by-order (findM m name) (suc (m .peak))
       (λ h.
-      let w : (x : NamedFile) × (m .lines (findM m name) ≡ some x) × (nameEq (x .name) name ≡ true) × (0 < findM m name) = found-line m v name h in
+      let w : (x : NamedFile) × (m .slots (findM m name) ≡ some x) × (nameEq (x .name) name ≡ true) × (0 < findM m name) = found-slot m v name h in
       let e : removeM m name ≡ record { answer = done; model = removeAtM m (findM m name) } = cond-true _ _ t ∙ cond-true _ _ (lt-true h) in (
         rw (judged-none m v, findName-is m v name, dirEnd-is m v)
             (cond-true _ _ t ∙ cond-true _ _ (lt-true h)
@@ -144,7 +144,7 @@ module _ (m : Inner) (v : Inv m) where
       (λ h. by-test (roomFor m x)
       (λ r.
       let right : (1 ≤ length (x .name)) × (length (x .name) ≤ nameMost) = name-bounds (x .name) t in
-      let e : addM m x ≡ record { answer = done; model = addAtM m (emptyLine m) x } =
+      let e : addM m x ≡ record { answer = done; model = addAtM m (emptySlot m) x } =
       cond-true _ _ t ∙ cond-false _ _ (lt-false h) ∙ cond-true _ _ r in (
         rw (judged-none m v, findName-is m v (x .name), dirEnd-is m v, vacantSlot-is m v)
             (cond-true _ _ t ∙ cond-false _ _ (lt-false h) ∙ cond-true _ _ (sym (room-is m v x) ∙ r)
@@ -176,8 +176,8 @@ module _ (m : Inner) (v : Inv m) where
   pub img-disk : diskOf img ≡ render m
   unfolding render
   img-disk =
-      disk-image (render m) (with-is (header m) (m .owner) (content (m .lines) (m .lines)) .far)
-      (with-is (header m) (m .owner) (content (m .lines) (m .lines)) .out)
+      disk-image (render m) (with-is (header m) (m .owner) (content (m .slots) (m .slots)) .far)
+      (with-is (header m) (m .owner) (content (m .slots) (m .slots)) .out)
 
   add-image-is : (x : NamedFile) → add img (x .name) (x .date) (x .content) ≡ record { answer = addM m x .answer; image = imageOf (render (addM m x .model)) }
   unfolding add imaged disked
