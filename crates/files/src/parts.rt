@@ -5,7 +5,7 @@ ghost use lib.Dec.{eqb};
 ghost use lib.ListN.{getD};
 ghost use Rattle.laws.specs.Below.{all};
 ghost use Rattle.laws.specs.Lowest.{lowest};
-ghost use Rattle.files.specs.Map.{isPart};
+ghost use Rattle.files.specs.Map.{isPart, bears};
 ghost use Rattle.files.specs.Laws.Loaded.{recordOf, recordIn};
 ghost use Rattle.files.specs.Laws.Tally as Tally;
 ghost use Rattle.files.specs.Laws.Tally.{Tallied};
@@ -20,6 +20,13 @@ const ELSEWHERE: usize = Geometry::BLOCKS + 1;
 
 // The numbers of records that bear a file are below this.
 const FILE_NUMBERS: u32 = 0xF8_0000;
+
+// Whether a record bears file f, by its number. Most do not, so that this is asked first.
+fn in_file(number: u32, f: usize) -> bool
+    ensures { λ r. ⌜ r ≡ bears f (recordOf number) ⌝ }
+{
+    ((number / 4096) as usize == f) & (number < FILE_NUMBERS)
+}
 
 // Which of the first n parts of file f a record is, by its number.
 fn part_of(number: u32, f: usize, n: usize) -> usize
@@ -50,8 +57,8 @@ fn tally_parts(map: &[u32; 480], f: usize, n: usize) -> [u8; 481]
 {
     let mut tally = [0u8; 481];
     for b in 0..Geometry::BLOCKS {
-        let s = part_of(map[b], f, n);
-        if s < ELSEWHERE {
+        if in_file(map[b], f) {
+            let s = part_of(map[b], f, n);
             tally[s] = more(tally[s]);
         }
     }

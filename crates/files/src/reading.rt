@@ -9,8 +9,8 @@ ghost use Rattle.files.specs.Directory.{nameRight, slotEntry, dirEnd};
 ghost use Rattle.files.specs.Calls as Calls;
 ghost use Rattle.files.specs.Laws.Delivered.{readSound};
 use crate::Verdict;
+use crate::blocks::byte_place;
 use crate::blocks::run_length;
-use crate::blocks::run_place;
 use crate::checking::judge;
 use crate::directory::find_name;
 use crate::directory::load_dir;
@@ -49,18 +49,44 @@ fn data_length(image: &[u8], k: usize) -> usize
     }
 }
 
-// Copies n bytes of block b from offset o on, which lie in one sector, to the place c of the buffer.
+// Copies n bytes of block b from offset o on, which lie in one sector, to the place c of the buffer; zeros, where
+// there is no such block.
 fn copy_run(image: &[u8], b: usize, o: usize, n: usize, out: &mut [u8], c: usize)
     requires { ⌜ (length (now image) ≡ 737280) × (o < 1536) × (o % 512 + n ≤ 512) × (c + n ≤ length (now out)) ⌝ }
     ensures { λ _. ⌜ now (out .exit) ≡ overlay (now (out .entry)) c n (λ (j : ℕ). diskOf (now (image .entry)) b (o + j)) ⌝ }
 {
-    let at = run_place(b, o);
-    for j in 0..n {
-        out[c + j] = fields::byte(image, at, j);
+    if Geometry::BLOCKS <= b {
+        fields::fill(out, c, n, 0);
+        return;
+    }
+    let at = byte_place(b, o);
+    let end = at + n;
+    fields::copy_into(out, c, &image[at..end]);
+}
+
+// Copies n bytes of block b from offset o on to the place c of the buffer, sector by sector.
+fn copy_part(image: &[u8], b: usize, o: usize, n: usize, out: &mut [u8], c: usize)
+    requires { ⌜ (length (now image) ≡ 737280) × (o + n ≤ 1536) × (c + n ≤ length (now out)) ⌝ }
+    ensures { λ _. ⌜ now (out .exit) ≡ overlay (now (out .entry)) c n (λ (j : ℕ). diskOf (now (image .entry)) b (o + j)) ⌝ }
+{
+    let mut i = 0;
+    while i < n {
+        let run = run_length(o + i, n - i);
+        copy_run(image, b, o + i, run, out, c + i);
+        i += run;
     }
 }
 
-// Copies n bytes of the file in slot k, those after its first 64, to the buffer, sector by sector.
+// How many bytes can be copied from offset o of a block on: to its end, and n at most.
+fn part_length(o: usize, n: usize) -> usize
+    requires { ⌜ (o < 1536) × (0 < n) ⌝ }
+    ensures { λ r. ⌜ (0 < r) × (r ≤ n) × (o + r ≤ 1536) ⌝ }
+{
+    let room = BLOCK_BYTES - o;
+    if room < n { room } else { n }
+}
+
+// Copies n bytes of the file in slot k, those after its first 64, to the buffer, block by block.
 fn copy_data(image: &[u8], k: usize, n: usize, out: &mut [u8])
     requires { ⌜ (length (now image) ≡ 737280) × (n < 2 ^ 32) × (n ≤ length (now out)) ⌝ }
     ensures { λ _. ⌜ now (out .exit) ≡ overlay (now (out .entry)) 0 n (λ (i : ℕ). fileByte (diskOf (now (image .entry))) k (64 + i)) ⌝ }
@@ -71,9 +97,9 @@ fn copy_data(image: &[u8], k: usize, n: usize, out: &mut [u8])
     while i < n {
         let at = SLOT_BYTES + i;
         let b = nth_block(&map, &row, k, at / BLOCK_BYTES);
-        let run = run_length(at % BLOCK_BYTES, n - i);
-        copy_run(image, b, at % BLOCK_BYTES, run, out, i);
-        i += run;
+        let part = part_length(at % BLOCK_BYTES, n - i);
+        copy_part(image, b, at % BLOCK_BYTES, part, out, i);
+        i += part;
     }
 }
 

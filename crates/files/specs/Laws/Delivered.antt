@@ -19,7 +19,7 @@ use Rattle.laws.specs.Tests.{by-equal, lt-true, lt-false, le-true, le-false, eq
 use Rattle.laws.specs.Truth.{by-test}
 use Rattle.sectors.specs.declared.Reply.{Reply}
 use Rattle.sectors.specs.Replies.{reply, refusal}
-use Rattle.sectors.specs.Geometry.{sectorBytes, imageBytes}
+use Rattle.sectors.specs.Geometry.{imageBytes}
 use Rattle.files.specs.declared.Verdict.{Verdict}
 use Rattle.files.specs.declared.Verdict.the-variants.{Passed, Refused}
 use Rattle.files.specs.Sizes.{blockBytes, slotBytes, slotCount}
@@ -126,7 +126,7 @@ module _ (bytes buf : List ℕ) (n : ℕ) (e : n ≡ length bytes) where
 
 -- ---- a file's bytes
 
-pub file-run : (d : Disk) (k i j b : ℕ) → b ≡ partBlock d k ((slotBytes + i) / blockBytes) → (slotBytes + i) % blockBytes % sectorBytes + j < sectorBytes
+pub file-run : (d : Disk) (k i j b : ℕ) → b ≡ partBlock d k ((slotBytes + i) / blockBytes) → (slotBytes + i) % blockBytes + j < blockBytes
     → d b ((slotBytes + i) % blockBytes + j) ≡ fileByte d k (slotBytes + (i + j))
 unfolding fileByte
 file-run d k i j b e h =

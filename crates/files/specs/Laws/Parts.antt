@@ -2,7 +2,7 @@
 -- Assumes nothing.
 use mathlib.Core.Path.{_≡_, refl, sym, ap, _∙_}
 use mathlib.Core.Logic.{_≢_}
-use mathlib.Core.Bool.{Bool, true, false, not, cond, _&&_}
+use mathlib.Core.Bool.{Bool, true, false, not, cond, _&&_, false≢true}
 use mathlib.Core.List.{List}
 use Prim.Native.Nat.{ℕ, zero, suc, _+_, _/_, _%_, _≤_, _<_}
 use native.Mathlib.Omega.{arith}
@@ -18,7 +18,7 @@ use Rattle.laws.specs.Truth.{by-test}
 use Rattle.sectors.specs.Geometry.{blocks}
 use Rattle.files.specs.declared.Record.{Record}
 use Rattle.files.specs.declared.Record.the-variants.{Free, System, File, Other}
-use Rattle.files.specs.Map.{isPart, within}
+use Rattle.files.specs.Map.{isPart, within, bears}
 use Rattle.files.specs.Laws.Loaded.{recordOf, recordIn}
 use Rattle.files.specs.Laws.Loops.{all-cong}
 use Rattle.files.specs.Laws.Tally.{Tallied, tally-one, tally-zero}
@@ -110,7 +110,38 @@ module _ (number f n : ℕ) where
       (ap (partOf f n) (cond-false (File (number / 4096) (number % 4096)) (cond (eqb number 0xFDFFFF) Free (cond (eqb number 0xF80000) System Other)) (lt-false h))
       ∙ by-test (eqb number 0xFDFFFF) (λ e. rw e) (λ e. by-test (eqb number 0xF80000) (λ g. rw (e, g)) (λ g. rw (e, g))))
 
+-- a number's file, and whether its record bears one
+pub bears-number : (number f : ℕ) → (eqb (number / 4096) f && ltb number 0xF80000) ≡ bears f (recordOf number)
+unfolding recordOf bears
+bears-number number f =
+    by-order number 0xF80000
+    (λ h.
+    let t : ltb number 0xF80000 ≡ true = lt-true h in
+    by-test (eqb (number / 4096) f) (λ e. rw (t, e)) (λ e. rw (t, e)))
+    (λ h.
+    let t : ltb number 0xF80000 ≡ false = lt-false h in
+    and-false-right (eqb (number / 4096) f) t
+    ∙ sym
+    (ap (bears f) (cond-false (File (number / 4096) (number % 4096)) (cond (eqb number 0xFDFFFF) Free (cond (eqb number 0xF80000) System Other)) t)
+    ∙ by-test (eqb number 0xFDFFFF) (λ e. rw e) (λ e. by-test (eqb number 0xF80000) (λ g. rw (e, g)) (λ g. rw (e, g)))))
+
 module _ (f n : ℕ) (h : n ≤ blocks) where
+  -- a record that bears the file is a part of it, and no other is
+  pub part-borne : (r : Record) → bears f r ≡ true → partOf f n r < suc blocks
+  unfolding partOf bears
+  part-borne Free t = absurd (false≢true t)
+  part-borne System t = absurd (false≢true t)
+  part-borne (File g s) t =
+      by-test (ltb s n) (λ q. rw (t, q) (omega (arith, true-lt {a = s} {b = n} q))) (λ q. rw (t, q) (omega arith))
+  part-borne Other t = absurd (false≢true t)
+
+  pub part-unborne : (r : Record) → bears f r ≡ false → suc blocks ≡ partOf f n r
+  unfolding partOf bears
+  part-unborne Free t = refl
+  part-unborne System t = refl
+  part-unborne (File g s) t = rw t
+  part-unborne Other t = refl
+
   no-part : (s : ℕ) → s < n → eqb (suc blocks) s ≡ false
   no-part s l = eq-false {a = suc blocks} {b = s} (λ e. omega arith)
 

@@ -3,7 +3,7 @@
 use mathlib.Core.Path.{_≡_, refl, sym, ap, _∙_}
 use mathlib.Core.Bool.{true, cond, _&&_}
 use mathlib.Core.List.{List}
-use Prim.Native.Nat.{ℕ, zero, suc, _+_, _-_, _*_, _%_, _≤_, _<_}
+use Prim.Native.Nat.{ℕ, zero, suc, _+_, _-_, _*_, _/_, _%_, _≤_, _<_}
 use native.Mathlib.Nat.{zero-add, add-assoc}
 use native.Mathlib.Numerals.{add-one}
 use native.Mathlib.Omega.{arith}
@@ -12,11 +12,12 @@ use lib.ListN.{length, getD, set, take, drop}
 use lib.Seq.{getD-set-same, getD-set-other}
 use Rattle.laws.specs.Change.{upd, patch, upd-same, upd-twice, patch-next}
 use Rattle.laws.specs.Order.{by-order}
-use Rattle.laws.specs.Overlay.{overlay, overlay-none, overlay-more, overlay-clip, overlay-length}
-use Rattle.laws.specs.Tab.{tab, tab-ext, elementAt, window, window-part, getD-past}
+use Rattle.laws.specs.Overlay.{overlay, put, overlay-none, overlay-more, overlay-in, overlay-before, overlay-after, overlay-is, overlay-cong, overlay-clip, overlay-length, put-tab}
+use Rattle.laws.specs.Tab.{tab, tab-ext, elementAt, window, window-part}
 use Rattle.laws.specs.Tests.{by-equal, lt-true, lt-false, true-le, cond-true, cond-false}
 use Rattle.laws.specs.Truth.{and-left, and-right}
-use Rattle.sectors.specs.Geometry.{sectorBytes, blocks, imageBytes}
+use Rattle.sectors.specs.Geometry.{sectorBytes, blocks, imageBytes, running}
+use Rattle.sectors.specs.Laws.Geometry.{image-lt}
 use Rattle.files.specs.Disk.{Disk, byteOf, diskOf, imageOf}
 use Rattle.files.specs.Laws.Blocks.{disk-in, disk-far}
 use Rattle.files.specs.Laws.Disk.{byte-lt}
@@ -29,19 +30,55 @@ use Rattle.files.specs.Sizes.{blockBytes, slotBytes}
 unfoldable pub runPlace : ℕ → ℕ → ℕ
 runPlace b o = cond (ltb b blocks) (byteOf b o) imageBytes
 
-pub run-byte : (image : List ℕ) (b o j : ℕ) → length image ≡ imageBytes → o < blockBytes → o % sectorBytes + j < sectorBytes
-    → elementAt image (runPlace b o) j ≡ diskOf image b (o + j)
-unfolding runPlace elementAt
-run-byte image b o j long ho hj =
-    by-order b blocks
-    (λ h.
-    ap (λ (x : ℕ). getD image (x + j) 0) (cond-true (byteOf b o) imageBytes (lt-true h))
-    ∙ ap (λ (x : ℕ). getD image x 0) (sym (byte-along b o j hj))
-    ∙ sym (disk-in image b (o + j) h (omega arith)))
-    (λ h.
-    ap (λ (x : ℕ). getD image (x + j) 0) (cond-false (byteOf b o) imageBytes (lt-false h))
-    ∙ getD-past image (imageBytes + j) (omega arith)
-    ∙ sym (disk-far image b (o + j) h))
+-- ---- one row read
+
+module _ (image : List ℕ) (b o n : ℕ) (long : length image ≡ imageBytes) (ho : o < blockBytes) (h : o % sectorBytes + n ≤ sectorBytes) where
+  pub row-within : b < blocks → byteOf b o + n ≤ imageBytes
+  unfolding byteOf
+  row-within hb = omega (arith, image-lt (running b (o / sectorBytes)) (omega arith))
+
+  pub row-read : b < blocks → (out : List ℕ) (c at e : ℕ) → at ≡ byteOf b o → e ≡ at + n
+      → put out c (take (e - at) (drop at image)) ≡ overlay out c n (λ (j : ℕ). diskOf image b (o + j))
+  unfolding window elementAt
+  row-read hb out c at e q r =
+      let z : e - at ≡ n = omega arith in
+      ap (λ (x : ℕ). put out c (take x (drop at image))) z
+      ∙ ap (put out c) (window-part image at n (omega (arith, row-within hb)))
+      ∙ put-tab out c (λ (j : ℕ). getD image (at + j) 0) n
+      ∙ overlay-cong out c n (λ (j : ℕ). getD image (at + j) 0) (λ (j : ℕ). diskOf image b (o + j))
+      (λ j l.
+      ap (λ (x : ℕ). getD image (x + j) 0) q
+      ∙ ap (λ (x : ℕ). getD image x 0) (sym (byte-along b o j (omega arith)))
+      ∙ sym (disk-in image b (o + j) hb (omega arith)))
+
+  pub row-far : blocks ≤ b → (out : List ℕ) (c : ℕ) → overlay out c n (λ (j : ℕ). 0) ≡ overlay out c n (λ (j : ℕ). diskOf image b (o + j))
+  row-far hb out c = overlay-cong out c n (λ (j : ℕ). 0) (λ (j : ℕ). diskOf image b (o + j)) (λ j l. sym (disk-far image b (o + j) hb))
+
+-- a row that goes on where the last one ended
+pub overlay-on : (d : List ℕ) (c a n : ℕ) (f g : ℕ → ℕ) (out : List ℕ) → out ≡ overlay d c a g → ((k : ℕ) → k < n → f k ≡ g (a + k))
+    → overlay out (c + a) n f ≡ overlay d c (a + n) g
+overlay-on d c a n f g out e same =
+    overlay-is d c (a + n) g (overlay out (c + a) n f) (overlay-length out (c + a) n f ∙ long) in-new in-low in-high
+  where
+    long : length out ≡ length d
+    long = ap length e ∙ overlay-length d c a g
+
+    old : (k : ℕ) → getD out k 0 ≡ getD (overlay d c a g) k 0
+    old k = ap (λ (l : List ℕ). getD l k 0) e
+
+    in-low : (k : ℕ) → k < c → getD (overlay out (c + a) n f) k 0 ≡ getD d k 0
+    in-low k h = overlay-before out (c + a) n f k (omega arith) ∙ old k ∙ overlay-before d c a g k h
+
+    in-high : (k : ℕ) → c + (a + n) ≤ k → getD (overlay out (c + a) n f) k 0 ≡ getD d k 0
+    in-high k h = overlay-after out (c + a) n f k (omega arith) ∙ old k ∙ overlay-after d c a g k (omega arith)
+
+    in-new : (k : ℕ) → c ≤ k → k < c + (a + n) → k < length d → getD (overlay out (c + a) n f) k 0 ≡ g (k - c)
+    in-new k h l b =
+        by-order k (c + a)
+        (λ m. overlay-before out (c + a) n f k m ∙ old k ∙ overlay-in d c a g k h m b)
+        (λ m.
+        let z : a + (k - (c + a)) ≡ k - c = omega arith in
+        overlay-in out (c + a) n f k m (omega arith) (omega (arith, long)) ∙ same (k - (c + a)) (omega arith) ∙ ap g z)
 
 -- ---- one row written
 

@@ -34,14 +34,14 @@ add-at c = search needs
 nth-block-requires : tie.Need-nth-block-requires Inv-loop μ-loop
 nth-block-requires c κs = c .before .before .before .before .file-blocks .ensures
 
-sub-run-length : tie.Need-sub-run-length Inv-loop μ-loop
-sub-run-length c = search needs
+sub-part-length : tie.Need-sub-part-length Inv-loop μ-loop
+sub-part-length c = search needs
 
-run-length-requires : tie.Need-run-length-requires Inv-loop μ-loop
-run-length-requires c κs = search needs
+part-length-requires : tie.Need-part-length-requires Inv-loop μ-loop
+part-length-requires c κs = search needs
 
-copy-run-requires : tie.Need-copy-run-requires Inv-loop μ-loop
-copy-run-requires c κs = search needs
+copy-part-requires : tie.Need-copy-part-requires Inv-loop μ-loop
+copy-part-requires c κs = search needs
 
 add-i : tie.Need-add-i Inv-loop μ-loop
 add-i c = search needs
@@ -52,8 +52,8 @@ loop-less c = omega arith
 loop-again : tie.Need-loop-again Inv-loop μ-loop
 loop-again c = (
   omega arith,
-  ap length (c .before .before .copy-run .ensures) ∙ overlay-length _ _ _ _ ∙ c .before .before .before .before .before .before .before .before .before .loop .inv .1,
-  c .before .before .copy-run .ensures
+  ap length (c .before .before .copy-part .ensures) ∙ overlay-length _ _ _ _ ∙ c .before .before .before .before .before .before .before .before .before .loop .inv .1,
+  c .before .before .copy-part .ensures
       ∙ overlay-next _ _ _ _ (λ (j : ℕ). fileByte (diskOf (c .before .before .before .before .before .before .before .before .before .before .before .before .before .before .before .args .image .now)) (c .before .before .before .before .before .before .before .before .before .before .before .before .before .before .before .args .k) (64 + j)) _ (c .before .before .before .before .before .before .before .before .before .loop .inv .2)
       (λ j h. file-run (diskOf (c .before .before .before .before .before .before .before .before .before .before .before .before .before .before .before .args .image .now)) (c .before .before .before .before .before .before .before .before .before .before .before .before .before .before .before .args .k) (c .before .before .before .before .before .before .before .before .before .loop .i) j _ (c .before .before .before .before .before .nth-block .ensures ∙ part-mapped _ _ (c .before .before .before .before .before .before .before .before .before .before .before .before .load-map .ensures) _ _) (omega arith)),
 )
@@ -75,9 +75,9 @@ copy-data-spec =
     loop-holds
     add-at
     nth-block-requires
-    sub-run-length
-    run-length-requires
-    copy-run-requires
+    sub-part-length
+    part-length-requires
+    copy-part-requires
     add-i
     loop-less
     loop-again

@@ -1,0 +1,80 @@
+-- `copy_part` meets its contract: the first i bytes are copied.
+-- Assumes nothing.
+use mathlib.Core.Path.{_≡_, refl, ap, _∙_}
+use Prim.Native.Nat.{ℕ, _+_, _-_, _≤_}
+use native.Mathlib.Nat.{add-assoc}
+use native.Mathlib.Omega.{arith}
+use lib.ListN.{length}
+use borrow.Author.Needs.{needs}
+use Rattle.laws.specs.Overlay.{overlay, overlay-none, overlay-length}
+use Rattle.files.specs.Disk.{diskOf}
+use Rattle.files.specs.Laws.Rows.{overlay-on}
+use Rattle.files.proofs.reading.copy_part.Statement.{statement}
+use Rattle.files.proofs.reading.copy_part.Tie as tie
+
+abbrev Inv-loop : tie.InvT-loop
+Inv-loop image b o n out₀ c i₀ out i = (i ≤ n) × (length out ≡ length out₀) × (out ≡ overlay out₀ c i (λ (j : ℕ). diskOf image b (o + j)))
+
+abbrev μ-loop : tie.MeasureT-loop
+μ-loop image b o n out₀ c i₀ out i = n - i
+
+loop-holds : tie.Need-loop-holds Inv-loop μ-loop
+loop-holds c = (omega arith, refl, overlay-none _ _ _)
+
+add-run-length : tie.Need-add-run-length Inv-loop μ-loop
+add-run-length c = search needs
+
+sub-run-length : tie.Need-sub-run-length Inv-loop μ-loop
+sub-run-length c = search needs
+
+run-length-requires : tie.Need-run-length-requires Inv-loop μ-loop
+run-length-requires c κs = search needs
+
+add-copy-run : tie.Need-add-copy-run Inv-loop μ-loop
+add-copy-run c = search needs
+
+add-copy-run-2 : tie.Need-add-copy-run-2 Inv-loop μ-loop
+add-copy-run-2 c = search needs
+
+copy-run-requires : tie.Need-copy-run-requires Inv-loop μ-loop
+copy-run-requires c κs = search needs
+
+add-i : tie.Need-add-i Inv-loop μ-loop
+add-i c = search needs
+
+loop-less : tie.Need-loop-less Inv-loop μ-loop
+loop-less c = search needs
+
+loop-again : tie.Need-loop-again Inv-loop μ-loop
+loop-again c = (
+  omega arith,
+  ap length (c .before .before .copy-run .ensures) ∙ overlay-length _ _ _ _ ∙ c .before .before .before .before .before .before .loop .inv .1,
+  c .before .before .copy-run .ensures
+      ∙ overlay-on _ _ _ _ _ (λ (j : ℕ). diskOf (c .before .before .before .before .before .before .before .before .before .args .image .now) (c .before .before .before .before .before .before .before .before .before .args .b) (c .before .before .before .before .before .before .before .before .before .args .o + j)) _ (c .before .before .before .before .before .before .loop .inv .2)
+      (λ j h. ap (diskOf (c .before .before .before .before .before .before .before .before .before .args .image .now) (c .before .before .before .before .before .before .before .before .before .args .b)) (add-assoc (c .before .before .before .before .before .before .before .before .before .args .o) (c .before .before .before .before .before .before .loop .i) j)),
+)
+
+same-length : tie.Need-same-length Inv-loop μ-loop
+same-length c = search needs
+
+returns : tie.Need-returns Inv-loop μ-loop
+returns c = let e : c .before .loop .i ≡ c .before .before .before .before .args .n = omega arith in rw e at (c .before .loop .inv .2)
+
+pub copy-part-spec : {M : Type 1} → statement M
+copy-part-spec =
+    tie.close
+    (tie.spec
+    Inv-loop
+    μ-loop
+    loop-holds
+    add-run-length
+    sub-run-length
+    run-length-requires
+    add-copy-run
+    add-copy-run-2
+    copy-run-requires
+    add-i
+    loop-less
+    loop-again
+    same-length
+    returns)
