@@ -75,7 +75,7 @@ fn sizes_fault(image: &[u8]) -> Fault
 }
 
 // The lowest wrong field of the header; its fields stand in the first sector of block 0, which is the image's first.
-pub fn header_fault(image: &[u8]) -> Fault
+fn header_fault(image: &[u8]) -> Fault
     requires { ⌜ 512 ≤ length (now image) ⌝ }
     ensures { λ r. ⌜ r ≡ headerFault (diskOf (now (image .entry))) ⌝ }
 {

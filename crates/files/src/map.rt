@@ -82,7 +82,7 @@ pub fn is_free(r: Record) -> bool
 }
 
 // Whether a record is sequence s of file f.
-pub fn is_part(r: Record, f: usize, s: usize) -> bool
+fn is_part(r: Record, f: usize, s: usize) -> bool
     ensures { λ a. ⌜ a ≡ isPart f s r ⌝ }
 {
     match r {
@@ -120,7 +120,7 @@ pub fn map_fault(map: &[u32; 480]) -> usize
 }
 
 // How many records are free.
-pub fn count_free(map: &[u32; 480]) -> usize
+fn count_free(map: &[u32; 480]) -> usize
     ensures { λ r. ⌜ (r ≡ count 480 (λ (b : ℕ). isFree (recordIn (now (map .entry)) b))) × (r ≤ 480) ⌝ }
 {
     let mut n = 0;

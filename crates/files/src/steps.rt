@@ -63,7 +63,7 @@ pub fn set_record(image: &mut [u8], b: usize, r: Record)
 }
 
 // Block b becomes zero.
-pub fn zero_block(image: &mut [u8], b: usize)
+fn zero_block(image: &mut [u8], b: usize)
     requires { ⌜ length (now image) ≡ imageBytes ⌝ }
     ensures { λ _. ⌜ now (image .exit) ≡ imageOf (setBlock (diskOf (now (image .entry))) b zeros) ⌝ }
 {
@@ -121,7 +121,7 @@ fn put_sector(image: &mut [u8], b: usize, p: usize, i: usize, head: &[u8], conte
 }
 
 // Block b becomes part s of a file, sector by sector.
-pub fn put_part(image: &mut [u8], b: usize, s: usize, head: &[u8], content: &[u8])
+fn put_part(image: &mut [u8], b: usize, s: usize, head: &[u8], content: &[u8])
     requires { ⌜ (length (now image) ≡ imageBytes) × (s < 4096) ⌝ }
     ensures { λ _. ⌜ now (image .exit) ≡ imageOf (setBlock (diskOf (now (image .entry))) b (part (storedRow (now (head .entry)) (now (content .entry))) s)) ⌝ }
 {
@@ -147,7 +147,7 @@ pub fn set_end(image: &mut [u8], k: usize)
 }
 
 // The update count grows by 1; what no longer fits its four bytes is left out, so it wraps.
-pub fn step_update(image: &mut [u8])
+fn step_update(image: &mut [u8])
     requires { ⌜ length (now image) ≡ imageBytes ⌝ }
     ensures { λ _. ⌜ now (image .exit) ≡ imageOf (stepUpdate (diskOf (now (image .entry)))) ⌝ }
 {
