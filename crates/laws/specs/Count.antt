@@ -3,9 +3,10 @@
 use mathlib.Core.Path.{_≡_, refl, sym, ap, ap₂, _∙_}
 use mathlib.Core.Logic.{_≢_}
 use mathlib.Core.Bool.{Bool, true, false, cond, _&&_, _||_}
-use Prim.Native.Nat.{ℕ, zero, suc, _+_, _≤_, _<_}
-use native.Mathlib.Nat.{not-suc-le-zero}
+use Prim.Native.Nat.{ℕ, zero, suc, _+_, _*_, _≤_, _<_}
+use native.Mathlib.Nat.{add-zero, add-suc, not-suc-le-zero}
 use native.Mathlib.Omega.{arith}
+use lib.Dec.{lit≤}
 use Rattle.laws.specs.Truth.{by-test}
 use Rattle.laws.specs.Tests.{true≢false, by-equal, cond-true, cond-false, and-not, or-left, or-right, or-none}
 use Rattle.laws.specs.Change.{upd, upd-same, upd-other}
@@ -110,6 +111,41 @@ count-head-no (suc n) p e =
     by-test (p (suc n))
     (λ t. count-yes (suc n) p t ∙ ap suc (count-head-no n p e) ∙ sym (count-yes n (λ (j : ℕ). p (suc j)) t))
     (λ t. count-no (suc n) p t ∙ count-head-no n p e ∙ sym (count-no n (λ (j : ℕ). p (suc j)) t))
+
+-- from a on, none of the next b numbers passes, or at most one
+module _ (p : ℕ → Bool) (a : ℕ) where
+  pub count-still : (b : ℕ) → ((x : ℕ) → a ≤ x → x < a + b → p x ≡ false) → count (a + b) p ≡ count a p
+  count-still zero h = ap (λ (n : ℕ). count n p) (add-zero a)
+  count-still (suc b) h =
+      ap (λ (n : ℕ). count n p) (add-suc a b) ∙ count-no (a + b) p (h (a + b) (omega arith) (omega arith))
+      ∙ count-still b (λ x l m. h x l (omega arith))
+
+  pub count-once : (b : ℕ) → ((x y : ℕ) → a ≤ x → x < a + b → a ≤ y → y < a + b → p x ≡ true → p y ≡ true → x ≡ y) → count (a + b) p ≤ count a p + 1
+  count-once zero h = omega (arith, ap (λ (n : ℕ). count n p) (add-zero a))
+  count-once (suc b) h =
+      by-test (p (a + b))
+      (λ t.
+      let z : count (a + b) p ≡ count a p =
+      count-still b
+      (λ x l m. by-test (p x)
+      (λ u. let q : x ≡ a + b = h x (a + b) l (omega arith) (omega arith) (omega arith) u t in absurd (omega arith)) (λ u. u)) in
+      omega (arith, ap (λ (n : ℕ). count n p) (add-suc a b), count-yes (a + b) p t))
+      (λ t.
+      omega (
+        arith,
+        ap (λ (n : ℕ). count n p) (add-suc a b),
+        count-no (a + b) p t,
+        count-once b (λ x y l m l′ m′ u v. h x y l (omega arith) l′ (omega arith) u v),
+      ))
+
+-- m rows of b numbers, of each at most one passes
+pub count-blocks : (p : ℕ → Bool) (b m : ℕ) → ((k x y : ℕ) → k < m → k * b ≤ x → x < k * b + b → k * b ≤ y → y < k * b + b → p x ≡ true → p y ≡ true → x ≡ y)
+    → count (m * b) p ≤ m
+unfolding count
+count-blocks p b zero h = let e : 0 * b ≡ 0 = omega arith in rw e (lit≤ tt)
+count-blocks p b (suc m) h =
+    let e : suc m * b ≡ m * b + b = omega arith in
+    omega (arith, ap (λ (n : ℕ). count n p) e, count-once p (m * b) b (λ x y. h m x y (omega arith)), count-blocks p b m (λ k x y l. h k x y (omega arith)))
 
 -- ---- sums
 

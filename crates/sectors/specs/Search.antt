@@ -6,11 +6,10 @@ use mathlib.Core.List.{List, [], _∷_, _++_}
 use Prim.Native.Nat.{ℕ, zero, suc, _+_, _*_}
 use lib.Dec.{leb, eqb}
 use lib.ListN.{length}
-use Rattle.laws.specs.Numbers.{at16}
 use Rattle.laws.specs.Tab.{tab}
-use Rattle.cells.specs.Stream.{from, dataByte, dataBytes}
+use Rattle.cells.specs.Stream.{from, dataByte}
 use Rattle.cells.specs.Sync.{threeSync}
-use Rattle.cells.specs.Crc.{crc}
+use Rattle.cells.specs.Crc.{crcFollows}
 use Rattle.sectors.specs.Geometry.{sectorBytes}
 use Rattle.sectors.specs.declared.Id.{Id}
 use Rattle.sectors.specs.declared.Header.{Header}
@@ -20,9 +19,9 @@ use Rattle.sectors.specs.declared.Found.the-variants.{One, Nothing, Seve
 use Rattle.sectors.specs.declared.Sector.{Sector}
 use Rattle.sectors.specs.declared.Sector.the-variants.{Delivered, Missing, Repeated, Fieldless, Damaged}
 
--- the CRC of the n bytes at the list's start follows them, high byte first
+-- the n bytes at the list's start are followed by their CRC
 unfoldable pub crcHolds : List ℕ → ℕ → Bool
-crcHolds f n = eqb (crc (dataBytes f 0 n)) (at16 (λ (j : ℕ). dataByte f (16 * j)) n)
+crcHolds f n = crcFollows (λ (j : ℕ). dataByte f (16 * j)) n
 
 -- the marks after three sync bytes
 abbrev pub headerMark : ℕ

@@ -1,18 +1,21 @@
 -- Laws of the CRC.
 -- Assumes nothing.
 use mathlib.Core.List.{List, [], _∷_, _++_}
-use mathlib.Core.Path.{_≡_, refl}
+use mathlib.Core.Bool.{true}
+use mathlib.Core.Path.{_≡_, refl, sym, ap, _∙_}
 use Prim.Native.Nat.{ℕ, zero, suc, _+_, _-_, _*_, _/_, _%_, _^_, _<_}
 use native.Mathlib.Numerals.{add-one}
 use native.Mathlib.Omega.{arith}
 use lib.Bits.{xor-lt}
-use lib.Dec.{lit<}
+use lib.Dec.{eqb, lit<}
 use lib.ListN.{length, take, getD}
 use lib.Seq.{take-suc}
-use Rattle.laws.specs.Tab.{tab}
+use Rattle.laws.specs.Numbers.{at16, at16-is}
+use Rattle.laws.specs.Tab.{tab, tab-ext}
+use Rattle.laws.specs.Tests.{true-eq, eq-true}
 use Rattle.cells.specs.Stream.{dataByte, dataBytes}
 use Rattle.cells.specs.Mfm.{bitOf}
-use Rattle.cells.specs.Crc.{crcStart, crcBit, crcBits, crcFrom, crc}
+use Rattle.cells.specs.Crc.{crcStart, crcBit, crcBits, crcFrom, crc, crcFollows, polynomial}
 use Rattle.cells.specs.Laws.Number.{bytes-more}
 
 -- one more bit of a byte
@@ -38,7 +41,7 @@ crc-more c k n = rw bytes-more (crcFrom-snoc crcStart (dataBytes c k n) (dataByt
 
 crcBit-lt : (s b : ℕ) → crcBit s b < 2 ^ 16
 unfolding crcBit
-crcBit-lt s b = xor-lt 16 (0x1021 * ((s / 0x8000 + b) % 2)) (s * 2 % 0x10000) (omega arith) (omega arith)
+crcBit-lt s b = xor-lt 16 (polynomial * ((s / 0x8000 + b) % 2)) (s * 2 % 0x10000) (omega arith) (omega arith)
 
 crcBits-lt : (s x k : ℕ) → s < 2 ^ 16 → crcBits s x k < 2 ^ 16
 unfolding crcBits
@@ -67,3 +70,21 @@ pub crcFrom-append : (s : ℕ) (xs ys : List ℕ) → crcFrom s (xs ++ ys) ≡ c
 unfolding crcFrom
 crcFrom-append s [] ys = refl
 crcFrom-append s (x ∷ xs) ys = crcFrom-append (crcBits s x 8) xs ys
+
+-- ---- bytes that are followed by their CRC
+
+pub follows-two : (x : ℕ → ℕ) (n : ℕ) → crcFollows x n ≡ eqb (crc (tab x n)) (x n * 256 + x (n + 1))
+unfolding crcFollows
+follows-two x n = ap (eqb (crc (tab x n))) (at16-is x n)
+
+pub follows-crc : (x : ℕ → ℕ) (n : ℕ) → crcFollows x n ≡ true → crc (tab x n) ≡ x n * 256 + x (n + 1)
+follows-crc x n e = true-eq (sym (follows-two x n) ∙ e)
+
+pub crc-follows : (x : ℕ → ℕ) (n : ℕ) → crc (tab x n) ≡ x n * 256 + x (n + 1) → crcFollows x n ≡ true
+crc-follows x n e = follows-two x n ∙ eq-true e
+
+-- rows that agree so far
+pub follows-cong : (x y : ℕ → ℕ) (n : ℕ) → ((q : ℕ) → q < n + 2 → x q ≡ y q) → crcFollows x n ≡ crcFollows y n
+follows-cong x y n e =
+    follows-two x n
+    ∙ rw (tab-ext x y n (λ q h. e q (omega arith)), e n (omega arith), e (n + 1) (omega arith)) (sym (follows-two y n))

@@ -4,17 +4,19 @@ use mathlib.Core.Bool.{Bool, true, false, cond, _&&_}
 use mathlib.Core.List.{List, [], _∷_, _++_}
 use mathlib.Core.Path.{_≡_, refl, sym, ap, _∙_}
 use Prim.Native.Nat.{ℕ, zero, suc, _+_, _-_, _*_, _≤_, _<_}
+use native.Mathlib.Nat.{zero-add}
 use native.Mathlib.Numerals.{add-one}
 use native.Mathlib.Omega.{arith}
 use lib.Dec.{eqb}
 use lib.ListN.{length, getD, set, replicate, getD-replicate}
 use lib.Seq.{getD-set-same, getD-set-other}
 use borrow.Author.Tests.{le-leb, lt-leb, eq-eqb, ne-eqb}
-use Rattle.laws.specs.Numbers.{at16-is}
+use Rattle.laws.specs.Tab.{tab-ext}
 use Rattle.laws.specs.Tests.{by-equal}
 use Rattle.cells.specs.Crc.{crc}
 use Rattle.cells.specs.Stream.{from, dataByte, dataBytes}
 use Rattle.cells.specs.Sync.{threeSync}
+use Rattle.cells.specs.Laws.Crc.{follows-two}
 use Rattle.sectors.specs.declared.Id.{Id}
 use Rattle.sectors.specs.declared.Header.{Header}
 use Rattle.sectors.specs.declared.Header.the-variants.{Is, Absent}
@@ -27,10 +29,11 @@ use Rattle.sectors.specs.Search.{crcHolds, headerMark, dataMark, headerC
 
 -- the two bytes of a CRC, written out
 pub crc-two : (f : List ℕ) (n : ℕ) → crcHolds f n ≡ eqb (crc (dataBytes f 0 n)) (dataByte f (16 * n) * 256 + dataByte f (16 * n + 16))
-unfolding crcHolds
+unfolding crcHolds dataBytes
 crc-two f n =
     let e : 16 * (n + 1) ≡ 16 * n + 16 = omega arith in
-    rw (at16-is (λ (j : ℕ). dataByte f (16 * j)) n, e)
+    follows-two (λ (j : ℕ). dataByte f (16 * j)) n
+    ∙ rw (e, tab-ext (λ (j : ℕ). dataByte f (16 * j)) (λ (j : ℕ). dataByte f (0 + 16 * j)) n (λ j l. ap (dataByte f) (sym (zero-add (16 * j)))))
 
 module _ (f : List ℕ) where
   pub header-past : length f < headerCells → headerOf f ≡ Absent
