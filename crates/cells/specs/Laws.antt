@@ -7,3 +7,11 @@ pub mod Mfm
 pub mod Packed
 pub mod Written
 pub mod Triple
+pub mod Xor
+pub mod Register
+pub mod Burst
+pub mod Odd
+pub mod Few
+pub mod Bits
+pub mod Caught
+pub mod Chance

@@ -4,5 +4,7 @@ pub mod Mfm
 pub mod Sync
 pub mod Crc
 pub mod Written
+pub mod Damage
 pub mod Theorems
+pub mod Caught
 pub mod Laws
