@@ -5,6 +5,10 @@ pub mod Search
 pub mod Hfe
 pub mod Unpacked
 pub mod Packed
+pub mod Told
 pub mod SideTrip
 pub mod FieldTrip
 pub mod RoundTrip
+pub mod Agree
+pub mod FieldDamage
+pub mod SideDamage

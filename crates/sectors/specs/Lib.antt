@@ -7,6 +7,8 @@ pub mod Hfe
 pub mod Unpacked
 pub mod Packed
 pub mod RoundTrip
+pub mod Damage
 pub mod Values
 pub mod Theorems
+pub mod Caught
 pub mod Laws

@@ -10,7 +10,7 @@ use lib.Dec.{eqb, ltb, leb, lit<}
 use lib.ListN.{length, getD}
 use borrow.Author.Tests.{ltb-true, ltb-false, le-leb, eq-eqb, eqb-true}
 use Rattle.laws.specs.Tab.{tab}
-use Rattle.laws.specs.Truth.{and-left, and-right}
+use Rattle.laws.specs.Truth.{and-right}
 use Rattle.laws.specs.Words.{highByte}
 use Rattle.cells.specs.Stream.{from, dataByte, dataBytes}
 use Rattle.cells.specs.Sync.{syncAt, threeSync}
@@ -26,6 +26,7 @@ use Rattle.sectors.specs.Search.{crcHolds, headerMark, isHeader, idOf, h
 use Rattle.sectors.specs.Packed.{span, row, fieldCrc, withCrc, headerRow, sectorItem, sideItem, sideItems}
 use Rattle.sectors.specs.Laws.Search.{crc-two}
 use Rattle.sectors.specs.Laws.Packed.{sector-sync, side-sector, fieldCrc-lt}
+use Rattle.sectors.specs.Laws.Told.{header-split, header-syncs, header-mark}
 
 -- the cells of a written side
 unfoldable pub writtenSide : ℕ → ℕ → (ℕ → List ℕ) → List ℕ
@@ -125,23 +126,13 @@ module _ (t s : ℕ) (d : ℕ → List ℕ) where
 
 header-true : (c : List ℕ) (t s r i : ℕ) → headerAt c t s r i ≡ true
     → (threeSync (from c i) ≡ true) × (dataByte (from c i) 48 ≡ headerMark) × (dataByte (from c i) 96 ≡ r)
-unfolding headerAt headerOf isHeader idOf
-header-true c t s r i e = go (leb 160 (length f) && threeSync f && eqb (dataByte f 48) headerMark) (crcHolds f 8) refl refl
-  where
-    f : List ℕ
-    f = from c i
-
-    go : (u v : Bool) → (leb 160 (length (from c i)) && threeSync (from c i) && eqb (dataByte (from c i) 48) headerMark) ≡ u → crcHolds (from c i) 8 ≡ v
-        → (threeSync (from c i) ≡ true) × (dataByte (from c i) 48 ≡ headerMark) × (dataByte (from c i) 96 ≡ r)
-    go false v eu ev = let z : false ≡ true = rw eu at e in absurd (false≢true z)
-    go true false eu ev = let z : false ≡ true = rw (eu, ev) at e in absurd (false≢true z)
-    go true true eu ev =
-        let z : (eqb (dataByte (from c i) 64) t && eqb (dataByte (from c i) 80) s && eqb (dataByte (from c i) 112) 2 && eqb (dataByte (from c i) 96) r) ≡ true =
-        rw (eu, ev) at e in (
-          and-right (leb 160 (length (from c i))) _ (and-left (leb 160 (length (from c i)) && threeSync (from c i)) _ eu),
-          eqb-true _ _ (and-right (leb 160 (length (from c i)) && threeSync (from c i)) _ eu),
-          eqb-true _ _ (and-right (eqb (dataByte (from c i) 64) t && eqb (dataByte (from c i) 80) s && eqb (dataByte (from c i) 112) 2) _ z),
-        )
+unfolding idOf
+header-true c t s r i e =
+    let h = header-split c t s r i e in (
+      header-syncs (from c i) (h .0),
+      header-mark (from c i) (h .0),
+      eqb-true _ _ (and-right (eqb (dataByte (from c i) 64) t && eqb (dataByte (from c i) 80) s && eqb (dataByte (from c i) 112) 2) _ (h .1)),
+    )
 
 module _ (t s : ℕ) (d : ℕ → List ℕ) where
   pub only : (r i : ℕ) → headerAt (writtenSide t s d) t s r i ≡ true → i ≡ 16 * (146 + 658 * (r - 1) + 12)
