@@ -1,6 +1,6 @@
 -- The lowest number that passes a test.
 -- Assumes nothing.
-use mathlib.Core.Path.{_≡_, refl, sym, ap, _∙_}
+use mathlib.Core.Path.{_≡_, refl, sym}
 use mathlib.Core.Bool.{Bool, true, false, cond}
 use mathlib.Core.Logic.{⊎-elim}
 use Prim.Native.Nat.{ℕ, zero, suc, _<_, _≤_}
@@ -9,7 +9,6 @@ use native.Mathlib.Omega.{arith}
 use lib.Dec.{ltb}
 use borrow.Author.Tests.{lt-ltb, le-ltb}
 use Rattle.laws.specs.Order.{by-order}
-use Rattle.laws.specs.Tests.{cond-true, cond-false, lt-true, lt-false}
 use Rattle.laws.specs.Truth.{by-test}
 
 -- the lowest number below n that passes the test, or n where none does
@@ -61,16 +60,3 @@ lowest-lt test (suc n) k l t =
 pub lowest-all : (test : ℕ → Bool) (n : ℕ) → n ≤ lowest test n → (k : ℕ) → k < n → test k ≡ false
 lowest-all test n h k l =
     by-test (test k) (λ t. let m : lowest test n < n = lowest-lt test n k l t in absurd (omega arith)) (λ f. f)
-
--- the lowest number that passes does pass
-pub lowest-at : (test : ℕ → Bool) (n : ℕ) → lowest test n < n → test (lowest test n) ≡ true
-unfolding lowest
-lowest-at test zero h = absurd (omega arith)
-lowest-at test (suc n) h =
-    by-order (lowest test n) n
-    (λ m. let e : lowest test (suc n) ≡ lowest test n = cond-true (lowest test n) (cond (test n) n (suc n)) (lt-true m) in ap test e ∙ lowest-at test n m)
-    (λ m.
-    let e : lowest test (suc n) ≡ cond (test n) n (suc n) = cond-false (lowest test n) (cond (test n) n (suc n)) (lt-false m) in
-    by-test (test n)
-    (λ t. ap test (e ∙ cond-true n (suc n) t) ∙ t)
-    (λ t. let z : lowest test (suc n) ≡ suc n = e ∙ cond-false n (suc n) t in absurd (omega arith)))

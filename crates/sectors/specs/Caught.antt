@@ -5,7 +5,6 @@ use mathlib.Core.List.{List}
 use mathlib.Core.Logic.{_≢_}
 use mathlib.Core.Path.{_≡_, sym, ap, _∙_}
 use Prim.Native.Nat.{ℕ, _+_, _*_, _≤_, _<_}
-use native.Mathlib.Omega.{arith}
 use lib.Dec.{eqb}
 use lib.ListN.{length, getD}
 use Rattle.cells.specs.Stream.{from, dataByte}
@@ -16,11 +15,11 @@ use Rattle.sectors.specs.declared.Sector.the-variants.{Delivered, Fieldl
 use Rattle.sectors.specs.declared.Reply.{Reply}
 use Rattle.sectors.specs.Geometry.{allSectors, imageBytes}
 use Rattle.sectors.specs.Search.{dataMark, isHeader, idOf, findSector, fieldAt, sectorOf}
-use Rattle.sectors.specs.Unpacked.{trackOf, sideOf, sectorAt, unpackReply, unpackImage}
+use Rattle.sectors.specs.Unpacked.{sectorAt, unpackReply, unpackImage}
 use Rattle.sectors.specs.Packed.{hfeBytes, packHfe}
-use Rattle.sectors.specs.Damage.{Binary, headerBits, fieldBits, FieldDamage, SameField, sideWith, DamagedFields, SideDamage, DamagedSides}
+use Rattle.sectors.specs.Damage.{Binary, headerBits, fieldBits, FieldDamage, SameField, sideWith, DamagedFields, DamagedSides}
 use Rattle.sectors.specs.Laws.RoundTrip.{round-trip}
-use Rattle.sectors.specs.Laws.Told.{sector-place, each-place}
+use Rattle.sectors.specs.Laws.Told.{each-place}
 use Rattle.sectors.specs.Laws.FieldDamage.{field-refused, id-same, sector-same, same-images, fields-told, fields-bytes}
 use Rattle.sectors.specs.Laws.SideDamage.{sides-bytes}
 

@@ -1,14 +1,13 @@
 -- How many of the ways to fill a stretch of a row have a CRC that holds: at most one in 65,536.
 -- Assumes nothing.
-use mathlib.Core.Path.{_≡_, refl, sym, ap, ap₂, _∙_}
-use mathlib.Core.Bool.{Bool, true, false, cond, _&&_}
-use Prim.Native.Nat.{ℕ, zero, suc, _+_, _-_, _*_, _/_, _%_, _^_, _≤_, _<_}
+use mathlib.Core.Path.{_≡_, refl, sym, ap, _∙_}
+use Prim.Native.Nat.{ℕ, _+_, _-_, _*_, _/_, _%_, _^_, _≤_, _<_}
 use native.Mathlib.Omega.{arith}
 use lib.Dec.{leb, ltb, eqb}
 use lib.Pow.{shr-shr, pow-add}
 use Rattle.laws.specs.Order.{by-order}
 use Rattle.laws.specs.Count.{count, count-cong, count-blocks}
-use Rattle.laws.specs.Tests.{by-equal, le-true, le-false, lt-true, lt-false, and-true, and-false-left, and-false-right, cond-true, cond-false, true-eq, eq-true, true≢false}
+use Rattle.laws.specs.Tests.{le-true, le-false, lt-true, lt-false, and-true, and-false-left, and-false-right, cond-true, cond-false, true-eq, eq-true, true≢false}
 use Rattle.laws.specs.Truth.{by-test}
 use Rattle.cells.specs.Crc.{crcStart, crcFollows}
 use Rattle.cells.specs.Damage.{bitsFrom, bitsByte, register, filled, burst}

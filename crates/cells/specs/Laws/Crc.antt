@@ -10,7 +10,7 @@ use lib.Bits.{xor-lt}
 use lib.Dec.{eqb, lit<}
 use lib.ListN.{length, take, getD}
 use lib.Seq.{take-suc}
-use Rattle.laws.specs.Numbers.{at16, at16-is}
+use Rattle.laws.specs.Numbers.{at16-is}
 use Rattle.laws.specs.Tab.{tab, tab-ext}
 use Rattle.laws.specs.Tests.{true-eq, eq-true}
 use Rattle.cells.specs.Stream.{dataByte, dataBytes}

@@ -4,12 +4,12 @@ use mathlib.Core.Path.{_≡_, refl, sym, ap, ap₂, _∙_}
 use Prim.Native.Nat.{ℕ, zero, suc, _+_, _-_, _*_, _/_, _%_, _^_, _≤_, _<_}
 use native.Mathlib.Nat.{add-zero, add-suc, suc-add, pow-suc, mul-assoc, mul-le-mul-right}
 use native.Mathlib.Omega.{arith}
-use lib.Bits.{bitXor, xor-self, xor-zero-r, xor-shr, xor-lt}
+use lib.Bits.{bitXor, xor-self, xor-shr, xor-lt}
 use lib.Pow.{pow-add, pow-pos}
 use lib.Dec.{lit<}
-use Rattle.cells.specs.Crc.{crcStart, crcBit, polynomial}
+use Rattle.cells.specs.Crc.{crcBit, polynomial}
 use Rattle.cells.specs.Damage.{bitsFrom, register}
-use Rattle.cells.specs.Laws.Xor.{xor-digit, xor-half, xor-swap, xor-equal, xor-shifted}
+use Rattle.cells.specs.Laws.Xor.{xor-digit, xor-swap, xor-equal, xor-shifted}
 
 -- ---- one step
 

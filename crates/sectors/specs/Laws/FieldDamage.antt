@@ -1,8 +1,8 @@
 -- Damage of data fields: what is delivered of them is what was delivered before.
 -- Assumes nothing.
-use mathlib.Core.Bool.{true, false, cond, _&&_}
+use mathlib.Core.Bool.{true, false, cond}
 use mathlib.Core.List.{List}
-use mathlib.Core.Path.{_≡_, refl, sym, ap, _∙_}
+use mathlib.Core.Path.{_≡_, sym, ap, _∙_}
 use Prim.Native.Nat.{ℕ, _+_, _-_, _*_, _/_, _%_, _≤_, _<_}
 use native.Mathlib.Omega.{arith}
 use lib.Dec.{leb, eqb}
@@ -17,7 +17,6 @@ use Rattle.cells.specs.Damage.{dataBit, Detectable}
 use Rattle.cells.specs.Laws.Caught.{cells-caught, cells-bits}
 use Rattle.cells.specs.Laws.Number.{byte-from}
 use Rattle.cells.specs.Laws.Stream.{from-length, from-bit, stream-bit}
-use Rattle.sectors.specs.declared.Id.{Id}
 use Rattle.sectors.specs.declared.Found.the-variants.{One}
 use Rattle.sectors.specs.declared.Sector.the-variants.{Delivered, Fieldless, Damaged}
 use Rattle.sectors.specs.Geometry.{allSectors, imageBytes}

@@ -3,10 +3,10 @@
 use mathlib.Core.List.{List, _∷_}
 use mathlib.Core.Logic.{_⊎_, inl, inr, ⊎-elim}
 use mathlib.Core.Path.{_≡_, refl, sym, ap, _∙_}
-use mathlib.Core.Bool.{Bool, true, false, _&&_, false≢true}
+use mathlib.Core.Bool.{Bool, true, false, _&&_}
 use Prim.Native.Nat.{ℕ, zero, suc, _+_, _-_, _*_, _/_, _%_, _≤_, _<_}
 use native.Mathlib.Omega.{arith}
-use lib.Dec.{eqb, ltb, leb, lit<}
+use lib.Dec.{eqb, ltb, lit<}
 use lib.ListN.{length, getD}
 use borrow.Author.Tests.{ltb-true, ltb-false, le-leb, eq-eqb, eqb-true}
 use Rattle.laws.specs.Tab.{tab}
@@ -23,7 +23,7 @@ use Rattle.cells.specs.Laws.Number.{byte-from, bytes-list}
 use Rattle.cells.specs.Laws.Sync.{sync-from}
 use Rattle.cells.specs.Laws.Written.{byte-at, sync-here, written-length}
 use Rattle.sectors.specs.Search.{crcHolds, headerMark, isHeader, idOf, headerOf, headerAt, first}
-use Rattle.sectors.specs.Packed.{span, row, fieldCrc, withCrc, headerRow, sectorItem, sideItem, sideItems}
+use Rattle.sectors.specs.Packed.{span, fieldCrc, withCrc, headerRow, sectorItem, sideItem, sideItems}
 use Rattle.sectors.specs.Laws.Search.{crc-two}
 use Rattle.sectors.specs.Laws.Packed.{sector-sync, side-sector, fieldCrc-lt}
 use Rattle.sectors.specs.Laws.Told.{header-split, header-syncs, header-mark}

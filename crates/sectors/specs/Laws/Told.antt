@@ -9,8 +9,9 @@ use native.Mathlib.Omega.{arith}
 use lib.Dec.{leb, eqb}
 use lib.ListN.{length}
 use borrow.Author.Tests.{eqb-true}
-use Rattle.laws.specs.Lowest.{lowest-all, lowest-at}
+use Rattle.laws.specs.Lowest.{lowest-all}
 use Rattle.laws.specs.Order.{by-order}
+use Rattle.laws.specs.Search.{lowest-hit}
 use Rattle.laws.specs.Tests.{true≢false, by-equal, cond-true, cond-false, lt-true, eq-true}
 use Rattle.laws.specs.Truth.{by-test, and-left, and-right}
 use Rattle.cells.specs.Stream.{from, dataByte}
@@ -189,7 +190,7 @@ module _ (h : List ℕ) where
   none-bad e =
       by-order (firstBad h) allSectors
       (λ l.
-      let b : isBad (sectorAt h (firstBad h)) ≡ true = lowest-at (λ (m : ℕ). isBad (sectorAt h m)) allSectors l in
+      let b : isBad (sectorAt h (firstBad h)) ≡ true = lowest-hit (λ (m : ℕ). isBad (sectorAt h m)) allSectors l in
       true≢false (eqb (sectorReply (firstBad h) (sectorAt h (firstBad h)) .number) 0)
       (eq-true (ap (λ (r : Reply). r .number) (sym (cond-true (sectorReply (firstBad h) (sectorAt h (firstBad h))) done (lt-true l))) ∙ e))
       (bad-number (firstBad h) (sectorAt h (firstBad h)) b))
