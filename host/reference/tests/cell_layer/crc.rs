@@ -33,3 +33,34 @@ fn crc_over_its_own_bytes_is_zero() {
     bytes.extend([0x29, 0xB1]);
     assert_eq!(crc16(&bytes), 0);
 }
+
+#[test]
+fn least_damage_that_passes() {
+    // Four wrong bits among the 17 from bit 7 on.
+    let (recorded, read) = ([0x00, 0xE1, 0xF0], [0x01, 0xF1, 0xD1]);
+    assert_eq!(crc16(&recorded), 0);
+    assert_eq!(crc16(&read), 0);
+    let wrong = [0, 1, 2].map(|index: usize| recorded[index] ^ read[index]);
+    assert_eq!(wrong, [0x01, 0x10, 0x21]);
+}
+
+#[test]
+fn one_filling_in_65536_passes() {
+    // A header with its CRC. Two neighbouring bytes are put in anew in every
+    // way, with the bit before them as it was, and with that bit wrong.
+    let header = [0xA1, 0xA1, 0xA1, 0xFE, 39, 1, 7, 2];
+    let crc = crc16(&header).to_be_bytes();
+    let recorded = [&header[..], &crc[..]].concat();
+    for place in [1, 4, 6, 8] {
+        let mut passing = [0, 0];
+        for filling in 0..=u16::MAX {
+            let mut bytes = recorded.clone();
+            bytes[place..place + 2].copy_from_slice(&filling.to_be_bytes());
+            for (bit, count) in (0..).zip(&mut passing) {
+                bytes[place - 1] = recorded[place - 1] ^ bit;
+                *count += u32::from(crc16(&bytes) == 0);
+            }
+        }
+        assert_eq!(passing, [1, 1], "from byte {place}");
+    }
+}

@@ -14,3 +14,4 @@ mod sectors;
 mod sizes;
 pub mod spoil;
 mod track_table;
+mod wrong_bits;
