@@ -1,5 +1,5 @@
--- What is promised of wrong bits: a CRC finds every detectable damage (Damage.antt) of the bits that it covers and of its own 16; how much longer damage can
--- pass; and that the limits are exact.
+-- What is promised of wrong bits: a CRC detects every detectable damage (Damage.antt) of the bits that it covers and of its own 16; how often it detects one
+-- longer stretch; and that 16 neighbouring bits and three wrong bits are the limits.
 -- Assumes nothing.
 use mathlib.Core.Bool.{true}
 use mathlib.Core.List.{List, [], _∷_}
@@ -32,16 +32,16 @@ detectable-caught xs ys n s t d =
 
 -- its three cases
 module _ (xs ys : List ℕ) (n : ℕ) (s : EndsWithCrc xs n) (t : EndsWithCrc ys n) where
-  -- burst-caught: bits that differ among 16 neighbouring ones alone
+  -- burst-caught: their bits differ among 16 neighbouring ones alone
   pub burst-caught : (a : ℕ) → ((i : ℕ) → i < 8 * (n + 2) → i < a → rowBit xs i ≡ rowBit ys i)
       → ((i : ℕ) → i < 8 * (n + 2) → a + burstBits ≤ i → rowBit xs i ≡ rowBit ys i) → xs ≡ ys
   burst-caught a before after = detectable-caught xs ys n s t (burst a before after)
 
-  -- three-caught: bits that differ at three places at most, wherever these are
+  -- three-caught: their bits, 4,144 at most, differ at three places at most
   pub three-caught : 8 * (n + 2) ≤ longestRow → wrongBits (rowBit xs) (rowBit ys) (8 * (n + 2)) ≤ fewBits → xs ≡ ys
   three-caught l d = detectable-caught xs ys n s t (few l d)
 
-  -- odd-caught: bits never differ at an odd number of places
+  -- odd-caught: their bits never differ at an odd number of places
   pub odd-caught : wrongBits (rowBit xs) (rowBit ys) (8 * (n + 2)) % 2 ≡ 1 → ⊥
   odd-caught d =
       let e : xs ≡ ys = detectable-caught xs ys n s t (odd d) in
@@ -57,16 +57,17 @@ crc-zero xs n b = (
   zero-follows (rowBit xs) (λ (q : ℕ). getD xs q 0) (row-bit xs) n (λ q h. row-spelled xs q (b q)),
 )
 
--- one-in-65536: w + 16 neighbouring bits are put in anew in each of the 2 ^ w * 65,536 ways that there are, while the other bits stand: of all these rows
--- at most 2 ^ w are followed by their CRC
-pub one-in-65536 : (g : ℕ → ℕ) → ((i : ℕ) → g i < 2) → (n a w : ℕ) → a + (w + 16) ≤ 8 * (n + 2)
-    → count (2 ^ w * 65536) (λ (x : ℕ). crcFollows (bitsByte (filled g a (w + 16) x)) n) ≤ 2 ^ w
-one-in-65536 g bit n a w h = fillings g bit n a w h
+-- one-in-65536: 16 neighbouring bits and some more are replaced in each of the 2 ^ more * 65,536 ways that there are, and no other bit. Of all these rows at
+-- most 2 ^ more are followed by their CRC
+pub one-in-65536 : (g : ℕ → ℕ) → ((i : ℕ) → g i < 2) → (n a more : ℕ) → a + (more + 16) ≤ 8 * (n + 2)
+    → count (2 ^ more * 65536) (λ (x : ℕ). crcFollows (bitsByte (filled g a (more + 16) x)) n) ≤ 2 ^ more
+one-in-65536 g bit n a more h = fillings g bit n a more h
 
--- seventeen-pass: the limits are exact. These two lists end with their CRC, and differ at four bits among the 17 from bit 7 on, which are the polynomial's
+-- seventeen-pass: 16 neighbouring bits and three wrong bits are the limits. These two lists end with their CRC, and one bit more than three, all among one
+-- more than 16, is wrong: from bit 7 on, at the places of the polynomial's four terms
 pub seventeen-pass : EndsWithCrc (0x00 ∷ 0xE1 ∷ 0xF0 ∷ []) 1 × EndsWithCrc (0x01 ∷ 0xF1 ∷ 0xD1 ∷ []) 1
     × (wrongBits (rowBit (0x00 ∷ 0xE1 ∷ 0xF0 ∷ [])) (rowBit (0x01 ∷ 0xF1 ∷ 0xD1 ∷ [])) 7 ≡ 0)
-    × (wrongBits (rowBit (0x00 ∷ 0xE1 ∷ 0xF0 ∷ [])) (rowBit (0x01 ∷ 0xF1 ∷ 0xD1 ∷ [])) 24 ≡ 4)
+    × (wrongBits (rowBit (0x00 ∷ 0xE1 ∷ 0xF0 ∷ [])) (rowBit (0x01 ∷ 0xF1 ∷ 0xD1 ∷ [])) (7 + (burstBits + 1)) ≡ fewBits + 1)
 unfolding crcFollows crc crcFrom crcBits crcBit bitOf rowBit wrongBits count at16 bigEndian tab
 seventeen-pass = (
   record { long = refl; bytes = three 0x00 0xE1 0xF0 (lit< tt) (lit< tt) (lit< tt); follows = refl },

@@ -1,5 +1,5 @@
--- Wrong bits, and which of them a CRC always finds: what the promises on damage (Caught.antt) are stated with.
--- A row of bits is a rule that gives bit i. Two rows stand for what was recorded and for what is read.
+-- Wrong bits, and which of them a CRC always detects: what the promises on damage (Caught.antt) are stated with.
+-- A row of bits is a rule that gives bit i. Of two rows the first is what was recorded and the second what is read.
 -- Assumes nothing: these are definitions.
 use mathlib.Core.Path.{_≡_}
 use mathlib.Core.Bool.{true, not, cond, _&&_}
@@ -43,31 +43,31 @@ pub record EndsWithCrc (xs : List ℕ) (n : ℕ) : Type 0 where
 
 -- ---- wrong bits
 
--- how many of the first n bits are wrong: the two rows differ there
+-- how many of the first n bits are wrong: they are read otherwise than they were recorded
 unfoldable pub wrongBits : (ℕ → ℕ) → (ℕ → ℕ) → ℕ → ℕ
 wrongBits f g n = count n (λ (i : ℕ). not (eqb (f i) (g i)))
 
--- wrong bits are always found where they all lie among so many neighbouring bits,
+-- a CRC detects wrong bits that lie among so many neighbouring ones
 abbrev pub burstBits : ℕ
 burstBits = 16
 
--- or where there are at most so many of them,
+-- it detects so many wrong bits, and fewer, wherever they lie in a row that is no longer than the next number
 abbrev pub fewBits : ℕ
 fewBits = 3
 
--- in a row of at most so many bits, which are those of a data field with its sync bytes, its mark and its CRC,
+-- the bits of a data field from its first sync byte to the end of its CRC. For a CRC of 16 bits this is far from the longest row
 abbrev pub longestRow : ℕ
 longestRow = 4144
 
--- or where their number is odd. This is the one notion of damage that every promise speaks of: the first n bits of the two rows are the same, or differ
--- in one of these three ways
+-- the one notion of damage, with which each promise on tracks and images is stated: of the first n bits none is wrong, or the wrong ones lie among 16
+-- neighbouring ones, or there are at most three of them in a row of at most 4,144, or their number is odd
 pub data Detectable (f g : ℕ → ℕ) (n : ℕ) : Type 0 where
   burst : (a : ℕ) → ((i : ℕ) → i < n → i < a → f i ≡ g i) → ((i : ℕ) → i < n → a + burstBits ≤ i → f i ≡ g i) → Detectable f g n
   few : n ≤ longestRow → wrongBits f g n ≤ fewBits → Detectable f g n
   odd : wrongBits f g n % 2 ≡ 1 → Detectable f g n
 
--- ---- longer damage
+-- ---- one longer stretch
 
--- the row g with the w bits from place a on put in anew: the digits of x, highest first
+-- the row g with the w bits from place a on replaced by the digits of x, highest first
 unfoldable pub filled : (ℕ → ℕ) → ℕ → ℕ → ℕ → ℕ → ℕ
 filled g a w x i = cond (leb a i && ltb i (a + w)) (x / 2 ^ (w - ((i - a) + 1)) % 2) (g i)

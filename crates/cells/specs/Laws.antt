@@ -7,6 +7,7 @@ pub mod Mfm
 pub mod Packed
 pub mod Written
 pub mod Triple
+pub mod Clocks
 pub mod Xor
 pub mod Register
 pub mod Burst

@@ -101,6 +101,10 @@ or-right false b e = e
 pub or-none : (a b : Bool) → a ≡ false → b ≡ false → (a || b) ≡ false
 or-none a b e f = ap (λ (c : Bool). c || b) e ∙ f
 
+pub or-other : (a b : Bool) → (a || b) ≡ true → a ≡ false → b ≡ true
+or-other true b e f = true≢false true refl f
+or-other false b e f = e
+
 -- two comparisons that say the same
 pub leb-iff : (a b c e : ℕ) → (a ≤ b → c ≤ e) → (c ≤ e → a ≤ b) → leb a b ≡ leb c e
 leb-iff a b c e f g =

@@ -12,3 +12,8 @@ pub mod RoundTrip
 pub mod Agree
 pub mod FieldDamage
 pub mod SideDamage
+pub mod Known
+pub mod SideCells
+pub mod Read
+pub mod Clash
+pub mod SideBurst

@@ -152,3 +152,11 @@ unfolding dataByte dataBit bitsByte
 cells-spelled c q =
     number-bits c (dataBit c) (16 * q + 1) (8 * q) 8
     (λ j h. let a : 16 * q + 1 + 2 * j ≡ 2 * (8 * q + j) + 1 = omega arith in ap (λ (m : ℕ). getD c m 0) a)
+
+-- a data cell is a digit of its byte
+pub byte-cell : (c : List ℕ) → ((i : ℕ) → getD c i 0 < 2) → (q j : ℕ) → j < 8 → getD c (16 * q + (2 * j + 1)) 0 ≡ dataByte c (16 * q) / 2 ^ (8 - (j + 1)) % 2
+unfolding dataBit bitsByte
+byte-cell c bit q j h =
+    let m : 16 * q + (2 * j + 1) ≡ 2 * (8 * q + j) + 1 = omega arith in
+    ap (λ (n : ℕ). getD c n 0) m
+    ∙ sym (ap (λ (x : ℕ). x / 2 ^ (8 - (j + 1)) % 2) (cells-spelled c q) ∙ bits-digit (dataBit c) (λ i. bit (2 * i + 1)) (8 * q) 8 j h)

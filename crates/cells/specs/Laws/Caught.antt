@@ -112,11 +112,11 @@ module _ (c d : List ℕ) (bc : (i : ℕ) → getD c i 0 < 2) (bd : (i : ℕ) �
       (λ j. bc (2 * j + 1)) (λ j. bd (2 * j + 1)) n (λ j l. cells-spelled c j) (λ j l. cells-spelled d j) hc hd s q h
 
 -- cells that differ among 32 neighbouring ones alone: 16 of these are data cells
-pub cells-burst : (c d : List ℕ) (a n : ℕ) → ((k : ℕ) → k < a → getD c k 0 ≡ getD d k 0) → ((k : ℕ) → a + 2 * burstBits ≤ k → getD c k 0 ≡ getD d k 0)
-    → Detectable (dataBit c) (dataBit d) n
+pub cells-burst : (c d : List ℕ) (a n : ℕ) → ((k : ℕ) → k < 2 * n → k < a → getD c k 0 ≡ getD d k 0)
+    → ((k : ℕ) → k < 2 * n → a + 2 * burstBits ≤ k → getD c k 0 ≡ getD d k 0) → Detectable (dataBit c) (dataBit d) n
 unfolding dataBit
 cells-burst c d a n before after =
-    burst (a / 2) (λ i h l. before (2 * i + 1) (omega arith)) (λ i h l. after (2 * i + 1) (omega arith))
+    burst (a / 2) (λ i h l. before (2 * i + 1) (omega arith) (omega arith)) (λ i h l. after (2 * i + 1) (omega arith) (omega arith))
 
 -- rows that are the same differ nowhere
 pub wrong-none : (f g : ℕ → ℕ) (n : ℕ) → ((i : ℕ) → i < n → f i ≡ g i) → wrongBits f g n ≡ 0

@@ -80,3 +80,15 @@ module _ (c : List ℕ) (t : threeSync c ≡ true) where
 pub three-past : (c : List ℕ) → length c < 16 → threeSync c ≡ false
 unfolding threeSync
 three-past c h = rw (sync-past c 0 (omega arith))
+
+-- each cell of three sync bytes in a row
+pub three-cell : (c : List ℕ) → ((i : ℕ) → getD c i 0 < 2) → threeSync c ≡ true → (e : ℕ) → e < 48
+    → getD c e 0 ≡ syncWord / 2 ^ (16 - (e % 16 + 1)) % 2
+unfolding word
+three-cell c bit t e h =
+    by-order e 16 (λ l. cell 0 (three-first c t) (omega arith) (omega arith))
+    (λ l. by-order e 32 (λ m. cell 16 (three-second c t) (omega arith) (omega arith)) (λ m. cell 32 (three-third c t) (omega arith) (omega arith)))
+  where
+    cell : (k : ℕ) → syncAt c k ≡ true → k + e % 16 ≡ e → e % 16 < 16 → getD c e 0 ≡ syncWord / 2 ^ (16 - (e % 16 + 1)) % 2
+    cell k s p l =
+        ap (λ (n : ℕ). getD c n 0) (sym p) ∙ number-cell c bit k 16 (e % 16) l ∙ ap (λ (w : ℕ). w / 2 ^ (16 - (e % 16 + 1)) % 2) (sync-word c k s)

@@ -7,7 +7,7 @@ use native.Mathlib.Nat.{one-mul, zero-add, div-one}
 use native.Mathlib.Omega.{arith}
 use lib.Dec.{eqb, lit≤}
 use lib.ListN.{length, getD}
-use borrow.Author.Tests.{ne-eqb, eqb-true, eqb-false}
+use borrow.Author.Tests.{eq-eqb, ne-eqb, eqb-true, eqb-false}
 use Rattle.laws.specs.Tab.{tab, tab-length, tab-in, tab-below}
 use Rattle.cells.specs.Laws.Packed.{packedBits-same}
 use Rattle.cells.specs.Stream.{packed, number, dataByte}
@@ -50,8 +50,13 @@ module _ (items : ℕ → Item) (q : ℕ) where
       let b : (2 * k) / 2 ≡ k = omega arith in
       cell-at (2 * k) (omega arith) ∙ rw (ne-eqb _ _ n, a, b)
 
+-- the clock that is left out
+pub left-cell : (items : ℕ → Item) (q j : ℕ) → j < 16 → j ≡ leftOut (items q) → writtenCell items (16 * q + j) ≡ 0
+unfolding itemCell
+left-cell items q j h e = cell-at items q j h ∙ rw (eq-eqb j (leftOut (items q)) e)
+
 -- the data cell before a clock cell
-before-cell : (items : ℕ → Item) (q k l : ℕ) → k < 8 → l + 1 ≡ 16 * q + 2 * k
+pub before-cell : (items : ℕ → Item) (q k l : ℕ) → k < 8 → l + 1 ≡ 16 * q + 2 * k
     → writtenCell items l ≡ before (bitBefore items q) (byteOf (items q)) k
 unfolding before bitBefore
 before-cell items zero zero l h e = absurd (omega arith)

@@ -22,7 +22,7 @@ module _ (c d : List ℕ) (long : length c ≡ length d) (a b : ℕ) (e : (k : �
   unfolding dataByte
   byte-agree k l h = number-same c d 2 (k + 1) (k + 1) 8 (λ j m. e (k + 1 + 2 * j) (omega arith) (omega arith))
 
-  byte-agrees : (i k : ℕ) → a ≤ i + k → i + k + 16 ≤ b → dataByte (from c i) k ≡ dataByte (from d i) k
+  pub byte-agrees : (i k : ℕ) → a ≤ i + k → i + k + 16 ≤ b → dataByte (from c i) k ≡ dataByte (from d i) k
   byte-agrees i k l h = byte-from c i k ∙ byte-agree (i + k) l h ∙ sym (byte-from d i k)
 
   sync-agree : (k : ℕ) → a ≤ k → k + 16 ≤ b → syncAt c k ≡ syncAt d k

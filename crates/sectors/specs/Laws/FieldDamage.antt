@@ -23,7 +23,7 @@ use Rattle.sectors.specs.Geometry.{allSectors, imageBytes}
 use Rattle.sectors.specs.Search.{crcHolds, dataMark, headerCells, fieldCells, gapCells, isHeader, idOf, headerAt, findSector, fieldAt, fieldOf, sectorOf, sectorByte, bytesOf}
 use Rattle.sectors.specs.Hfe.{trackPart, trackLength, sideStream}
 use Rattle.sectors.specs.Unpacked.{trackOf, sideOf, rOf, sectorAt, sectorBytesAt, unpackReply, unpackedByte, unpackImage}
-use Rattle.sectors.specs.Damage.{Binary, headerBits, fieldBits, FieldDamage, SameField, sideWith, DamagedFields}
+use Rattle.sectors.specs.Damage.{Binary, headerBits, fieldBits, FieldDamage, SameField, sideWith, ImageFieldDamage}
 use Rattle.sectors.specs.Laws.Search.{first-is}
 use Rattle.sectors.specs.Laws.Told.{field-told, field-place, field-holds, header-crc, sector-told, header-told, gap-told, each-place}
 use Rattle.sectors.specs.Laws.Agree.{three-agree, header-agree}
@@ -75,11 +75,15 @@ module _ (c d : List ℕ) (bc : Binary c) (bd : Binary d) (j : ℕ) (differ : De
 
 -- ---- one header, two sides
 
-pub id-same : (c d : List ℕ) → Binary c → Binary d → (i : ℕ) → Detectable (dataBit (from c i)) (dataBit (from d i)) headerBits
-    → isHeader (from c i) ≡ true → isHeader (from d i) ≡ true → idOf (from c i) ≡ idOf (from d i)
+pub header-same : (c d : List ℕ) → Binary c → Binary d → (i : ℕ) → Detectable (dataBit (from c i)) (dataBit (from d i)) headerBits
+    → isHeader (from c i) ≡ true → isHeader (from d i) ≡ true
+    → ((k : ℕ) → k < headerBits → dataBit (from c i) k ≡ dataBit (from d i) k) × (idOf (from c i) ≡ idOf (from d i))
 unfolding idOf
-id-same c d bc bd i differ hc hd =
-    λ k. record { c = same 4 (omega arith) k; h = same 5 (omega arith) k; r = same 6 (omega arith) k; n = same 7 (omega arith) k }
+header-same c d bc bd i differ hc hd = (
+  cells-bits (from c i) (from d i) (from-bit c i bc) (from-bit d i bd) 8 (holds-follows (from c i) 8 (header-crc (from c i) hc))
+      (holds-follows (from d i) 8 (header-crc (from d i) hd)) differ,
+  λ k. record { c = same 4 (omega arith) k; h = same 5 (omega arith) k; r = same 6 (omega arith) k; n = same 7 (omega arith) k },
+)
   where
     same : (q : ℕ) → q < 10 → dataByte (from c i) (16 * q) ≡ dataByte (from d i) (16 * q)
     same q h =
@@ -119,7 +123,7 @@ sector-same c d bc bd t s r i j q ei ec g ed =
     let w = gap-told c i (j + 64) (ap (fieldOf c) (sym ix) ∙ x .2) in
     let z : i + headerCells + w .0 + 64 ≡ j + 64 = field-place c (i + headerCells + w .0) (j + 64) (w .4) in
     let u : i + headerCells + w .0 ≡ j = omega arith in
-    let same : (m : ℕ) → i ≤ m → m < i + headerCells + w .0 + 48 → getD c m 0 ≡ getD d m 0 = λ m l n. g .stands m l (omega arith) in
+    let same : (m : ℕ) → i ≤ m → m < i + headerCells + w .0 + 48 → getD c m 0 ≡ getD d m 0 = λ m l n. g .unchanged m l (omega arith) in
     let y = sector-told d t s r q ed in
     let iy : y .0 ≡ i = header-there c d (g .long) i (w .0) same t s r (y .0) (h .0) (h .2) (y .1) in
     fields-same c d bc bd j (g .bits) (j + 64) q (ap (fieldAt c) (sym u) ∙ w .4)
@@ -139,17 +143,20 @@ unfolding sectorBytesAt
 bytes-by h g m j q eh eg same =
     ap (bytesOf (sideWith h m)) eh ∙ same .1 .bytes ∙ ap (bytesOf (sideWith g m)) (sym (eg ∙ ap Delivered (same .0)))
 
-module _ (h g : List ℕ) (d : DamagedFields h g) where
-  pub fields-told : (m j q : ℕ) → m < allSectors → sectorAt h m ≡ Delivered (j + 64) → sectorAt g m ≡ Delivered q
-      → (q ≡ j + 64) × SameField (sideWith h m) (sideWith g m) j
-  unfolding sectorAt
-  fields-told m j q l eh eg =
-      let x = sector-told (sideWith h m) (trackOf m) (sideOf m) (rOf m) (j + 64) eh in
-      sector-same (sideWith h m) (sideWith g m) (side-binary h (trackOf m) (sideOf m)) (side-binary g (trackOf m) (sideOf m))
-      (trackOf m) (sideOf m) (rOf m) (x .0) j q (x .1) eh (d .each m (x .0) j l (x .1) eh) eg
+-- a sector whose field is damaged
+pub sector-told-same : (h g : List ℕ) (m i j q : ℕ) → findSector (sideWith h m) (trackOf m) (sideOf m) (rOf m) ≡ One i → sectorAt h m ≡ Delivered (j + 64)
+    → FieldDamage (sideWith h m) (sideWith g m) i j → sectorAt g m ≡ Delivered q → (q ≡ j + 64) × SameField (sideWith h m) (sideWith g m) j
+unfolding sectorAt
+sector-told-same h g m i j q ei eh d eg =
+    sector-same (sideWith h m) (sideWith g m) (side-binary h (trackOf m) (sideOf m)) (side-binary g (trackOf m) (sideOf m))
+    (trackOf m) (sideOf m) (rOf m) i j q ei eh d eg
 
-  pub fields-bytes : (m j q : ℕ) → m < allSectors → sectorAt h m ≡ Delivered (j + 64) → sectorAt g m ≡ Delivered q → sectorBytesAt h m ≡ sectorBytesAt g m
-  fields-bytes m j q l eh eg = bytes-by h g m j q eh eg (fields-told m j q l eh eg)
+pub fields-bytes : (h g : List ℕ) → ImageFieldDamage h g
+    → (m j q : ℕ) → m < allSectors → sectorAt h m ≡ Delivered (j + 64) → sectorAt g m ≡ Delivered q → sectorBytesAt h m ≡ sectorBytesAt g m
+unfolding sectorAt
+fields-bytes h g d m j q l eh eg =
+    let x = sector-told (sideWith h m) (trackOf m) (sideOf m) (rOf m) (j + 64) eh in
+    bytes-by h g m j q eh eg (sector-told-same h g m (x .0) j q (x .1) eh (d .each m (x .0) j l (x .1) eh) eg)
 
 -- two images that are both accepted, and whose sectors have the same bytes
 pub same-images : (h g image : List ℕ)

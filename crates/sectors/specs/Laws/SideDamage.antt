@@ -20,16 +20,12 @@ use Rattle.sectors.specs.Hfe.{sideStream}
 use Rattle.sectors.specs.Unpacked.{trackOf, sideOf, rOf, sectorAt, sectorBytesAt}
 use Rattle.sectors.specs.Packed.{hfeBytes, packHfe, sectorData, sideItem}
 use Rattle.sectors.specs.Replies.{done}
-use Rattle.sectors.specs.Damage.{Binary, SameField, sideWith, SideDamage, DamagedSides}
+use Rattle.sectors.specs.Damage.{Binary, SameField, sideWith, SideDamage, ImageSideDamage, RunsApart}
 use Rattle.sectors.specs.Laws.Packed.{pack-done, hfe-after}
 use Rattle.sectors.specs.Laws.SideTrip.{writtenSide, runs, place, there}
 use Rattle.sectors.specs.Laws.RoundTrip.{packedImage, stream-back}
 use Rattle.sectors.specs.Laws.Told.{field-place, field-mark, header-split, header-join, header-syncs, header-mark, sector-told, header-told, gap-told}
-use Rattle.sectors.specs.Laws.FieldDamage.{fields-same, id-same, side-binary, bytes-by}
-
--- after three sync bytes that begin no header there are none for as far as a field is looked for after a header
-abbrev pub Lone : List ℕ → Type 0
-Lone c = (k j : ℕ) → threeSync (from c k) ≡ true → isHeader (from c k) ≡ false → k < j → j ≤ k + headerCells + gapCells → threeSync (from c j) ≡ false
+use Rattle.sectors.specs.Laws.FieldDamage.{fields-same, header-same, side-binary, bytes-by}
 
 -- a field that is delivered begins no header
 field-no-header : (c : List ℕ) (j p : ℕ) → fieldAt c j ≡ Delivered p → isHeader (from c j) ≡ false
@@ -40,7 +36,7 @@ field-no-header c j p e =
 
 -- ---- two sides
 
-module _ (c d : List ℕ) (bc : Binary c) (bd : Binary d) (g : SideDamage c d) (lone : Lone c) where
+module _ (c d : List ℕ) (bc : Binary c) (bd : Binary d) (g : SideDamage c d) (lone : RunsApart c) where
   -- the field of d after a header that both have
   same-field : (i j q : ℕ) → fieldOf c i ≡ Delivered (j + 64) → fieldOf d i ≡ Delivered q → (q ≡ j + 64) × SameField c d j
   same-field i j q ec ed =
@@ -61,7 +57,7 @@ module _ (c d : List ℕ) (bc : Binary c) (bd : Binary d) (g : SideDamage c d) (
       true≢false (threeSync (from c (i + headerCells + y .0))) on
       (lone j (i + headerCells + y .0) run (field-no-header c j (j + 64) fc) (omega arith) (omega (arith, y .1)))))
 
-  side-same : (t s r j q : ℕ) → sectorOf c t s r ≡ Delivered (j + 64) → sectorOf d t s r ≡ Delivered q → (q ≡ j + 64) × SameField c d j
+  pub side-same : (t s r j q : ℕ) → sectorOf c t s r ≡ Delivered (j + 64) → sectorOf d t s r ≡ Delivered q → (q ≡ j + 64) × SameField c d j
   side-same t s r j q ec ed =
       let x = sector-told c t s r (j + 64) ec in
       let y = sector-told d t s r q ed in
@@ -69,7 +65,7 @@ module _ (c d : List ℕ) (bc : Binary c) (bd : Binary d) (g : SideDamage c d) (
       let k = header-split d t s r (y .0) (h .0) in
       by-test (isHeader (from c (y .0)))
       (λ u.
-      let same = id-same c d bc bd (y .0) (g .headers (y .0) u) u (k .0) in
+      let same = header-same c d bc bd (y .0) (g .headers (y .0) u) u (k .0) .1 in
       let hc : headerAt c t s r (y .0) ≡ true = header-join c t s r (y .0) u (rw same (k .1)) in
       let i : y .0 ≡ x .0 = header-told c t s r (x .0) (x .1) .1 (y .0) (omega (arith, h .2, g .long)) hc in
       same-field (x .0) j q (x .2) (ap (fieldOf d) (sym i) ∙ y .2))
@@ -83,7 +79,7 @@ module _ (c d : List ℕ) (bc : Binary c) (bd : Binary d) (g : SideDamage c d) (
 apart : (x y o k j : ℕ) → o ≤ 56 → k ≡ 16 * (146 + 658 * x + 56) → j ≡ 16 * (146 + 658 * y + o) → k < j → j ≤ k + headerCells + gapCells → ⊥
 apart x y o k j ho ek ej l h = by-order x y (λ m. omega arith) (λ m. omega arith)
 
-written-lone : (t s : ℕ) → t < 256 → s < 256 → (d : ℕ → List ℕ) → Lone (writtenSide t s d)
+written-lone : (t s : ℕ) → t < 256 → s < 256 → (d : ℕ → List ℕ) → RunsApart (writtenSide t s d)
 unfolding writtenSide place
 written-lone t s ht hs d k j on off l h =
     by-test (threeSync (from (writtenSide t s d) j))
@@ -107,15 +103,15 @@ written-lone t s ht hs d k j on off l h =
 -- ---- a packed image
 
 module _ (image hfe : List ℕ) (li : length image ≡ imageBytes) (lh : length hfe ≡ hfeBytes) where
-  packed-side : (t s : ℕ) → t < 80 → s < 2 → sideStream (packHfe image hfe) t s ≡ writtenSide t s (sectorData image t s)
+  pub packed-side : (t s : ℕ) → t < 80 → s < 2 → sideStream (packHfe image hfe) t s ≡ writtenSide t s (sectorData image t s)
   unfolding packedImage
   packed-side t s ht hs =
       ap (λ (h : List ℕ). sideStream h t s) (hfe-after image hfe done (pack-done (length image) (length hfe) lh li)) ∙ stream-back image t s ht hs
 
-  packed-lone : (t s : ℕ) → t < 80 → s < 2 → Lone (sideStream (packHfe image hfe) t s)
+  packed-lone : (t s : ℕ) → t < 80 → s < 2 → RunsApart (sideStream (packHfe image hfe) t s)
   packed-lone t s ht hs = rw (packed-side t s ht hs) (written-lone t s (omega arith) (omega arith) (sectorData image t s))
 
-pub sides-bytes : (image hfe g : List ℕ) → length image ≡ imageBytes → length hfe ≡ hfeBytes → DamagedSides (packHfe image hfe) g
+pub sides-bytes : (image hfe g : List ℕ) → length image ≡ imageBytes → length hfe ≡ hfeBytes → ImageSideDamage (packHfe image hfe) g
     → (m j q : ℕ) → m < allSectors → sectorAt (packHfe image hfe) m ≡ Delivered (j + 64) → sectorAt g m ≡ Delivered q
     → sectorBytesAt (packHfe image hfe) m ≡ sectorBytesAt g m
 unfolding sectorAt

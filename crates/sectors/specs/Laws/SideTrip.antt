@@ -96,7 +96,7 @@ module _ (t s : ℕ) (d : ℕ → List ℕ) where
             (a .2),
       )
 
-  item-at : (k o : ℕ) → k < 9 → o < 658 → sideItem t s d (146 + 658 * k + o) ≡ sectorItem t s (k + 1) (d (k + 1)) o
+  pub item-at : (k o : ℕ) → k < 9 → o < 658 → sideItem t s d (146 + 658 * k + o) ≡ sectorItem t s (k + 1) (d (k + 1)) o
   item-at k o hk ho =
       let a : (146 + 658 * k + o - 146) / 658 ≡ k = omega arith in
       let b : (146 + 658 * k + o - 146) % 658 ≡ o = omega arith in

@@ -8,6 +8,7 @@ pub mod build;
 mod damaged;
 mod mame;
 mod moved_tracks;
+mod new_runs;
 mod placement;
 mod refusals;
 mod sectors;

@@ -1,8 +1,8 @@
 //! Wrong bits in one sector of a packed disk: those that the CRC always
 //! finds, which are refused at this sector, and the least that it does not.
 
-use super::answer::{assert_unpacks, unpack};
-use super::build::{cell_byte, disk, in_sector, packed, sides, track_0, TRACK_0_GOOD};
+use super::answer::{assert_unpacks, unpack, unpack_into};
+use super::build::{cell_byte, disk, in_sector, packed, pattern, sides, track_0, TRACK_0_GOOD};
 use super::spoil::{AFTER, DATA, DATA_MARK, FIELD_SYNC, GAP, SYNC};
 use std::sync::OnceLock;
 use support::cases::cases;
@@ -213,5 +213,35 @@ fn four_bits_among_seventeen_are_delivered() {
             let hfe = sector.damaged(&packed(), DATA, &data_cells(&three));
             assert_eq!(unpack(&hfe), sector.refusal(7));
         }
+    }
+}
+
+/// Asserts that the disk is refused at this track and side, or unpacks to
+/// what was packed.
+fn assert_refused_or_same(hfe: &[u8], track: usize, side: usize) {
+    let (reply, image) = unpack_into(hfe, pattern());
+    match reply {
+        [0, 0, 0, 0] => assert!(image == disk(), "other bytes than were packed"),
+        [4..=7, t, s, 1..=9] => assert_eq!([t, s], [track, side]),
+        _ => panic!("{reply:?}"),
+    }
+}
+
+#[test]
+fn bursts_of_up_to_32_cells_anywhere_on_a_side() {
+    let mut generator = Generator::new(97);
+    for case in 0..cases(80) {
+        println!("case {case}");
+        let sector = Sector::random(&mut generator, 2);
+        // About a header, about a field's sync bytes, or anywhere.
+        let (index, range) = match case % 4 {
+            0 => (SYNC - 2, CELLS * 12),
+            1 | 2 => (FIELD_SYNC - 2, CELLS * 8),
+            _ => (0, CELLS * 640),
+        };
+        let first = generator.below(range);
+        let cells = some_of(&mut generator, first, 32, usize::MAX);
+        let hfe = sector.damaged(&packed(), index, &cells);
+        assert_refused_or_same(&hfe, sector.track, sector.side);
     }
 }
