@@ -60,7 +60,7 @@ sector-caught c d bc bd t s r i j q ei ec g ed = sector-same c d bc bd t s r i j
 -- side-caught: so is a sector of a side with damage anywhere (SideDamage), if the side was recorded so that runs of sync bytes are apart
 pub side-caught : (c d : List ℕ) → Binary c → Binary d → SideDamage c d → RunsApart c → (t s r j q : ℕ) → sectorOf c t s r ≡ Delivered (j + 64)
     → sectorOf d t s r ≡ Delivered q → (q ≡ j + 64) × SameField c d j
-side-caught c d bc bd g lone t s r j q ec ed = side-same c d bc bd g lone t s r j q ec ed
+side-caught c d bc bd g away t s r j q ec ed = side-same c d bc bd g away t s r j q ec ed
 
 -- ---- whole images
 

@@ -137,11 +137,19 @@ unfolding sideStream
 side-binary h t s i = stream-bit (trackPart h t) (hfeSide s (trackLength h t)) i
 
 -- a sector's bytes in two images
-pub bytes-by : (h g : List ℕ) (m j q : ℕ) → sectorAt h m ≡ Delivered (j + 64) → sectorAt g m ≡ Delivered q
+bytes-by : (h g : List ℕ) (m j q : ℕ) → sectorAt h m ≡ Delivered (j + 64) → sectorAt g m ≡ Delivered q
     → (q ≡ j + 64) × SameField (sideWith h m) (sideWith g m) j → sectorBytesAt h m ≡ sectorBytesAt g m
 unfolding sectorBytesAt
 bytes-by h g m j q eh eg same =
     ap (bytesOf (sideWith h m)) eh ∙ same .1 .bytes ∙ ap (bytesOf (sideWith g m)) (sym (eg ∙ ap Delivered (same .0)))
+
+-- and so in two images whose sides give the same at each sector
+pub bytes-each : (h g : List ℕ)
+    → ((t s x j q : ℕ) → t < 80 → s < 2 → x < 9 → sectorOf (sideStream h t s) t s (x + 1) ≡ Delivered (j + 64)
+    → sectorOf (sideStream g t s) t s (x + 1) ≡ Delivered q → (q ≡ j + 64) × SameField (sideStream h t s) (sideStream g t s) j)
+    → (m j q : ℕ) → m < allSectors → sectorAt h m ≡ Delivered (j + 64) → sectorAt g m ≡ Delivered q → sectorBytesAt h m ≡ sectorBytesAt g m
+unfolding sectorAt
+bytes-each h g same m j q l eh eg = bytes-by h g m j q eh eg (same (trackOf m) (sideOf m) (m % 9) j q (omega arith) (omega arith) (omega arith) eh eg)
 
 -- a sector whose field is damaged
 pub sector-told-same : (h g : List ℕ) (m i j q : ℕ) → findSector (sideWith h m) (trackOf m) (sideOf m) (rOf m) ≡ One i → sectorAt h m ≡ Delivered (j + 64)

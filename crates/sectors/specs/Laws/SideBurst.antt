@@ -24,13 +24,14 @@ use Rattle.sectors.specs.declared.Sector.the-variants.{Delivered}
 use Rattle.sectors.specs.Search.{dataMark, headerCells, gapCells, idOf, headerAt, findSector, fieldAt, fieldOf, sectorOf}
 use Rattle.sectors.specs.Packed.{sideItem, hfeBytes, packHfe, sectorData}
 use Rattle.sectors.specs.Geometry.{allSectors, imageBytes}
-use Rattle.sectors.specs.Unpacked.{trackOf, sideOf, sectorAt, sectorBytesAt}
-use Rattle.sectors.specs.Damage.{Binary, fieldBits, SameField, sideWith, SideBurst, ImageBurst}
+use Rattle.sectors.specs.Hfe.{sideStream}
+use Rattle.sectors.specs.Unpacked.{sectorAt, sectorBytesAt}
+use Rattle.sectors.specs.Damage.{Binary, fieldBits, SameField, SideBurst, ImageBurst}
 use Rattle.sectors.specs.Laws.Agree.{byte-agrees, three-agree, header-agree}
 use Rattle.sectors.specs.Laws.Read.{isRead, read-lt, headers-read, fields-read, belongs-id}
 use Rattle.sectors.specs.Laws.SideCells.{side-cells, side-long, known, zeros-none, zero-before, zero-after}
 use Rattle.sectors.specs.Laws.Clash.{clash, Apart, header-apart, header-next, field-apart, field-even, field-odd}
-use Rattle.sectors.specs.Laws.FieldDamage.{fields-same, side-binary, bytes-by}
+use Rattle.sectors.specs.Laws.FieldDamage.{fields-same, side-binary, bytes-each}
 use Rattle.sectors.specs.Laws.SideDamage.{packed-side}
 use Rattle.sectors.specs.Laws.Known.{sectorStart, knownCell}
 use Rattle.sectors.specs.Laws.SideTrip.{writtenSide, runs, only, place, there}
@@ -324,11 +325,8 @@ side-burst t s ht hs dd c d e bd g x hx j q ec ed = rw e (burst-same t s ht hs d
 pub bursts-bytes : (image hfe g : List ℕ) → length image ≡ imageBytes → length hfe ≡ hfeBytes → ImageBurst (packHfe image hfe) g
     → (m j q : ℕ) → m < allSectors → sectorAt (packHfe image hfe) m ≡ Delivered (j + 64) → sectorAt g m ≡ Delivered q
     → sectorBytesAt (packHfe image hfe) m ≡ sectorBytesAt g m
-unfolding sectorAt
-bursts-bytes image hfe g li lh d m j q l eh eg =
-    let ht : trackOf m < 80 = omega arith in
-    let hs : sideOf m < 2 = omega arith in
-    bytes-by (packHfe image hfe) g m j q eh eg
-    (side-burst (trackOf m) (sideOf m) (omega arith) hs (sectorData image (trackOf m) (sideOf m)) (sideWith (packHfe image hfe) m) (sideWith g m)
-    (packed-side image hfe li lh (trackOf m) (sideOf m) ht hs) (side-binary g (trackOf m) (sideOf m)) (d .each (trackOf m) (sideOf m) ht hs)
-    (m % 9) (omega arith) j q eh eg)
+bursts-bytes image hfe g li lh d =
+    bytes-each (packHfe image hfe) g
+    (λ t s x j q ht hs hx ec ed.
+    side-burst t s (omega arith) hs (sectorData image t s) (sideStream (packHfe image hfe) t s) (sideStream g t s) (packed-side image hfe li lh t s ht hs)
+    (side-binary g t s) (d .each t s ht hs) x hx j q ec ed)

@@ -17,15 +17,15 @@ use Rattle.sectors.specs.declared.Sector.the-variants.{Delivered}
 use Rattle.sectors.specs.Geometry.{allSectors, imageBytes}
 use Rattle.sectors.specs.Search.{headerCells, gapCells, isHeader, headerAt, fieldAt, fieldOf, sectorOf}
 use Rattle.sectors.specs.Hfe.{sideStream}
-use Rattle.sectors.specs.Unpacked.{trackOf, sideOf, rOf, sectorAt, sectorBytesAt}
+use Rattle.sectors.specs.Unpacked.{sectorAt, sectorBytesAt}
 use Rattle.sectors.specs.Packed.{hfeBytes, packHfe, sectorData, sideItem}
 use Rattle.sectors.specs.Replies.{done}
-use Rattle.sectors.specs.Damage.{Binary, SameField, sideWith, SideDamage, ImageSideDamage, RunsApart}
+use Rattle.sectors.specs.Damage.{Binary, SameField, SideDamage, ImageSideDamage, RunsApart}
 use Rattle.sectors.specs.Laws.Packed.{pack-done, hfe-after}
 use Rattle.sectors.specs.Laws.SideTrip.{writtenSide, runs, place, there}
 use Rattle.sectors.specs.Laws.RoundTrip.{packedImage, stream-back}
 use Rattle.sectors.specs.Laws.Told.{field-place, field-mark, header-split, header-join, header-syncs, header-mark, sector-told, header-told, gap-told}
-use Rattle.sectors.specs.Laws.FieldDamage.{fields-same, header-same, side-binary, bytes-by}
+use Rattle.sectors.specs.Laws.FieldDamage.{fields-same, header-same, side-binary, bytes-each}
 
 -- a field that is delivered begins no header
 field-no-header : (c : List ℕ) (j p : ℕ) → fieldAt c j ≡ Delivered p → isHeader (from c j) ≡ false
@@ -36,7 +36,7 @@ field-no-header c j p e =
 
 -- ---- two sides
 
-module _ (c d : List ℕ) (bc : Binary c) (bd : Binary d) (g : SideDamage c d) (lone : RunsApart c) where
+module _ (c d : List ℕ) (bc : Binary c) (bd : Binary d) (g : SideDamage c d) (away : RunsApart c) where
   -- the field of d after a header that both have
   same-field : (i j q : ℕ) → fieldOf c i ≡ Delivered (j + 64) → fieldOf d i ≡ Delivered q → (q ≡ j + 64) × SameField c d j
   same-field i j q ec ed =
@@ -55,7 +55,7 @@ module _ (c d : List ℕ) (bc : Binary c) (bd : Binary d) (g : SideDamage c d) (
       (ap (fieldAt d) (sym u) ∙ ap (λ (k : ℕ). fieldAt d (i + headerCells + k)) (sym e) ∙ y .4))
       (λ n.
       true≢false (threeSync (from c (i + headerCells + y .0))) on
-      (lone j (i + headerCells + y .0) run (field-no-header c j (j + 64) fc) (omega arith) (omega (arith, y .1)))))
+      (away j (i + headerCells + y .0) run (field-no-header c j (j + 64) fc) (omega arith) (omega (arith, y .1)))))
 
   pub side-same : (t s r j q : ℕ) → sectorOf c t s r ≡ Delivered (j + 64) → sectorOf d t s r ≡ Delivered q → (q ≡ j + 64) × SameField c d j
   side-same t s r j q ec ed =
@@ -72,16 +72,16 @@ module _ (c d : List ℕ) (bc : Binary c) (bd : Binary d) (g : SideDamage c d) (
       (λ u.
       let w = gap-told d (y .0) q (y .2) in
       true≢false (threeSync (from c (y .0 + headerCells + w .0))) (g .no-new-run (y .0 + headerCells + w .0) (w .3))
-      (lone (y .0) (y .0 + headerCells + w .0) (g .no-new-run (y .0) (header-syncs (from d (y .0)) (k .0))) u (omega arith) (omega (arith, w .1))))
+      (away (y .0) (y .0 + headerCells + w .0) (g .no-new-run (y .0) (header-syncs (from d (y .0)) (k .0))) u (omega arith) (omega (arith, w .1))))
 
 -- ---- a written side
 
-apart : (x y o k j : ℕ) → o ≤ 56 → k ≡ 16 * (146 + 658 * x + 56) → j ≡ 16 * (146 + 658 * y + o) → k < j → j ≤ k + headerCells + gapCells → ⊥
-apart x y o k j ho ek ej l h = by-order x y (λ m. omega arith) (λ m. omega arith)
+too-near : (x y o k j : ℕ) → o ≤ 56 → k ≡ 16 * (146 + 658 * x + 56) → j ≡ 16 * (146 + 658 * y + o) → k < j → j ≤ k + headerCells + gapCells → ⊥
+too-near x y o k j ho ek ej l h = by-order x y (λ m. omega arith) (λ m. omega arith)
 
-written-lone : (t s : ℕ) → t < 256 → s < 256 → (d : ℕ → List ℕ) → RunsApart (writtenSide t s d)
+written-apart : (t s : ℕ) → t < 256 → s < 256 → (d : ℕ → List ℕ) → RunsApart (writtenSide t s d)
 unfolding writtenSide place
-written-lone t s ht hs d k j on off l h =
+written-apart t s ht hs d k j on off l h =
     by-test (threeSync (from (writtenSide t s d) j))
     (λ u.
     let a = triple-only (sideItem t s d) 6250 k on in
@@ -95,8 +95,8 @@ written-lone t s ht hs d k j on off l h =
     (header-split (writtenSide t s d) t s (x .0 + 1) k (ap (headerAt (writtenSide t s d) t s (x .0 + 1)) (sym e) ∙ there t s ht hs d (x .0) (x .1)) .0)
     off)
     (λ m.
-    ⊎-elim (λ n. absurd (apart (x .0) (y .0) 12 k j (omega arith) (omega arith) (omega arith) l h))
-    (λ n. absurd (apart (x .0) (y .0) 56 k j (omega arith) (omega arith) (omega arith) l h)) (y .2))
+    ⊎-elim (λ n. absurd (too-near (x .0) (y .0) 12 k j (omega arith) (omega arith) (omega arith) l h))
+    (λ n. absurd (too-near (x .0) (y .0) 56 k j (omega arith) (omega arith) (omega arith) l h)) (y .2))
     (x .2))
     (λ u. u)
 
@@ -108,17 +108,14 @@ module _ (image hfe : List ℕ) (li : length image ≡ imageBytes) (lh : length 
   packed-side t s ht hs =
       ap (λ (h : List ℕ). sideStream h t s) (hfe-after image hfe done (pack-done (length image) (length hfe) lh li)) ∙ stream-back image t s ht hs
 
-  packed-lone : (t s : ℕ) → t < 80 → s < 2 → RunsApart (sideStream (packHfe image hfe) t s)
-  packed-lone t s ht hs = rw (packed-side t s ht hs) (written-lone t s (omega arith) (omega arith) (sectorData image t s))
+  packed-apart : (t s : ℕ) → t < 80 → s < 2 → RunsApart (sideStream (packHfe image hfe) t s)
+  packed-apart t s ht hs = rw (packed-side t s ht hs) (written-apart t s (omega arith) (omega arith) (sectorData image t s))
 
 pub sides-bytes : (image hfe g : List ℕ) → length image ≡ imageBytes → length hfe ≡ hfeBytes → ImageSideDamage (packHfe image hfe) g
     → (m j q : ℕ) → m < allSectors → sectorAt (packHfe image hfe) m ≡ Delivered (j + 64) → sectorAt g m ≡ Delivered q
     → sectorBytesAt (packHfe image hfe) m ≡ sectorBytesAt g m
-unfolding sectorAt
-sides-bytes image hfe g li lh d m j q l eh eg =
-    let ht : trackOf m < 80 = omega arith in
-    let hs : sideOf m < 2 = omega arith in
-    bytes-by (packHfe image hfe) g m j q eh eg
-    (side-same (sideWith (packHfe image hfe) m) (sideWith g m) (side-binary (packHfe image hfe) (trackOf m) (sideOf m))
-    (side-binary g (trackOf m) (sideOf m)) (d .each (trackOf m) (sideOf m) ht hs) (packed-lone image hfe li lh (trackOf m) (sideOf m) ht hs)
-    (trackOf m) (sideOf m) (rOf m) j q eh eg)
+sides-bytes image hfe g li lh d =
+    bytes-each (packHfe image hfe) g
+    (λ t s x j q ht hs hx ec ed.
+    side-same (sideStream (packHfe image hfe) t s) (sideStream g t s) (side-binary (packHfe image hfe) t s) (side-binary g t s) (d .each t s ht hs)
+    (packed-apart image hfe li lh t s ht hs) t s (x + 1) j q ec ed)
