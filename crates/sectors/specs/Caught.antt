@@ -8,19 +8,20 @@ use Prim.Native.Nat.{ℕ, _+_, _*_, _≤_, _<_}
 use lib.Dec.{eqb}
 use lib.ListN.{length, getD}
 use Rattle.cells.specs.Stream.{from, dataByte}
-use Rattle.cells.specs.Damage.{dataBit, burstBits, longestRow, Detectable}
+use Rattle.cells.specs.Crc.{crcFollows}
+use Rattle.cells.specs.Damage.{dataBit, bitsByte, burstBits, longestRow, Detectable}
 use Rattle.cells.specs.Laws.Caught.{cells-burst}
 use Rattle.sectors.specs.declared.Found.the-variants.{One}
 use Rattle.sectors.specs.declared.Sector.the-variants.{Delivered, Fieldless, Damaged}
 use Rattle.sectors.specs.declared.Reply.{Reply}
 use Rattle.sectors.specs.Geometry.{allSectors, imageBytes}
-use Rattle.sectors.specs.Search.{dataMark, fieldCells, isHeader, idOf, findSector, fieldAt, sectorOf}
+use Rattle.sectors.specs.Search.{crcHolds, dataMark, fieldCells, isHeader, idOf, findSector, fieldAt, sectorOf}
 use Rattle.sectors.specs.Unpacked.{trackOf, sideOf, rOf, sectorAt, unpackReply, unpackImage}
 use Rattle.sectors.specs.Packed.{hfeBytes, packHfe}
 use Rattle.sectors.specs.Damage.{Binary, headerBits, fieldBits, FieldDamage, SameField, sideWith, ImageFieldDamage, SideDamage, ImageSideDamage, RunsApart, ImageBurst}
 use Rattle.sectors.specs.Laws.RoundTrip.{round-trip}
 use Rattle.sectors.specs.Laws.Told.{each-place}
-use Rattle.sectors.specs.Laws.FieldDamage.{field-refused, header-same, sector-same, same-images, sector-told-same, fields-bytes}
+use Rattle.sectors.specs.Laws.FieldDamage.{holds-bits, field-refused, header-same, sector-same, same-images, sector-told-same, fields-bytes}
 use Rattle.sectors.specs.Laws.SideDamage.{side-same, sides-bytes}
 use Rattle.sectors.specs.Laws.SideBurst.{bursts-bytes}
 
@@ -29,6 +30,11 @@ use Rattle.sectors.specs.Laws.SideBurst.{bursts-bytes}
 -- field-longest: a data field is as long as the row in which three wrong bits are detected
 pub field-longest : fieldBits ≡ longestRow
 field-longest = refl
+
+-- crc-counted: the test of a header's or a field's CRC is, on its data bits, the test that one-in-65536 counts. So of all ways to replace one longer stretch of a
+-- field's data bits at most one in 65,536 passes
+pub crc-counted : (f : List ℕ) (n : ℕ) → crcHolds f n ≡ crcFollows (bitsByte (dataBit f)) n
+crc-counted f n = holds-bits f n
 
 -- field-caught: of a field that was delivered the data bits differ detectably, and bit k is wrong. Judged at its place it is Damaged (7) where its mark reads FB,
 -- and Fieldless (6) where not; never is it delivered

@@ -13,8 +13,10 @@ use Rattle.laws.specs.Truth.{by-test, and-left}
 use Rattle.cells.specs.Crc.{crcFollows}
 use Rattle.cells.specs.Stream.{from, dataByte, hfeSide}
 use Rattle.cells.specs.Sync.{threeSync}
-use Rattle.cells.specs.Damage.{dataBit, Detectable}
+use Rattle.cells.specs.Damage.{dataBit, bitsByte, Detectable}
+use Rattle.cells.specs.Laws.Bits.{cells-spelled}
 use Rattle.cells.specs.Laws.Caught.{cells-caught, cells-bits}
+use Rattle.cells.specs.Laws.Crc.{follows-cong}
 use Rattle.cells.specs.Laws.Number.{byte-from}
 use Rattle.cells.specs.Laws.Stream.{from-length, from-bit, stream-bit}
 use Rattle.sectors.specs.declared.Found.the-variants.{One}
@@ -32,6 +34,11 @@ use Rattle.sectors.specs.Laws.Agree.{three-agree, header-agree}
 holds-follows : (f : List ℕ) (n : ℕ) → crcHolds f n ≡ true → crcFollows (λ (q : ℕ). dataByte f (16 * q)) n ≡ true
 unfolding crcHolds
 holds-follows f n e = e
+
+-- and as it has it for the bits of a row
+pub holds-bits : (f : List ℕ) (n : ℕ) → crcHolds f n ≡ crcFollows (bitsByte (dataBit f)) n
+unfolding crcHolds
+holds-bits f n = follows-cong (λ (q : ℕ). dataByte f (16 * q)) (bitsByte (dataBit f)) n (λ q h. cells-spelled f q)
 
 -- ---- one field, two sides
 

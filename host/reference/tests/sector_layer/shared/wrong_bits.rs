@@ -49,7 +49,8 @@ impl Sector {
     }
 
     /// Asserts that the image is refused at this sector where these cells
-    /// are inverted, counted from the data mark; one is a data cell.
+    /// are inverted, counted from the data mark; at least one is a data
+    /// cell.
     fn assert_found(self, image: &[u8], cells: &[usize]) {
         let in_mark = cells.iter().any(|&cell| cell < CELLS && cell % 2 == 1);
         let number = if in_mark { 6 } else { 7 };
