@@ -115,18 +115,22 @@ module _ (f g : ℕ → ℕ) (bit : (i : ℕ) → f i < 2) where
     unfolding crc
     crc-register = crc-bits crcStart n (λ q h. e q (omega arith))
 
+    -- one way
     pub follows-zero : crcFollows g n ≡ true → register crcStart f (8 * n + 16) ≡ 0
     follows-zero h = passes crcStart (lit< tt) f bit 16 (8 * n) (lit≤ tt) (sym crc-register ∙ follows-crc g n h ∙ crc-number)
 
+    -- and the other
     pub zero-follows : register crcStart f (8 * n + 16) ≡ 0 → crcFollows g n ≡ true
     zero-follows z = crc-follows g n (crc-register ∙ held crcStart (lit< tt) f bit 16 (8 * n) (lit≤ tt) z ∙ sym crc-number)
 
 -- ---- the bits of a row of bytes, and of cells
 
+-- a bit of a list of bytes is 0 or 1
 pub row-bit : (xs : List ℕ) (i : ℕ) → rowBit xs i < 2
 unfolding rowBit bitOf
 row-bit xs i = omega arith
 
+-- a byte of the list is what its bits spell
 pub row-spelled : (xs : List ℕ) (q : ℕ) → getD xs q 0 < 256 → getD xs q 0 ≡ bitsByte (rowBit xs) q
 unfolding rowBit bitOf bitsByte
 row-spelled xs q h =
@@ -147,6 +151,7 @@ number-bits c f k m zero e = refl
 number-bits c f k m (suc n) e =
     ap₂ (λ (x y : ℕ). x * 2 + y) (number-bits c f k m n (λ j h. e j (omega arith))) (e n (omega arith)) ∙ sym (bits-more f n m)
 
+-- a byte of cells is what its data cells spell
 pub cells-spelled : (c : List ℕ) (q : ℕ) → dataByte c (16 * q) ≡ bitsByte (dataBit c) q
 unfolding dataByte dataBit bitsByte
 cells-spelled c q =

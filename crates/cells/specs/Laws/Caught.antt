@@ -60,6 +60,7 @@ module _ (f g : ℕ → ℕ) (bf : (i : ℕ) → f i < 2) (bg : (i : ℕ) → g 
   wrong-zero : (s n : ℕ) → register s f n ≡ 0 → register s g n ≡ 0 → register 0 (difference f g) n ≡ 0
   wrong-zero s n zf zg = sym (register-sum s f g n) ∙ ap₂ bitXor zf zg
 
+  -- rows of bits whose registers come to 0 and that differ detectably
   pub bits-caught : (s n : ℕ) → register s f n ≡ 0 → register s g n ≡ 0 → Detectable f g n → (i : ℕ) → i < n → f i ≡ g i
   bits-caught s n zf zg (burst a before after) i h =
       right-same i
@@ -88,6 +89,7 @@ module _ (f g u v : ℕ → ℕ) (bf : (i : ℕ) → f i < 2) (bg : (i : ℕ) �
       let zv : register crcStart g (8 * (n + 2)) ≡ 0 = ap (register crcStart g) (sym e) ∙ follows-zero g v bg n ev hv in
       bits-caught f g bf bg crcStart (8 * (n + 2)) zu zv s i h
 
+  -- and the bytes
   pub bytes-caught : crcFollows u n ≡ true → crcFollows v n ≡ true → Detectable f g (8 * (n + 2))
       → (q : ℕ) → q < n + 2 → u q ≡ v q
   unfolding bitsByte
@@ -105,6 +107,7 @@ module _ (c d : List ℕ) (bc : (i : ℕ) → getD c i 0 < 2) (bd : (i : ℕ) �
       spelled-caught (dataBit c) (dataBit d) (λ (j : ℕ). dataByte c (16 * j)) (λ (j : ℕ). dataByte d (16 * j))
       (λ j. bc (2 * j + 1)) (λ j. bd (2 * j + 1)) n (λ j l. cells-spelled c j) (λ j l. cells-spelled d j) hc hd s i h
 
+  -- and the bytes
   pub cells-caught : (q : ℕ) → q < n + 2 → dataByte c (16 * q) ≡ dataByte d (16 * q)
   unfolding dataBit
   cells-caught q h =

@@ -90,6 +90,7 @@ follows-test f bit n =
     (λ u. true≢false (eqb (register crcStart f (8 * n + 16)) 0) (eq-true (follows-zero f (bitsByte f) bit n (λ q h. refl) u)) t)
     (λ u. u ∙ sym t))
 
+-- at most 2 ^ w of the fillings are followed by their CRC
 pub fillings : (g : ℕ → ℕ) → ((i : ℕ) → g i < 2) → (n a w : ℕ) → a + (w + 16) ≤ 8 * (n + 2)
     → count (2 ^ w * 65536) (λ (x : ℕ). crcFollows (bitsByte (filled g a (w + 16) x)) n) ≤ 2 ^ w
 fillings g bit n a w h =

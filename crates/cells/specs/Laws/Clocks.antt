@@ -23,6 +23,7 @@ module _ (items : ℕ → Item) (l : ℕ) (odd : l % 2 ≡ 1) where
       ap (writtenCell items) m ∙ clock-cell items q k (omega arith) (λ s. n (sym e ∙ s))
       ∙ sym (ap₂ clock (before-cell items q k l (omega arith) m) (ap (writtenCell items) r ∙ data-cell items q k (omega arith)))
 
+  -- it is 0 where it is left out
   pub clock-missing : (l + 1) % 16 ≡ leftOut (items ((l + 1) / 16)) → writtenCell items (l + 1) ≡ 0
   clock-missing e =
       let m : l + 1 ≡ 16 * ((l + 1) / 16) + (l + 1) % 16 = omega arith in

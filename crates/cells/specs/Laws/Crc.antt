@@ -39,7 +39,7 @@ crc-more c k n = rw bytes-more (crcFrom-snoc crcStart (dataBytes c k n) (dataByt
 
 -- ---- the register has 16 bits
 
-crcBit-lt : (s b : ℕ) → crcBit s b < 2 ^ 16
+pub crcBit-lt : (s b : ℕ) → crcBit s b < 2 ^ 16
 unfolding crcBit
 crcBit-lt s b = xor-lt 16 (polynomial * ((s / 0x8000 + b) % 2)) (s * 2 % 0x10000) (omega arith) (omega arith)
 

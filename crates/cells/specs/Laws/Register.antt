@@ -4,12 +4,13 @@ use mathlib.Core.Path.{_≡_, refl, sym, ap, ap₂, _∙_}
 use Prim.Native.Nat.{ℕ, zero, suc, _+_, _-_, _*_, _/_, _%_, _^_, _≤_, _<_}
 use native.Mathlib.Nat.{add-zero, add-suc, suc-add, pow-suc, mul-assoc, mul-le-mul-right}
 use native.Mathlib.Omega.{arith}
-use lib.Bits.{bitXor, xor-self, xor-shr, xor-lt}
+use lib.Bits.{bitXor, xor-self, xor-shr}
 use lib.Pow.{pow-add, pow-pos}
 use lib.Dec.{lit<}
 use Rattle.cells.specs.Crc.{crcBit, polynomial}
 use Rattle.cells.specs.Damage.{bitsFrom, register}
-use Rattle.cells.specs.Laws.Xor.{xor-digit, xor-swap, xor-equal, xor-shifted}
+use Rattle.cells.specs.Laws.Crc.{crcBit-lt}
+use Rattle.cells.specs.Laws.Xor.{xor-digit, xor-swap, xor-shifted}
 
 -- ---- one step
 
@@ -50,10 +51,6 @@ pub step-low : (s b : ℕ) → crcBit s b % 2 ≡ (s / 0x8000 + b) % 2
 unfolding crcBit
 step-low s b = omega (arith, xor-digit (polynomial * ((s / 0x8000 + b) % 2)) (s * 2 % 0x10000))
 
-pub step-lt : (s b : ℕ) → crcBit s b < 2 ^ 16
-unfolding crcBit
-step-lt s b = xor-lt 16 (polynomial * ((s / 0x8000 + b) % 2)) (s * 2 % 0x10000) (omega arith) (omega arith)
-
 -- the polynomial is not added where the bit that came is the bit shifted out
 step-plain : (s b : ℕ) → (s / 0x8000 + b) % 2 ≡ 0 → crcBit s b ≡ s * 2 % 0x10000
 unfolding crcBit
@@ -71,6 +68,7 @@ step-back s b hs hb e =
     back-of : (s b u : ℕ) → s < 0x10000 → b < 2 → (s / 0x8000 + b) % 2 ≡ 0 → u ≡ s * 2 % 0x10000 → s ≡ u / 2 + 0x8000 * b
     back-of s b u hs hb z e = let t : s / 0x8000 ≡ b = top-is s b hs hb z in omega arith
 
+-- and one that holds the bit on top comes to its double
 pub step-forth : (u b : ℕ) → u < 0x8000 → b < 2 → crcBit (u + 0x8000 * b) b ≡ u * 2
 step-forth u b hu hb =
     let z : ((u + 0x8000 * b) / 0x8000 + b) % 2 ≡ 0 = omega arith in
@@ -84,24 +82,17 @@ step-zero = refl
 pub step-only : (s : ℕ) → s < 0x10000 → crcBit s 0 ≡ 0 → s ≡ 0
 step-only s h e = omega (arith, step-back s 0 h (lit< tt) (omega (arith, e)))
 
--- step-injective: for a fixed bit two registers that are carried to one are one
-pub step-injective : (s t b : ℕ) → s < 0x10000 → t < 0x10000 → crcBit s b ≡ crcBit t b → s ≡ t
-step-injective s t b hs ht e =
-    let z : (b + b) % 2 ≡ 0 = omega arith in
-    xor-equal s t
-    (step-only (bitXor s t) (xor-lt 16 s t hs ht)
-    (ap (crcBit (bitXor s t)) (sym z) ∙ step-sum s t b b ∙ ap (λ (x : ℕ). bitXor x (crcBit t b)) e ∙ xor-self (crcBit t b)))
-
 -- ---- the register after a row of bits
 
 -- 1 where two rows differ, else 0
 unfoldable pub difference : (ℕ → ℕ) → (ℕ → ℕ) → ℕ → ℕ
 difference f g i = (f i + g i) % 2
 
+-- the register has 16 bits
 pub register-lt : (s : ℕ) (f : ℕ → ℕ) (n : ℕ) → s < 0x10000 → register s f n < 0x10000
 unfolding register
 register-lt s f zero h = h
-register-lt s f (suc n) h = step-lt (register s f n) (f n)
+register-lt s f (suc n) h = crcBit-lt (register s f n) (f n)
 
 -- the sum of the registers of two rows is the register of where they differ
 pub register-sum : (s : ℕ) (f g : ℕ → ℕ) (n : ℕ) → bitXor (register s f n) (register s g n) ≡ register 0 (difference f g) n
@@ -111,12 +102,7 @@ register-sum s f g (suc n) =
     sym (step-sum (register s f n) (register s g n) (f n) (g n))
     ∙ ap (λ (x : ℕ). crcBit x ((f n + g n) % 2)) (register-sum s f g n)
 
--- rows that agree
-pub register-same : (s : ℕ) (f g : ℕ → ℕ) (n : ℕ) → ((i : ℕ) → i < n → f i ≡ g i) → register s f n ≡ register s g n
-unfolding register
-register-same s f g zero e = refl
-register-same s f g (suc n) e = ap₂ crcBit (register-same s f g n (λ i h. e i (omega arith))) (e n (omega arith))
-
+-- k bits make a number below 2 ^ k
 pub bits-lt : (f : ℕ → ℕ) → ((i : ℕ) → f i < 2) → (m k : ℕ) → bitsFrom f m k < 2 ^ k
 unfolding bitsFrom
 bits-lt f bit m zero = lit< tt

@@ -66,6 +66,7 @@ module _ (c d : List ℕ) (bc : Binary c) (bd : Binary d) (j : ℕ) (differ : De
             ∙ sym (sector-byte d j k));
       }
 
+  -- what is delivered of both is the same
   pub fields-same : (p q : ℕ) → fieldAt c j ≡ Delivered p → fieldAt d j ≡ Delivered q → (q ≡ j + 64) × SameField c d j
   fields-same p q ec ed = (sym (field-place d j q ed), field-same (field-holds c j p ec) (field-holds d j q ed))
 
@@ -82,6 +83,7 @@ module _ (c d : List ℕ) (bc : Binary c) (bd : Binary d) (j : ℕ) (differ : De
 
 -- ---- one header, two sides
 
+-- two headers whose CRC holds have the same data bits, and name the same sector
 pub header-same : (c d : List ℕ) → Binary c → Binary d → (i : ℕ) → Detectable (dataBit (from c i)) (dataBit (from d i)) headerBits
     → isHeader (from c i) ≡ true → isHeader (from d i) ≡ true
     → ((k : ℕ) → k < headerBits → dataBit (from c i) k ≡ dataBit (from d i) k) × (idOf (from c i) ≡ idOf (from d i))
@@ -121,6 +123,7 @@ module _ (c d : List ℕ) (long : length c ≡ length d) (i k : ℕ)
 one-same : (i k : ℕ) → One i ≡ One k → i ≡ k
 one-same i k e = cc
 
+-- what is delivered of the sector is the same
 pub sector-same : (c d : List ℕ) → Binary c → Binary d → (t s r i j q : ℕ) → findSector c t s r ≡ One i → sectorOf c t s r ≡ Delivered (j + 64)
     → FieldDamage c d i j → sectorOf d t s r ≡ Delivered q → (q ≡ j + 64) × SameField c d j
 sector-same c d bc bd t s r i j q ei ec g ed =
@@ -166,6 +169,7 @@ sector-told-same h g m i j q ei eh d eg =
     sector-same (sideWith h m) (sideWith g m) (side-binary h (trackOf m) (sideOf m)) (side-binary g (trackOf m) (sideOf m))
     (trackOf m) (sideOf m) (rOf m) i j q ei eh d eg
 
+-- images whose fields are damaged have the same bytes where both deliver them
 pub fields-bytes : (h g : List ℕ) → ImageFieldDamage h g
     → (m j q : ℕ) → m < allSectors → sectorAt h m ≡ Delivered (j + 64) → sectorAt g m ≡ Delivered q → sectorBytesAt h m ≡ sectorBytesAt g m
 unfolding sectorAt

@@ -186,6 +186,7 @@ module _ (t s : ℕ) (ht : t < 128) (hs : s < 2) (d : ℕ → List ℕ) (x : ℕ
             let w : (l + 1) % 16 ≡ k % 16 = omega arith in
             clock-missing (sideItem t s d) l odd-before (w ∙ u ∙ sym (ap (λ (y : ℕ). leftOut (sideItem t s d (y / 16))) m ∙ left-same k h))
 
+  -- a known cell of the sector is as written
   pub known-cell : (k : ℕ) → 2 ≤ k → k < 960 → (v : ℕ) → knownCell k ≡ v → v < 2 → writtenCell (sideItem t s d) (sectorStart x + k) ≡ v
   unfolding knownCell
   known-cell k lo h v e hv =

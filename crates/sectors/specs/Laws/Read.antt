@@ -77,6 +77,7 @@ belongs-id t s r i e =
     let en : i .n ≡ 2 = true-eq (and-right (eqb (i .c) t && eqb (i .h) s) (eqb (i .n) 2) a₁) in
     λ k. record { c = ec k; h = eh k; r = er k; n = en k }
 
+-- a cell that is read is one of the n
 pub read-lt : (n e : ℕ) → 48 ≤ n → isRead n e ≡ true → e < n
 unfolding isRead
 read-lt n e l r =

@@ -298,6 +298,7 @@ module _ (t s : ℕ) (ht : t < 128) (hs : s < 2) (dd : ℕ → List ℕ) (d : Li
       (λ m. by-order (b .0) x (λ l. absurd (omega arith)) (λ l. by-order x (b .0) (λ n. absurd (omega arith)) (λ n. omega arith)))
       (b .2)
 
+  -- what is delivered of a sector is what was written
   pub burst-same : (x : ℕ) → x < 9 → (j q : ℕ) → sectorOf (writtenSide t s dd) t s (x + 1) ≡ Delivered (j + 64) → sectorOf d t s (x + 1) ≡ Delivered q
       → (q ≡ j + 64) × SameField (writtenSide t s dd) d j
   burst-same x hx j q ec ed =
@@ -322,6 +323,7 @@ side-burst : (t s : ℕ) → t < 128 → s < 2 → (dd : ℕ → List ℕ) (c d 
     → (x : ℕ) → x < 9 → (j q : ℕ) → sectorOf c t s (x + 1) ≡ Delivered (j + 64) → sectorOf d t s (x + 1) ≡ Delivered q → (q ≡ j + 64) × SameField c d j
 side-burst t s ht hs dd c d e bd g x hx j q ec ed = rw e (burst-same t s ht hs dd d bd (rw e at g) x hx j q (rw e at ec) ed)
 
+-- images with a burst on each side have the same bytes where both deliver them
 pub bursts-bytes : (image hfe g : List ℕ) → length image ≡ imageBytes → length hfe ≡ hfeBytes → ImageBurst (packHfe image hfe) g
     → (m j q : ℕ) → m < allSectors → sectorAt (packHfe image hfe) m ≡ Delivered (j + 64) → sectorAt g m ≡ Delivered q
     → sectorBytesAt (packHfe image hfe) m ≡ sectorBytesAt g m

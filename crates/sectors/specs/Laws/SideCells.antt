@@ -25,6 +25,7 @@ module _ (t s : ℕ) (dd : ℕ → List ℕ) where
   unfolding writtenSide
   side-cells = written-bit (sideItem t s dd) sideItems
 
+  -- a side has 100,000 cells
   pub side-long : length (writtenSide t s dd) ≡ 100000
   unfolding writtenSide
   side-long = written-length (sideItem t s dd) sideItems

@@ -57,6 +57,7 @@ module _ (c d : List ℕ) (bc : Binary c) (bd : Binary d) (g : SideDamage c d) (
       true≢false (threeSync (from c (i + headerCells + y .0))) on
       (away j (i + headerCells + y .0) run (field-no-header c j (j + 64) fc) (omega arith) (omega (arith, y .1)))))
 
+  -- what is delivered of a sector is what was recorded
   pub side-same : (t s r j q : ℕ) → sectorOf c t s r ≡ Delivered (j + 64) → sectorOf d t s r ≡ Delivered q → (q ≡ j + 64) × SameField c d j
   side-same t s r j q ec ed =
       let x = sector-told c t s r (j + 64) ec in
@@ -111,6 +112,7 @@ module _ (image hfe : List ℕ) (li : length image ≡ imageBytes) (lh : length 
   packed-apart : (t s : ℕ) → t < 80 → s < 2 → RunsApart (sideStream (packHfe image hfe) t s)
   packed-apart t s ht hs = rw (packed-side t s ht hs) (written-apart t s (omega arith) (omega arith) (sectorData image t s))
 
+-- images whose sides are damaged have the same bytes where both deliver them
 pub sides-bytes : (image hfe g : List ℕ) → length image ≡ imageBytes → length hfe ≡ hfeBytes → ImageSideDamage (packHfe image hfe) g
     → (m j q : ℕ) → m < allSectors → sectorAt (packHfe image hfe) m ≡ Delivered (j + 64) → sectorAt g m ≡ Delivered q
     → sectorBytesAt (packHfe image hfe) m ≡ sectorBytesAt g m

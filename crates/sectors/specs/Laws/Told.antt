@@ -44,12 +44,15 @@ module _ (c : List ℕ) (j p : ℕ) (e : fieldAt c j ≡ Delivered p) where
   unfolding fieldAt
   field-told = told (leb fieldCells (length (from c j)) && eqb (dataByte (from c j) 48) dataMark) (crcHolds (from c j) 516) (j + 64) p e
 
+  -- where its bytes begin
   pub field-place : j + 64 ≡ p
   field-place = field-told .2
 
+  -- its mark
   pub field-mark : dataByte (from c j) 48 ≡ dataMark
   field-mark = eqb-true _ _ (and-right (leb fieldCells (length (from c j))) _ (field-told .0))
 
+  -- its CRC
   pub field-holds : crcHolds (from c j) 516 ≡ true
   field-holds = field-told .1
 
@@ -63,6 +66,7 @@ module _ (c : List ℕ) (t s r i : ℕ) where
       (λ u. (u, ap (belongs t s r) (sym (cond-true (Is (idOf (from c i))) Absent u)) ∙ e))
       (λ u. absurd (false≢true (ap (belongs t s r) (sym (cond-false (Is (idOf (from c i))) Absent u)) ∙ e)))
 
+  -- and so it is a header of the sector
   pub header-join : isHeader (from c i) ≡ true → belongs t s r (Is (idOf (from c i))) ≡ true → headerAt c t s r i ≡ true
   unfolding headerAt headerOf
   header-join u e = ap (belongs t s r) (cond-true (Is (idOf (from c i))) Absent u) ∙ e
@@ -75,6 +79,7 @@ module _ (f : List ℕ) (e : isHeader f ≡ true) where
       (and-left (leb headerCells (length f) && threeSync f) (eqb (dataByte f 48) headerMark)
       (and-left (leb headerCells (length f) && threeSync f && eqb (dataByte f 48) headerMark) (crcHolds f 8) e))
 
+  -- its mark
   pub header-mark : dataByte f 48 ≡ headerMark
   unfolding isHeader
   header-mark =
@@ -82,6 +87,7 @@ module _ (f : List ℕ) (e : isHeader f ≡ true) where
       (and-right (leb headerCells (length f) && threeSync f) (eqb (dataByte f 48) headerMark)
       (and-left (leb headerCells (length f) && threeSync f && eqb (dataByte f 48) headerMark) (crcHolds f 8) e))
 
+  -- its CRC
   pub header-crc : crcHolds f 8 ≡ true
   unfolding isHeader
   header-crc = and-right (leb headerCells (length f) && threeSync f && eqb (dataByte f 48) headerMark) (crcHolds f 8) e
@@ -220,9 +226,11 @@ module _ (h : List ℕ) where
         header l q (At o) f = absurd (not-zero (reply 2 o 0 0) (header-reply h n l q o f) 1 refl)
         header l q Sound f = table l q f (tableFault h) refl
 
+    -- each sector is delivered
     pub each-delivered : (m : ℕ) → m < allSectors → sectorAt h m ≡ Delivered (placeOf (sectorAt h m))
     each-delivered m l = all-good sectors-done m l
 
+    -- and its field begins 64 cells before its bytes
     pub each-place : (m : ℕ) → m < allSectors → (j : ℕ) × (sectorAt h m ≡ Delivered (j + 64))
     unfolding sectorAt
     each-place m l =
