@@ -2,13 +2,13 @@
 // function's. A slice is a pointer and a length.
 ghost use mathlib.Core.Path.{_≡_};
 ghost use lib.ListN.{length};
-ghost use Rattle.sectors.specs.Geometry.{placed};
-ghost use Rattle.sectors.specs.Packed.{packReply, packHfe};
-ghost use Rattle.sectors.specs.Unpacked.{unpackReply, unpackImage};
-ghost use Rattle.files.specs.Calls as Calls;
-ghost use Rattle.files.specs.FirstTrack.{firstTrack};
-use files::FirstTrack;
-use sectors::Reply;
+ghost use Rattle.sector_rules.specs.Geometry.{placed};
+ghost use Rattle.sector_rules.specs.Packed.{packReply, packHfe};
+ghost use Rattle.sector_rules.specs.Unpacked.{unpackReply, unpackImage};
+ghost use Rattle.file_rules.specs.Calls as Calls;
+ghost use Rattle.file_rules.specs.FirstTrack.{firstTrack};
+use file_rules::FirstTrack;
+use sector_rules::Reply;
 
 #[no_mangle]
 pub extern "C" fn dheg_unpack(hfe: &[u8], image: &mut [u8]) -> Reply

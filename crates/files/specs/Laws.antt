@@ -1,7 +1,6 @@
--- Laws of the definitions: what proofs cite. No public contract and no statement outside cites them. Verdict, Loaded, Slots, Sound, Parts,
--- Tally, Marks, Rows, Delivered, Judged, Fresh, Given, Steps and Stored also define what contracts of private functions cite: the tie of a verdict
--- (verdictOf), of a table (Mapped, Located, Marked, Tallied, Named, Gave) or of a part of a call to the definitions.
-pub mod Disk
+-- Laws that only proofs of code need. Verdict, Loaded, Slots, Sound, Parts, Tally, Marks, Rows, Delivered, Judged, Fresh, Given, Steps and Stored also
+-- define what contracts of private functions cite: the tie of a verdict (verdictOf), of a table (Mapped, Located, Marked, Tallied, Named, Gave) or of a part
+-- of a call to the definitions.
 pub mod Blocks
 pub mod Verdict
 pub mod Loops
@@ -13,22 +12,6 @@ pub mod Marks
 pub mod Sound
 pub mod Track
 pub mod Delivered
-pub mod Names
-pub mod Results
-pub mod Whole
-pub mod Inner
-pub mod Invariant
-pub mod Facts
-pub mod Owners
-pub mod Last
-pub mod Remove
-pub mod Add
-pub mod Run
-pub mod Listed
-pub mod Agree
-pub mod Present
-pub mod Left
-pub mod Zero
 pub mod Stored
 pub mod Steps
 pub mod Rows
@@ -37,5 +20,3 @@ pub mod Changed
 pub mod Ends
 pub mod Judged
 pub mod Fresh
-pub mod History
-pub mod Refusals

@@ -1,14 +1,2 @@
--- The definitions, in the order of document 01; then what is promised of them alone; then their laws.
-pub mod Sizes
-pub mod Disk
-pub mod Map
-pub mod Directory
-pub mod Check
-pub mod Written
-pub mod Calls
-pub mod FirstTrack
-pub mod Model
-pub mod Histories
-pub mod History
-pub mod Values
+-- No definitions: those stand in file_rules. Laws that only the proofs of the functions need.
 pub mod Laws

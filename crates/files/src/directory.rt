@@ -7,10 +7,9 @@ ghost use lib.ListN.{length};
 ghost use Rattle.laws.specs.Below.{all};
 ghost use Rattle.laws.specs.Tab.{tab, elementAt};
 ghost use Rattle.laws.specs.Numbers.{at16};
-ghost use Rattle.files.specs.Disk.{diskOf};
-ghost use Rattle.files.specs.Directory.{nameEq, entryOf, nameOf, slotName, held, dirEnd, findName, vacantSlot};
+ghost use Rattle.file_rules.specs.Disk.{diskOf};
+ghost use Rattle.file_rules.specs.Directory.{nameEq, entryOf, nameOf, slotName, held, dirEnd, findName, vacantSlot};
 ghost use Rattle.files.specs.Laws.Slots.{slotPlace, Located};
-use crate::Entry;
 use crate::blocks::byte_place;
 use crate::header::dir_end;
 use crate::map::load_map;
@@ -18,6 +17,7 @@ use crate::parts::file_blocks;
 use crate::sizes::BLOCK_SLOTS;
 use crate::sizes::NAME_MOST;
 use crate::sizes::SLOT_BYTES;
+use file_rules::Entry;
 use sectors::Geometry;
 
 // The directory's blocks in sequence; the number of blocks where there is none.

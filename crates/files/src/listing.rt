@@ -5,9 +5,9 @@ ghost use lib.ListN.{length};
 ghost use Rattle.laws.specs.Count.{count};
 ghost use Rattle.laws.specs.Overlay.{overlay, put};
 ghost use Rattle.laws.specs.Tab.{elementAt};
-ghost use Rattle.files.specs.Disk.{diskOf};
-ghost use Rattle.files.specs.Directory.{held, dirEnd};
-ghost use Rattle.files.specs.Calls as Calls;
+ghost use Rattle.file_rules.specs.Disk.{diskOf};
+ghost use Rattle.file_rules.specs.Directory.{held, dirEnd};
+ghost use Rattle.file_rules.specs.Calls as Calls;
 ghost use Rattle.files.specs.Laws.Slots.{Located};
 ghost use Rattle.files.specs.Laws.Delivered.{slotPart};
 use crate::Verdict;
@@ -17,8 +17,8 @@ use crate::directory::load_dir;
 use crate::directory::slot_place;
 use crate::header::dir_end;
 use crate::sizes::SLOT_BYTES;
+use sector_rules::Reply;
 use sectors::Geometry;
-use sectors::Reply;
 use sectors::refused;
 
 // How many slots below the end are held.

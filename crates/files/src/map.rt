@@ -3,16 +3,16 @@ ghost use mathlib.Core.Path.{_≡_};
 ghost use Prim.Native.Nat.{ℕ, _≤_, _<_};
 ghost use Rattle.laws.specs.Lowest.{lowest};
 ghost use Rattle.laws.specs.Count.{count};
-ghost use Rattle.files.specs.Disk.{diskOf};
-ghost use Rattle.files.specs.Map.{recordAt, isFree, isPart, freeCount};
-ghost use Rattle.files.specs.Check.{recordFault};
+ghost use Rattle.file_rules.specs.Disk.{diskOf};
+ghost use Rattle.file_rules.specs.Map.{recordAt, isFree, isPart, freeCount};
+ghost use Rattle.file_rules.specs.Check.{recordFault};
 ghost use Rattle.files.specs.Laws.Loaded.{recordOf, recordIn, mapRecordIn, Mapped};
-use crate::MapRecord;
-use crate::Record;
 use crate::blocks::block_byte;
 use crate::sizes::MAP_START;
 use crate::sizes::RECORD_BYTES;
-use sectors::BlockNumber;
+use file_rules::MapRecord;
+use file_rules::Record;
+use sector_rules::BlockNumber;
 use sectors::Geometry;
 
 fn wide(x: u8) -> u32

@@ -5,7 +5,7 @@ ghost use lib.Dec.{eqb};
 ghost use lib.ListN.{getD};
 ghost use Rattle.laws.specs.Below.{all};
 ghost use Rattle.laws.specs.Lowest.{lowest};
-ghost use Rattle.files.specs.Map.{isPart, bears};
+ghost use Rattle.file_rules.specs.Map.{isPart, bears};
 ghost use Rattle.files.specs.Laws.Loaded.{recordOf, recordIn};
 ghost use Rattle.files.specs.Laws.Tally as Tally;
 ghost use Rattle.files.specs.Laws.Tally.{Tallied};

@@ -3,10 +3,10 @@ ghost use mathlib.Core.Path.{_≡_};
 ghost use Prim.Native.Nat.{ℕ, _+_, _-_, _%_, _≤_, _<_, _^_};
 ghost use lib.ListN.{length};
 ghost use Rattle.laws.specs.Overlay.{overlay};
-ghost use Rattle.files.specs.Disk.{diskOf};
-ghost use Rattle.files.specs.Map.{fileByte};
-ghost use Rattle.files.specs.Directory.{nameRight, slotEntry, dirEnd};
-ghost use Rattle.files.specs.Calls as Calls;
+ghost use Rattle.file_rules.specs.Disk.{diskOf};
+ghost use Rattle.file_rules.specs.Map.{fileByte};
+ghost use Rattle.file_rules.specs.Directory.{nameRight, slotEntry, dirEnd};
+ghost use Rattle.file_rules.specs.Calls as Calls;
 ghost use Rattle.files.specs.Laws.Delivered.{readSound};
 use crate::Verdict;
 use crate::blocks::byte_place;
@@ -23,8 +23,8 @@ use crate::parts::nth_block;
 use crate::sizes::BLOCK_BYTES;
 use crate::sizes::NAME_MOST;
 use crate::sizes::SLOT_BYTES;
+use sector_rules::Reply;
 use sectors::Geometry;
-use sectors::Reply;
 use sectors::refused;
 
 // Whether a file's name has 1 to 36 bytes.

@@ -2,11 +2,11 @@
 ghost use mathlib.Core.Path.{_≡_};
 ghost use mathlib.Core.Option.{none};
 ghost use lib.ListN.{length};
-ghost use Rattle.sectors.specs.Geometry.{imageBytes};
-ghost use Rattle.files.specs.Disk.{diskOf, imageOf};
-ghost use Rattle.files.specs.Check.{judged};
-ghost use Rattle.files.specs.Calls as Calls;
-ghost use Rattle.files.specs.Calls.{removeAt, removeDisk};
+ghost use Rattle.sector_rules.specs.Geometry.{imageBytes};
+ghost use Rattle.file_rules.specs.Disk.{diskOf, imageOf};
+ghost use Rattle.file_rules.specs.Check.{judged};
+ghost use Rattle.file_rules.specs.Calls as Calls;
+ghost use Rattle.file_rules.specs.Calls.{removeAt, removeDisk};
 ghost use Rattle.files.specs.Laws.Judged.{Gave};
 use crate::Verdict;
 use crate::checking::judge;
@@ -16,8 +16,8 @@ use crate::reading::name_right;
 use crate::steps::free_blocks;
 use crate::steps::settle;
 use crate::steps::zero_slot;
+use sector_rules::Reply;
 use sectors::Geometry;
-use sectors::Reply;
 use sectors::done;
 use sectors::refused;
 

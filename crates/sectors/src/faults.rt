@@ -1,7 +1,7 @@
 // What a judgement finds.
 ghost use mathlib.Core.Path.{_≡_};
-ghost use Rattle.sectors.specs.Faults.{wrongAt, orFault};
-use crate::Fault;
+ghost use Rattle.sector_rules.specs.Faults.{wrongAt, orFault};
+use sector_rules::Fault;
 
 // The fault of a field at offset o that is right or wrong.
 pub fn wrong_at(o: usize, right: bool) -> Fault

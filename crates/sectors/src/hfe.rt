@@ -4,12 +4,12 @@ ghost use mathlib.Core.Bool.{true};
 ghost use Prim.Native.Nat.{_+_, _<_, _≤_, _^_};
 ghost use lib.ListN.{length};
 ghost use Rattle.cells.specs.Stream.{hfeSide};
-ghost use Rattle.sectors.specs.Hfe.{trackPart, flagFault, formatFault, headerFault, entryPlace, trackStart, trackLength, trackBytes, trackGood, tableFault};
-use crate::Fault;
+ghost use Rattle.sector_rules.specs.Hfe.{trackPart, flagFault, formatFault, headerFault, entryPlace, trackStart, trackLength, trackBytes, trackGood, tableFault};
 use crate::Geometry;
 use crate::faults::or_fault;
 use crate::faults::wrong_at;
 use cells::Side;
+use sector_rules::Fault;
 
 // The unit in which table and tracks are placed.
 const UNIT: usize = 512;

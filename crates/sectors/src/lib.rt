@@ -18,59 +18,5 @@ pub use replies::done;
 pub use replies::refused;
 pub use unpacking::unpack;
 
-// A numbered reply: 0 is done, and each place that is not named is 0.
-#[repr(C)]
-pub struct Reply {
-    pub number: usize,
-    pub first: usize,
-    pub second: usize,
-    pub third: usize,
-}
-
-// A block's number, 0 to 479.
-pub struct BlockNumber(pub usize);
-
-// A sector's number in the order of the blocks, 0 to 1439: the running sector number.
-pub struct RunningSector(pub usize);
-
-// A sector's number in the block image, 0 to 1439.
-pub struct ImageSector(pub usize);
-
 // The disk kind.
 pub struct Geometry {}
-
-// What a judgement finds: the lowest place that is at fault, or none.
-pub enum Fault {
-    At(usize),
-    Sound,
-}
-
-// The four bytes of a header that name a sector: track, side, sector and size.
-pub struct Id {
-    pub c: u8,
-    pub h: u8,
-    pub r: u8,
-    pub n: u8,
-}
-
-// What stands at a cell place: a header that names a sector, or none.
-pub enum Header {
-    Is(Id),
-    Absent,
-}
-
-// The answer of the search for a sector: at no cell place, at one, or at two or more.
-pub enum Found {
-    Nothing,
-    One(usize),
-    Several,
-}
-
-// What a single sector gives, judged alone: the cell place of its 512 bytes, or why there are none.
-pub enum Sector {
-    Delivered(usize),
-    Missing,
-    Repeated,
-    Fieldless,
-    Damaged,
-}

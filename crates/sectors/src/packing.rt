@@ -3,13 +3,13 @@ ghost use mathlib.Core.Path.{_≡_};
 ghost use Prim.Native.Nat.{ℕ, _<_};
 ghost use lib.ListN.{length};
 ghost use Rattle.laws.specs.Tab.{tab};
-ghost use Rattle.sectors.specs.Geometry.{imageBytes};
-ghost use Rattle.sectors.specs.Packed.{headerByte, tableByte, trackByte, hfeByte, packReply, packHfe};
+ghost use Rattle.sector_rules.specs.Geometry.{imageBytes};
+ghost use Rattle.sector_rules.specs.Packed.{headerByte, tableByte, trackByte, hfeByte, packReply, packHfe};
 use crate::Geometry;
-use crate::Reply;
 use crate::replies::done;
 use crate::replies::refused;
 use crate::written::side_byte;
+use sector_rules::Reply;
 
 const UNIT: usize = 512;
 

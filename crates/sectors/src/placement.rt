@@ -1,13 +1,13 @@
 // The numbers of the disk kind, each once, and the place of a block's sector in the block image.
 ghost use mathlib.Core.Path.{_≡_};
 ghost use Prim.Native.Nat.{_<_};
-ghost use Rattle.sectors.specs.Geometry.{running, imageSector, runningSector, placed};
-use crate::BlockNumber;
+ghost use Rattle.sector_rules.specs.Geometry.{running, imageSector, runningSector, placed};
 use crate::Geometry;
-use crate::ImageSector;
-use crate::Reply;
-use crate::RunningSector;
 use crate::replies::refused;
+use sector_rules::BlockNumber;
+use sector_rules::ImageSector;
+use sector_rules::Reply;
+use sector_rules::RunningSector;
 
 // The side (0x80 marks side 1) and the place of each running sector of a track.
 pub const SIDE_PLACE: [u8; 18] = [

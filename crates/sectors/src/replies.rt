@@ -1,7 +1,7 @@
 // Numbered replies.
 ghost use mathlib.Core.Path.{_≡_};
-ghost use Rattle.sectors.specs.Replies as Replies;
-use crate::Reply;
+ghost use Rattle.sector_rules.specs.Replies as Replies;
+use sector_rules::Reply;
 
 // Done, with no place named.
 pub fn done() -> Reply

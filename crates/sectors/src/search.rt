@@ -4,14 +4,14 @@ ghost use mathlib.Core.Bool.{cond};
 ghost use Prim.Native.Nat.{ℕ, _+_, _<_, _≤_, _^_};
 ghost use lib.ListN.{length, getD};
 ghost use Rattle.cells.specs.Stream.{stream, from};
-ghost use Rattle.sectors.specs.Search.{crcHolds, headerOf, belongs, findSector, fieldAt, fieldOf, sectorFound};
-ghost use Rattle.sectors.specs.Laws.Search.{moreFound, Indexed, Scanned};
-use crate::Found;
+ghost use Rattle.sector_rules.specs.Search.{crcHolds, headerOf, belongs, findSector, fieldAt, fieldOf, sectorFound};
+ghost use Rattle.sector_rules.specs.Laws.Search.{moreFound, Indexed, Scanned};
 use crate::Geometry;
-use crate::Header;
-use crate::Id;
-use crate::Sector;
 use cells::Side;
+use sector_rules::Found;
+use sector_rules::Header;
+use sector_rules::Id;
+use sector_rules::Sector;
 
 // Cells of a header, from its first sync byte to its CRC.
 const HEADER_CELLS: usize = 160;

@@ -6,8 +6,8 @@ ghost use lib.ListN.{length, getD};
 ghost use Rattle.cells.specs.Stream.{packed};
 ghost use Rattle.cells.specs.Written.{writtenCell, bitBefore};
 ghost use Rattle.laws.specs.Tab.{window};
-ghost use Rattle.sectors.specs.Geometry.{imageBytes};
-ghost use Rattle.sectors.specs.Packed.{fieldCrc, withCrc, headerRow, sectorItem, sectorData, imageSide};
+ghost use Rattle.sector_rules.specs.Geometry.{imageBytes};
+ghost use Rattle.sector_rules.specs.Packed.{fieldCrc, withCrc, headerRow, sectorItem, sectorData, imageSide};
 use crate::Geometry;
 use cells::Item;
 

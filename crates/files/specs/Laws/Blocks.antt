@@ -6,9 +6,9 @@ use Prim.Native.Nat.{ℕ, _≤_, _<_}
 use lib.Dec.{ltb}
 use lib.ListN.{getD}
 use Rattle.laws.specs.Tests.{lt-true, lt-false, cond-true, cond-false, and-true, and-false-left, and-false-right}
-use Rattle.sectors.specs.Geometry.{blocks}
-use Rattle.files.specs.Sizes.{blockBytes}
-use Rattle.files.specs.Disk.{byteOf, diskOf}
+use Rattle.sector_rules.specs.Geometry.{blocks}
+use Rattle.file_rules.specs.Sizes.{blockBytes}
+use Rattle.file_rules.specs.Disk.{byteOf, diskOf}
 
 module _ (l : List ℕ) (b o : ℕ) where
   pub disk-in : b < blocks → o < blockBytes → diskOf l b o ≡ getD l (byteOf b o) 0

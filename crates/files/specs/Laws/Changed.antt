@@ -9,17 +9,17 @@ use lib.Dec.{eqb}
 use lib.ListN.{length}
 use Rattle.laws.specs.Tab.{tab}
 use Rattle.laws.specs.Tests.{eq-true, eq-false, by-equal, cond-true, cond-false, and-true, and-false-left, and-false-right}
-use Rattle.sectors.specs.Geometry.{blocks, imageBytes}
-use Rattle.files.specs.declared.Entry.{Entry}
-use Rattle.files.specs.Calls.{opensBlock, growDir, endAfter, addAt, removeAt}
-use Rattle.files.specs.Directory.{entryByte, dirEnd}
-use Rattle.files.specs.Disk.{Disk, diskOf, imageOf}
-use Rattle.files.specs.Laws.Disk.{image-disk}
+use Rattle.sector_rules.specs.Geometry.{blocks, imageBytes}
+use Rattle.file_rules.specs.declared.Entry.{Entry}
+use Rattle.file_rules.specs.Calls.{opensBlock, growDir, endAfter, addAt, removeAt}
+use Rattle.file_rules.specs.Directory.{entryByte, dirEnd}
+use Rattle.file_rules.specs.Disk.{Disk, diskOf, imageOf}
+use Rattle.file_rules.specs.Laws.Disk.{image-disk}
 use Rattle.files.specs.Laws.Given.{giveLowest, near-lowest, near-slot, near-settled, stored-zeros}
 use Rattle.files.specs.Laws.Steps.{storedRow, stored-row, near-end}
 use Rattle.files.specs.Laws.Stored.{Near, near-step}
-use Rattle.files.specs.Sizes.{slotBytes, blockSlots}
-use Rattle.files.specs.Written.{storedByte, blocksFor, zeros, setSlot, setFree, setEnd, stepUpdate, freeBlocks}
+use Rattle.file_rules.specs.Sizes.{slotBytes, blockSlots}
+use Rattle.file_rules.specs.Written.{storedByte, blocksFor, zeros, setSlot, setFree, setEnd, stepUpdate, freeBlocks}
 
 -- ---- remove
 

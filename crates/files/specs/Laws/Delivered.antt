@@ -17,17 +17,17 @@ use Rattle.laws.specs.Overlay.{overlay, put, overlay-none, overlay-next, overla
 use Rattle.laws.specs.Tab.{tab, tab-length, elementAt}
 use Rattle.laws.specs.Tests.{by-equal, lt-true, lt-false, le-true, le-false, eq-true, eq-false, cond-true, cond-false}
 use Rattle.laws.specs.Truth.{by-test}
-use Rattle.sectors.specs.declared.Reply.{Reply}
-use Rattle.sectors.specs.Replies.{reply, refusal}
-use Rattle.sectors.specs.Geometry.{imageBytes}
+use Rattle.sector_rules.specs.declared.Reply.{Reply}
+use Rattle.sector_rules.specs.Replies.{reply, refusal}
+use Rattle.sector_rules.specs.Geometry.{imageBytes}
 use Rattle.files.specs.declared.Verdict.{Verdict}
 use Rattle.files.specs.declared.Verdict.the-variants.{Passed, Refused}
-use Rattle.files.specs.Sizes.{blockBytes, slotBytes, slotCount}
-use Rattle.files.specs.Disk.{Disk, diskOf}
-use Rattle.files.specs.Map.{partBlock, fileByte}
-use Rattle.files.specs.Directory.{nameRight, slotByte, slotEntry, held, dirEnd, findName}
-use Rattle.files.specs.Check.{judged}
-use Rattle.files.specs.Calls.{Outcome, kept, unless, imageRight, wrongLength, deliver, entries, listDisk, list, dataOf, readDisk, read}
+use Rattle.file_rules.specs.Sizes.{blockBytes, slotBytes, slotCount}
+use Rattle.file_rules.specs.Disk.{Disk, diskOf}
+use Rattle.file_rules.specs.Map.{partBlock, fileByte}
+use Rattle.file_rules.specs.Directory.{nameRight, slotByte, slotEntry, held, dirEnd, findName}
+use Rattle.file_rules.specs.Check.{judged}
+use Rattle.file_rules.specs.Calls.{Outcome, kept, unless, imageRight, wrongLength, deliver, entries, listDisk, list, dataOf, readDisk, read}
 use Rattle.files.specs.Laws.Slots.{Located, slotPlace, slot-row}
 use Rattle.files.specs.Laws.Verdict.{verdictOf, verdict-some, verdict-none}
 

@@ -12,16 +12,16 @@ use Rattle.laws.specs.Numbers.{up}
 use Rattle.laws.specs.Order.{by-order}
 use Rattle.laws.specs.Tests.{orElse, lt-true, cond-true}
 use Rattle.laws.specs.Truth.{and-right}
-use Rattle.sectors.specs.Replies.{reply}
-use Rattle.sectors.specs.declared.Fault.the-variants.{At, Sound}
-use Rattle.sectors.specs.Faults.{faultBelow, refusalAt}
-use Rattle.sectors.specs.Geometry.{blocks}
-use Rattle.files.specs.Sizes.{blockBytes, slotCount}
-use Rattle.files.specs.Disk.{Disk}
-use Rattle.files.specs.Map.{recordAt, within}
-use Rattle.files.specs.Directory.{dirBytes, dirEnd}
+use Rattle.sector_rules.specs.Replies.{reply}
+use Rattle.sector_rules.specs.declared.Fault.the-variants.{At, Sound}
+use Rattle.sector_rules.specs.Faults.{faultBelow, refusalAt}
+use Rattle.sector_rules.specs.Geometry.{blocks}
+use Rattle.file_rules.specs.Sizes.{blockBytes, slotCount}
+use Rattle.file_rules.specs.Disk.{Disk}
+use Rattle.file_rules.specs.Map.{recordAt, within}
+use Rattle.file_rules.specs.Directory.{dirBytes, dirEnd}
 use Rattle.files.specs.Laws.Parts.{once-most}
-use Rattle.files.specs.Check.{partsRight, fileRight, fileFault, refusal8, refusal9, refusal10, refusal11, judged}
+use Rattle.file_rules.specs.Check.{partsRight, fileRight, fileFault, refusal8, refusal9, refusal10, refusal11, judged}
 
 parts-most : (d : Disk) (f n : ℕ) → partsRight d f n ≡ true → n ≤ blocks
 unfolding partsRight

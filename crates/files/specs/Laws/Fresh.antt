@@ -14,21 +14,21 @@ use Rattle.laws.specs.Overlay.{overlay, overlay-length, overlay-in, overlay-bef
 use Rattle.laws.specs.Tab.{tab, elementAt}
 use Rattle.laws.specs.Tests.{by-equal, le-true, le-false, eq-true, eq-false, cond-true, cond-false}
 use Rattle.laws.specs.Words.{highByte}
-use Rattle.sectors.specs.Geometry.{tracks, sectors, blockSectors, turn, trackSectors, allSectors, blocks, imageBytes, sidePlace, backward}
-use Rattle.sectors.specs.Replies.{done, refusal}
-use Rattle.files.specs.declared.Record.{Record}
-use Rattle.files.specs.declared.Record.the-variants.{Free, System, File}
-use Rattle.files.specs.Calls.{freshOwner, formatDisk, imageRight, unwritten, wrongLength, format}
-use Rattle.files.specs.Check.{signature}
-use Rattle.files.specs.Disk.{Disk, diskOf, imageOf}
-use Rattle.files.specs.Laws.Disk.{image-cong, image-disk}
+use Rattle.sector_rules.specs.Geometry.{tracks, sectors, blockSectors, turn, trackSectors, allSectors, blocks, imageBytes, sidePlace, backward}
+use Rattle.sector_rules.specs.Replies.{done, refusal}
+use Rattle.file_rules.specs.declared.Record.{Record}
+use Rattle.file_rules.specs.declared.Record.the-variants.{Free, System, File}
+use Rattle.file_rules.specs.Calls.{freshOwner, formatDisk, imageRight, unwritten, wrongLength, format}
+use Rattle.file_rules.specs.Check.{signature}
+use Rattle.file_rules.specs.Disk.{Disk, diskOf, imageOf}
+use Rattle.file_rules.specs.Laws.Disk.{image-cong, image-disk}
 use Rattle.files.specs.Laws.Given.{near-set}
 use Rattle.files.specs.Laws.Steps.{Packs, overlay-tab, put-row, near-patched}
 use Rattle.files.specs.Laws.Stored.{Near, near-step, patched, patched-row}
-use Rattle.files.specs.Laws.Whole.{with-is}
-use Rattle.files.specs.Map.{encode}
-use Rattle.files.specs.Sizes.{slotBytes, mapStart, recordBytes, titleMost}
-use Rattle.files.specs.Written.{fixedByte, headerByte, diskWith, setRecord}
+use Rattle.file_rules.specs.Laws.Whole.{with-is}
+use Rattle.file_rules.specs.Map.{encode}
+use Rattle.file_rules.specs.Sizes.{slotBytes, mapStart, recordBytes, titleMost}
+use Rattle.file_rules.specs.Written.{fixedByte, headerByte, diskWith, setRecord}
 
 -- ---- the header, field by field
 

@@ -15,16 +15,16 @@ use Rattle.laws.specs.Order.{by-order}
 use Rattle.laws.specs.Search.{lowest-cong}
 use Rattle.laws.specs.Tests.{lt-true, lt-false, true-lt, by-equal, cond-true, cond-false, and-not}
 use Rattle.laws.specs.Truth.{and-left, and-right, by-test}
-use Rattle.sectors.specs.Geometry.{blocks, imageBytes}
-use Rattle.files.specs.declared.Record.{Record}
-use Rattle.files.specs.declared.Record.the-variants.{Free, File}
-use Rattle.files.specs.Disk.{Disk, diskOf, imageOf}
-use Rattle.files.specs.Laws.Disk.{image-disk, image-cong}
+use Rattle.sector_rules.specs.Geometry.{blocks, imageBytes}
+use Rattle.file_rules.specs.declared.Record.{Record}
+use Rattle.file_rules.specs.declared.Record.the-variants.{Free, File}
+use Rattle.file_rules.specs.Disk.{Disk, diskOf, imageOf}
+use Rattle.file_rules.specs.Laws.Disk.{image-disk, image-cong}
 use Rattle.files.specs.Laws.Steps.{near-patched, near-record, near-free, near-update, storedRow}
 use Rattle.files.specs.Laws.Stored.{Near, near-image, near-step, patched}
-use Rattle.files.specs.Map.{encode, recordAt, isFree, bears, isPart, freeAt, partBlock}
-use Rattle.files.specs.Sizes.{slotBytes, blockSlots, mapStart, recordBytes}
-use Rattle.files.specs.Written.{part, zeros, setBlock, setRecord, setSlot, setFree, stepUpdate, giveBlocks, freeBlock, freeBlocks}
+use Rattle.file_rules.specs.Map.{encode, recordAt, isFree, bears, isPart, freeAt, partBlock}
+use Rattle.file_rules.specs.Sizes.{slotBytes, blockSlots, mapStart, recordBytes}
+use Rattle.file_rules.specs.Written.{part, zeros, setBlock, setRecord, setSlot, setFree, stepUpdate, giveBlocks, freeBlock, freeBlocks}
 
 -- ---- the steps, of disks that agree
 

@@ -22,19 +22,19 @@ use Rattle.laws.specs.Search.{lowest-le, lowest-low}
 use Rattle.laws.specs.Tab.{tab, tab-ext, getD-past}
 use Rattle.laws.specs.Tests.{lt-true, lt-false, le-false, true-le, eq-true, eq-false, true-eq, true≢false, cond-true, cond-false, and-true, orElse}
 use Rattle.laws.specs.Truth.{and-left, and-right, by-test}
-use Rattle.sectors.specs.Geometry.{blocks, imageBytes}
-use Rattle.sectors.specs.Replies.{reply, done, refusal}
-use Rattle.sectors.specs.declared.Reply.{Reply}
-use Rattle.files.specs.Calls.{Changed, Written, refused, unwritten, unless, imageRight, wrongLength, opensBlock, needed, addAt, addDisk, add, removeAt, removeDisk, remove, imaged}
-use Rattle.files.specs.Check.{partsRight, entryRight, fileRight, fileFault, newName, refusal8, refusal9, refusal10, refusal11, judged}
-use Rattle.files.specs.Directory.{nameRight, entryFor, slotEntry, held, dirEnd, findName, vacantSlot}
-use Rattle.files.specs.Disk.{Disk, byteOf, diskOf, imageOf}
-use Rattle.files.specs.Laws.Disk.{image-disk}
+use Rattle.sector_rules.specs.Geometry.{blocks, imageBytes}
+use Rattle.sector_rules.specs.Replies.{reply, done, refusal}
+use Rattle.sector_rules.specs.declared.Reply.{Reply}
+use Rattle.file_rules.specs.Calls.{Changed, Written, refused, unwritten, unless, imageRight, wrongLength, opensBlock, needed, addAt, addDisk, add, removeAt, removeDisk, remove, imaged}
+use Rattle.file_rules.specs.Check.{partsRight, entryRight, fileRight, fileFault, newName, refusal8, refusal9, refusal10, refusal11, judged}
+use Rattle.file_rules.specs.Directory.{nameRight, entryFor, slotEntry, held, dirEnd, findName, vacantSlot}
+use Rattle.file_rules.specs.Disk.{Disk, byteOf, diskOf, imageOf}
+use Rattle.file_rules.specs.Laws.Disk.{image-disk}
 use Rattle.files.specs.Laws.Ends.{or-none-left, or-none-right, files-right, end-within}
 use Rattle.files.specs.Laws.Steps.{overlay-tab, put-row}
-use Rattle.files.specs.Map.{decode, recordAt, isPart, within, freeAt, freeCount}
-use Rattle.files.specs.Sizes.{blockBytes, slotBytes, blockSlots, slotCount, nameMost}
-use Rattle.files.specs.Written.{blocksFor}
+use Rattle.file_rules.specs.Map.{decode, recordAt, isPart, within, freeAt, freeCount}
+use Rattle.file_rules.specs.Sizes.{blockBytes, slotBytes, blockSlots, slotCount, nameMost}
+use Rattle.file_rules.specs.Written.{blocksFor}
 
 -- ---- what was passed
 

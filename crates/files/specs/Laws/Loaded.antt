@@ -14,14 +14,14 @@ use Rattle.laws.specs.Count.{count, count-cong, count-yes, count-no}
 use Rattle.laws.specs.Truth.{by-test}
 use Rattle.laws.specs.Tests.{lt-true, lt-false, eq-true, eq-false, true-eq, false-eq, by-equal, cond-true, cond-false, and-true, and-false-left, and-false-right}
 use Rattle.laws.specs.Order.{by-order}
-use Rattle.sectors.specs.Geometry.{blocks}
-use Rattle.sectors.specs.declared.BlockNumber.{BlockNumber}
-use Rattle.files.specs.declared.Record.{Record}
-use Rattle.files.specs.declared.Record.the-variants.{Free, System, File, Other}
-use Rattle.files.specs.declared.MapRecord.{MapRecord}
-use Rattle.files.specs.Disk.{Disk}
-use Rattle.files.specs.Map.{decode, recordAt, isFree, isSystem, isOther, isPart, freeAt, freeCount, partBlock}
-use Rattle.files.specs.Check.{recordFault, mapFault}
+use Rattle.sector_rules.specs.Geometry.{blocks}
+use Rattle.sector_rules.specs.declared.BlockNumber.{BlockNumber}
+use Rattle.file_rules.specs.declared.Record.{Record}
+use Rattle.file_rules.specs.declared.Record.the-variants.{Free, System, File, Other}
+use Rattle.file_rules.specs.declared.MapRecord.{MapRecord}
+use Rattle.file_rules.specs.Disk.{Disk}
+use Rattle.file_rules.specs.Map.{decode, recordAt, isFree, isSystem, isOther, isPart, freeAt, freeCount, partBlock}
+use Rattle.file_rules.specs.Check.{recordFault, mapFault}
 
 -- what a number of 24 bits says
 unfoldable pub recordOf : ℕ → Record

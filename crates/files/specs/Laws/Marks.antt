@@ -14,10 +14,10 @@ use Rattle.laws.specs.Same.{same-eq}
 use Rattle.laws.specs.Tab.{tab, tab-length, tab-in, elementAt}
 use Rattle.laws.specs.Tests.{true-lt, cond-true, cond-false}
 use Rattle.laws.specs.Truth.{by-test, and-left, and-right}
-use Rattle.sectors.specs.Geometry.{imageBytes}
-use Rattle.files.specs.Sizes.{slotCount, nameMost}
-use Rattle.files.specs.Disk.{Disk, diskOf}
-use Rattle.files.specs.Directory.{nameEq, nameOf, entryOf, slotName, held, dirEnd}
+use Rattle.sector_rules.specs.Geometry.{imageBytes}
+use Rattle.file_rules.specs.Sizes.{slotCount, nameMost}
+use Rattle.file_rules.specs.Disk.{Disk, diskOf}
+use Rattle.file_rules.specs.Directory.{nameEq, nameOf, entryOf, slotName, held, dirEnd}
 use Rattle.files.specs.Laws.Slots.{Located, slotPlace, name-row, name-first, row-along}
 use Rattle.files.specs.Laws.Tally.{Tallied, tally-two}
 

@@ -15,10 +15,10 @@ use Rattle.laws.specs.Lowest.{lowest, lowest-some, lowest-none}
 use Rattle.laws.specs.Order.{by-order}
 use Rattle.laws.specs.Tests.{by-equal, lt-true, lt-false, eq-true, eq-false, true-eq, true-lt, false-lt, cond-true, cond-false, and-false-left, and-false-right}
 use Rattle.laws.specs.Truth.{by-test}
-use Rattle.sectors.specs.Geometry.{blocks}
-use Rattle.files.specs.declared.Record.{Record}
-use Rattle.files.specs.declared.Record.the-variants.{Free, System, File, Other}
-use Rattle.files.specs.Map.{isPart, within, bears}
+use Rattle.sector_rules.specs.Geometry.{blocks}
+use Rattle.file_rules.specs.declared.Record.{Record}
+use Rattle.file_rules.specs.declared.Record.the-variants.{Free, System, File, Other}
+use Rattle.file_rules.specs.Map.{isPart, within, bears}
 use Rattle.files.specs.Laws.Loaded.{recordOf, recordIn}
 use Rattle.files.specs.Laws.Loops.{all-cong}
 use Rattle.files.specs.Laws.Tally.{Tallied, tally-one, tally-zero}

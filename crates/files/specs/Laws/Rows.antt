@@ -16,15 +16,15 @@ use Rattle.laws.specs.Overlay.{overlay, put, overlay-none, overlay-more, overla
 use Rattle.laws.specs.Tab.{tab, tab-ext, elementAt, window, window-part}
 use Rattle.laws.specs.Tests.{by-equal, lt-true, lt-false, true-le, cond-true, cond-false}
 use Rattle.laws.specs.Truth.{and-left, and-right}
-use Rattle.sectors.specs.Geometry.{sectorBytes, blocks, imageBytes, running}
-use Rattle.sectors.specs.Laws.Geometry.{image-lt}
-use Rattle.files.specs.Disk.{Disk, byteOf, diskOf, imageOf}
+use Rattle.sector_rules.specs.Geometry.{sectorBytes, blocks, imageBytes, running}
+use Rattle.sector_rules.specs.Laws.Geometry.{image-lt}
+use Rattle.file_rules.specs.Disk.{Disk, byteOf, diskOf, imageOf}
 use Rattle.files.specs.Laws.Blocks.{disk-in, disk-far}
-use Rattle.files.specs.Laws.Disk.{byte-lt}
+use Rattle.file_rules.specs.Laws.Disk.{byte-lt}
 use Rattle.files.specs.Laws.Slots.{byte-along}
 use Rattle.files.specs.Laws.Steps.{storedRow, near-patched}
 use Rattle.files.specs.Laws.Stored.{near-step, set-inside, set-no-block, patched, patched-none, patched-more, patched-row}
-use Rattle.files.specs.Sizes.{blockBytes, slotBytes}
+use Rattle.file_rules.specs.Sizes.{blockBytes, slotBytes}
 
 -- where offset o of block b stands in the image; its end, where there is no such block
 unfoldable pub runPlace : ℕ → ℕ → ℕ

@@ -18,12 +18,12 @@ use Rattle.laws.specs.Search.{take-tab}
 use Rattle.laws.specs.Tab.{tab, tab-length, tab-in, tab-ext, eq-tab, elementAt, getD-past}
 use Rattle.laws.specs.Tests.{by-equal, lt-true, lt-false, cond-true, cond-false, and-false-right}
 use Rattle.laws.specs.Words.{bigEndian, highFirst, high-row}
-use Rattle.sectors.specs.Geometry.{sectorBytes, blocks, imageBytes, running, imageSector}
-use Rattle.files.specs.declared.Entry.{Entry}
-use Rattle.files.specs.Sizes.{slotBytes, blockSlots, slotCount, nameMost}
-use Rattle.files.specs.Disk.{Disk, byteOf, diskOf}
-use Rattle.files.specs.Map.{partBlock}
-use Rattle.files.specs.Directory.{nameEq, entryOf, nameOf, slotByte, slotEntry, slotName, held, dirEnd, findName, vacantSlot}
+use Rattle.sector_rules.specs.Geometry.{sectorBytes, blocks, imageBytes, running, imageSector}
+use Rattle.file_rules.specs.declared.Entry.{Entry}
+use Rattle.file_rules.specs.Sizes.{slotBytes, blockSlots, slotCount, nameMost}
+use Rattle.file_rules.specs.Disk.{Disk, byteOf, diskOf}
+use Rattle.file_rules.specs.Map.{partBlock}
+use Rattle.file_rules.specs.Directory.{nameEq, entryOf, nameOf, slotByte, slotEntry, slotName, held, dirEnd, findName, vacantSlot}
 use Rattle.files.specs.Laws.Blocks.{disk-in, disk-far}
 use Rattle.files.specs.Laws.Loaded.{Mapped, part-mapped}
 use Rattle.files.specs.Laws.Loops.{all-cong}

@@ -19,23 +19,23 @@ use Rattle.laws.specs.Order.{by-order}
 use Rattle.laws.specs.Tests.{by-equal, true-le, lt-true, lt-false, eq-true, eq-false, cond-true, cond-false, and-false-left, and-false-right}
 use Rattle.laws.specs.Tab.{tab-length}
 use Rattle.laws.specs.Truth.{by-test, and-right}
-use Rattle.sectors.specs.declared.Fault.{Fault}
-use Rattle.sectors.specs.declared.Fault.the-variants.{At, Sound}
-use Rattle.sectors.specs.Faults.{faultBelow, refusalAt}
-use Rattle.sectors.specs.Geometry.{blocks, blockSectors, imageBytes}
-use Rattle.sectors.specs.Replies.{reply, refusal, done}
-use Rattle.sectors.specs.declared.Reply.{Reply}
-use Rattle.files.specs.declared.Record.{Record}
-use Rattle.files.specs.declared.Record.the-variants.{Free, System, File, Other}
-use Rattle.files.specs.declared.Entry.{Entry}
+use Rattle.sector_rules.specs.declared.Fault.{Fault}
+use Rattle.sector_rules.specs.declared.Fault.the-variants.{At, Sound}
+use Rattle.sector_rules.specs.Faults.{faultBelow, refusalAt}
+use Rattle.sector_rules.specs.Geometry.{blocks, blockSectors, imageBytes}
+use Rattle.sector_rules.specs.Replies.{reply, refusal, done}
+use Rattle.sector_rules.specs.declared.Reply.{Reply}
+use Rattle.file_rules.specs.declared.Record.{Record}
+use Rattle.file_rules.specs.declared.Record.the-variants.{Free, System, File, Other}
+use Rattle.file_rules.specs.declared.Entry.{Entry}
 use Rattle.files.specs.declared.Verdict.{Verdict}
 use Rattle.files.specs.declared.Verdict.the-variants.{Passed, Refused}
-use Rattle.files.specs.Sizes.{blockBytes, slotBytes, slotCount, nameMost}
-use Rattle.files.specs.Disk.{Disk, diskOf}
-use Rattle.files.specs.Calls.{imageRight, unless, wrongLength, check}
-use Rattle.files.specs.Map.{freeCount, recordAt, bears, isPart, within}
-use Rattle.files.specs.Directory.{nameEq, nameOf, entryOf, slotEntry, slotName, held, dirBytes, dirEnd}
-use Rattle.files.specs.Check.{partsRight, unborne, newName, entryRight, fileRight, fileFault, freeRight, mapFault, refusal8, refusal9, refusal10, refusal11, judged}
+use Rattle.file_rules.specs.Sizes.{blockBytes, slotBytes, slotCount, nameMost}
+use Rattle.file_rules.specs.Disk.{Disk, diskOf}
+use Rattle.file_rules.specs.Calls.{imageRight, unless, wrongLength, check}
+use Rattle.file_rules.specs.Map.{freeCount, recordAt, bears, isPart, within}
+use Rattle.file_rules.specs.Directory.{nameEq, nameOf, entryOf, slotEntry, slotName, held, dirBytes, dirEnd}
+use Rattle.file_rules.specs.Check.{partsRight, unborne, newName, entryRight, fileRight, fileFault, freeRight, mapFault, refusal8, refusal9, refusal10, refusal11, judged}
 use Rattle.files.specs.Laws.Loaded.{recordOf, recordIn, Mapped}
 use Rattle.files.specs.Laws.Parts.{partsIn}
 use Rattle.files.specs.Laws.Loops.{all-cong}

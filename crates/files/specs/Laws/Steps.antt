@@ -16,16 +16,16 @@ use Rattle.laws.specs.Order.{by-order}
 use Rattle.laws.specs.Overlay.{overlay, overlay-cong, put}
 use Rattle.laws.specs.Tab.{tab, tab-length, tab-in, tab-ext, elementAt}
 use Rattle.laws.specs.Tests.{lt-true, lt-false, by-equal, cond-true, cond-false}
-use Rattle.sectors.specs.Geometry.{blockSectors, blocks}
-use Rattle.files.specs.declared.Record.{Record}
-use Rattle.files.specs.declared.Record.the-variants.{Free, System, File, Other}
-use Rattle.files.specs.declared.Entry.{Entry}
-use Rattle.files.specs.Directory.{entryByte}
-use Rattle.files.specs.Disk.{Disk, diskOf, imageOf}
+use Rattle.sector_rules.specs.Geometry.{blockSectors, blocks}
+use Rattle.file_rules.specs.declared.Record.{Record}
+use Rattle.file_rules.specs.declared.Record.the-variants.{Free, System, File, Other}
+use Rattle.file_rules.specs.declared.Entry.{Entry}
+use Rattle.file_rules.specs.Directory.{entryByte}
+use Rattle.file_rules.specs.Disk.{Disk, diskOf, imageOf}
 use Rattle.files.specs.Laws.Stored.{Near, near-step, patched, patched-block}
-use Rattle.files.specs.Map.{recordAt, isFree, freeAt, freeCount}
-use Rattle.files.specs.Sizes.{blockBytes, slotBytes, nameMost, mapStart, recordBytes}
-use Rattle.files.specs.Written.{storedByte, part, zeros, setBlock, setWord, setFree, setEnd, stepUpdate}
+use Rattle.file_rules.specs.Map.{recordAt, isFree, freeAt, freeCount}
+use Rattle.file_rules.specs.Sizes.{blockBytes, slotBytes, nameMost, mapStart, recordBytes}
+use Rattle.file_rules.specs.Written.{storedByte, part, zeros, setBlock, setWord, setFree, setEnd, stepUpdate}
 
 -- the record fits its three bytes
 abbrev pub Packs : Record → Type 0

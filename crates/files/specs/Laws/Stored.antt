@@ -9,10 +9,10 @@ use lib.ListN.{length, getD, set}
 use Rattle.laws.specs.Change.{upd, patch, upd-same, upd-other, upd₂-same, upd₂-other, patch-in, patch-below, patch-above, by-place}
 use Rattle.laws.specs.Tab.{tab, tab-length, tab-in}
 use Rattle.laws.specs.Tests.{lt-true, by-equal, cond-true, and-true}
-use Rattle.sectors.specs.Geometry.{blocks, imageBytes}
-use Rattle.files.specs.Disk.{Disk, byteOf, blockOf, offsetOf, diskOf, imageOf, setByte}
-use Rattle.files.specs.Laws.Disk.{byte-lt, block-byte, offset-byte, image-disk, image-cong, image-set}
-use Rattle.files.specs.Sizes.{blockBytes}
+use Rattle.sector_rules.specs.Geometry.{blocks, imageBytes}
+use Rattle.file_rules.specs.Disk.{Disk, byteOf, blockOf, offsetOf, diskOf, imageOf, setByte}
+use Rattle.file_rules.specs.Laws.Disk.{byte-lt, block-byte, offset-byte, image-disk, image-cong, image-set}
+use Rattle.file_rules.specs.Sizes.{blockBytes}
 
 -- ---- disks that agree inside their blocks
 

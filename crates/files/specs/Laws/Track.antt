@@ -12,18 +12,18 @@ use Rattle.laws.specs.Count.{count, count-yes, count-no}
 use Rattle.laws.specs.Numbers.{at16}
 use Rattle.laws.specs.Tests.{orElse, eq-true, eq-false, cond-true, cond-false}
 use Rattle.laws.specs.Truth.{by-test}
-use Rattle.sectors.specs.declared.Reply.{Reply}
-use Rattle.sectors.specs.Replies.{done}
-use Rattle.sectors.specs.Geometry.{blocks}
-use Rattle.files.specs.declared.FirstTrack.{FirstTrack}
+use Rattle.sector_rules.specs.declared.Reply.{Reply}
+use Rattle.sector_rules.specs.Replies.{done}
+use Rattle.sector_rules.specs.Geometry.{blocks}
+use Rattle.file_rules.specs.declared.FirstTrack.{FirstTrack}
 use Rattle.files.specs.declared.Verdict.{Verdict}
 use Rattle.files.specs.declared.Verdict.the-variants.{Passed, Refused}
-use Rattle.files.specs.Sizes.{trackBytes}
-use Rattle.files.specs.Disk.{Disk, diskOf}
-use Rattle.files.specs.Map.{freeAt, freeCount}
-use Rattle.files.specs.Check.{refusal8, refusal9, refusal11}
-use Rattle.files.specs.Calls.{unless, wrongLength}
-use Rattle.files.specs.FirstTrack.{refusedTrack, counted, firstTrack}
+use Rattle.file_rules.specs.Sizes.{trackBytes}
+use Rattle.file_rules.specs.Disk.{Disk, diskOf}
+use Rattle.file_rules.specs.Map.{freeAt, freeCount}
+use Rattle.file_rules.specs.Check.{refusal8, refusal9, refusal11}
+use Rattle.file_rules.specs.Calls.{unless, wrongLength}
+use Rattle.file_rules.specs.FirstTrack.{refusedTrack, counted, firstTrack}
 use Rattle.files.specs.Laws.Verdict.{verdictOf, verdict-or-some, verdict-or-none, verdict-some, verdict-none}
 
 -- those that pass a test and those that do not are all

@@ -11,17 +11,17 @@ use lib.ListN.{length, getD}
 use Rattle.laws.specs.Same.{same, bytesAre, standsAt}
 use Rattle.laws.specs.Tab.{tab-ext}
 use Rattle.laws.specs.Tests.{orElse, le-true}
-use Rattle.sectors.specs.declared.Fault.{Fault}
-use Rattle.sectors.specs.declared.Fault.the-variants.{At, Sound}
-use Rattle.sectors.specs.declared.Reply.{Reply}
-use Rattle.sectors.specs.Replies.{reply}
-use Rattle.sectors.specs.Faults.{refusalAt}
-use Rattle.sectors.specs.Geometry.{sectorBytes, running, imageSector}
-use Rattle.sectors.specs.Laws.Geometry.{image-first}
+use Rattle.sector_rules.specs.declared.Fault.{Fault}
+use Rattle.sector_rules.specs.declared.Fault.the-variants.{At, Sound}
+use Rattle.sector_rules.specs.declared.Reply.{Reply}
+use Rattle.sector_rules.specs.Replies.{reply}
+use Rattle.sector_rules.specs.Faults.{refusalAt}
+use Rattle.sector_rules.specs.Geometry.{sectorBytes, running, imageSector}
+use Rattle.sector_rules.specs.Laws.Geometry.{image-first}
 use Rattle.files.specs.declared.Verdict.{Verdict}
 use Rattle.files.specs.declared.Verdict.the-variants.{Passed, Refused}
-use Rattle.files.specs.Disk.{Disk, byteOf, diskOf}
-use Rattle.files.specs.Check.{headerFault, refusal8}
+use Rattle.file_rules.specs.Disk.{Disk, byteOf, diskOf}
+use Rattle.file_rules.specs.Check.{headerFault, refusal8}
 use Rattle.files.specs.Laws.Blocks.{disk-in}
 
 -- ---- a verdict

@@ -5,7 +5,7 @@ use Prim.Native.Nat.{_-_}
 use native.Mathlib.Omega.{arith}
 use borrow.Author.Needs.{needs}
 use Rattle.laws.specs.Numbers.{up}
-use Rattle.files.specs.Written.{blocksFor}
+use Rattle.file_rules.specs.Written.{blocksFor}
 use Rattle.files.proofs.adding.blocks_for.Statement.{statement}
 use Rattle.files.proofs.adding.blocks_for.Tie as tie
 

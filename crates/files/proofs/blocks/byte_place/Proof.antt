@@ -3,8 +3,8 @@
 use Prim.Native.Nat.{_-_, _<_}
 use native.Mathlib.Omega.{arith}
 use borrow.Author.Needs.{needs}
-use Rattle.sectors.specs.Laws.Geometry.{image-lt}
-use Rattle.files.specs.Disk.{byteOf}
+use Rattle.sector_rules.specs.Laws.Geometry.{image-lt}
+use Rattle.file_rules.specs.Disk.{byteOf}
 use Rattle.files.proofs.blocks.byte_place.Statement.{statement}
 use Rattle.files.proofs.blocks.byte_place.Tie as tie
 

@@ -5,10 +5,10 @@ use Prim.Native.Nat.{ℕ, _-_}
 use borrow.Author.Needs.{needs}
 use Rattle.laws.specs.Tab.{elementAt}
 use Rattle.files.specs.Laws.Sound.{sizes-name, parts-mapped, entry-sizes-wrong, entry-name-wrong, entry-parts, entry-name}
-use Rattle.files.specs.Disk.{diskOf}
+use Rattle.file_rules.specs.Disk.{diskOf}
 use Rattle.files.specs.Laws.Slots.{entry-row}
-use Rattle.files.specs.Directory.{entryOf}
-use Rattle.files.specs.Check.{partsRight}
+use Rattle.file_rules.specs.Directory.{entryOf}
+use Rattle.file_rules.specs.Check.{partsRight}
 use Rattle.files.proofs.checking.entry_right.Statement.{statement}
 use Rattle.files.proofs.checking.entry_right.Tie as tie
 

@@ -6,10 +6,10 @@ use Prim.Native.Nat.{ℕ, _-_, _≤_, _<_}
 use native.Mathlib.Omega.{arith}
 use borrow.Author.Needs.{needs}
 use borrow.Author.Count.{below-none, below-more}
-use Rattle.files.specs.Disk.{diskOf}
+use Rattle.file_rules.specs.Disk.{diskOf}
 use Rattle.files.specs.Laws.Slots.{located}
 use Rattle.files.specs.Laws.Sound.{fault-here, fault-none}
-use Rattle.files.specs.Check.{fileRight}
+use Rattle.file_rules.specs.Check.{fileRight}
 use Rattle.files.proofs.checking.file_fault.Statement.{statement}
 use Rattle.files.proofs.checking.file_fault.Tie as tie
 

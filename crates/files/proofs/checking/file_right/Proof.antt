@@ -5,10 +5,10 @@ use mathlib.Core.Bool.{_&&_}
 use Prim.Native.Nat.{ℕ, _-_}
 use lib.Dec.{ltb}
 use borrow.Author.Needs.{needs}
-use Rattle.files.specs.Disk.{diskOf}
-use Rattle.files.specs.Directory.{held}
+use Rattle.file_rules.specs.Disk.{diskOf}
+use Rattle.file_rules.specs.Directory.{held}
 use Rattle.files.specs.Laws.Sound.{parts-mapped, unborne-mapped, unmarked-unborne, file-zero, file-listed, file-unlisted}
-use Rattle.files.specs.Check.{partsRight}
+use Rattle.file_rules.specs.Check.{partsRight}
 use Rattle.files.proofs.checking.file_right.Statement.{statement}
 use Rattle.files.proofs.checking.file_right.Tie as tie
 

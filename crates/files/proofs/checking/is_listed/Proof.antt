@@ -5,8 +5,8 @@ use mathlib.Core.Bool.{Bool, _&&_}
 use Prim.Native.Nat.{_-_}
 use borrow.Author.Needs.{needs}
 use Rattle.laws.specs.Tests.{lt-true, lt-false}
-use Rattle.files.specs.Disk.{diskOf}
-use Rattle.files.specs.Directory.{held}
+use Rattle.file_rules.specs.Disk.{diskOf}
+use Rattle.file_rules.specs.Directory.{held}
 use Rattle.files.proofs.checking.is_listed.Statement.{statement}
 use Rattle.files.proofs.checking.is_listed.Tie as tie
 

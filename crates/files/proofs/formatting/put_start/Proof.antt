@@ -2,7 +2,7 @@
 -- Assumes nothing.
 use Prim.Native.Nat.{_-_}
 use borrow.Author.Needs.{needs}
-use Rattle.sectors.specs.Geometry.{sidePlace, backward}
+use Rattle.sector_rules.specs.Geometry.{sidePlace, backward}
 use Rattle.files.specs.Laws.Fresh.{started-is}
 use Rattle.files.proofs.formatting.put_start.Statement.{statement}
 use Rattle.files.proofs.formatting.put_start.Tie as tie

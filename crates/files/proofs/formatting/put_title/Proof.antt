@@ -3,7 +3,7 @@
 use Prim.Native.Nat.{_-_}
 use borrow.Author.Needs.{needs}
 use Rattle.files.specs.Laws.Fresh.{titled-is}
-use Rattle.files.specs.Check.{signature}
+use Rattle.file_rules.specs.Check.{signature}
 use Rattle.files.proofs.formatting.put_title.Statement.{statement}
 use Rattle.files.proofs.formatting.put_title.Tie as tie
 

@@ -5,8 +5,8 @@ use Prim.Native.Nat.{_-_, _≤_}
 use native.Mathlib.Omega.{arith}
 use lib.ListN.{length}
 use borrow.Author.Needs.{needs}
-use Rattle.files.specs.Disk.{diskOf, imageOf}
-use Rattle.files.specs.Calls.{freshOwner}
+use Rattle.file_rules.specs.Disk.{diskOf, imageOf}
+use Rattle.file_rules.specs.Calls.{freshOwner}
 use Rattle.files.specs.Laws.Steps.{Packs}
 use Rattle.files.specs.Laws.Fresh.{mapped, mapped-none, mapped-more, fresh-packs}
 use Rattle.files.proofs.formatting.write_map.Statement.{statement}

@@ -2,7 +2,7 @@
 -- Assumes nothing.
 use native.Mathlib.Omega.{arith}
 use borrow.Author.Needs.{needs}
-use Rattle.files.specs.Directory.{dirBytes}
+use Rattle.file_rules.specs.Directory.{dirBytes}
 use Rattle.files.proofs.header.dir_bytes.Statement.{statement}
 use Rattle.files.proofs.header.dir_bytes.Tie as tie
 

@@ -2,7 +2,7 @@
 -- Assumes nothing.
 use native.Mathlib.Omega.{arith}
 use borrow.Author.Needs.{needs}
-use Rattle.files.specs.Directory.{dirEnd}
+use Rattle.file_rules.specs.Directory.{dirEnd}
 use Rattle.files.proofs.header.dir_end.Statement.{statement}
 use Rattle.files.proofs.header.dir_end.Tie as tie
 

@@ -1,7 +1,7 @@
 -- `length_right` meets its contract.
 -- Assumes nothing.
 use borrow.Author.Needs.{needs}
-use Rattle.files.specs.Check.{lengthRight}
+use Rattle.file_rules.specs.Check.{lengthRight}
 use Rattle.files.proofs.header.length_right.Statement.{statement}
 use Rattle.files.proofs.header.length_right.Tie as tie
 

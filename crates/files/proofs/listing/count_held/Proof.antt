@@ -6,8 +6,8 @@ use Prim.Native.Nat.{_-_, _≤_}
 use native.Mathlib.Omega.{arith}
 use borrow.Author.Needs.{needs}
 use Rattle.laws.specs.Count.{count}
-use Rattle.files.specs.Disk.{diskOf}
-use Rattle.files.specs.Directory.{held}
+use Rattle.file_rules.specs.Disk.{diskOf}
+use Rattle.file_rules.specs.Directory.{held}
 use Rattle.files.specs.Laws.Loops.{counted-yes, counted-no}
 use Rattle.files.proofs.listing.count_held.Statement.{statement}
 use Rattle.files.proofs.listing.count_held.Tie as tie

@@ -6,8 +6,8 @@ use native.Mathlib.Omega.{arith}
 use lib.ListN.{length}
 use borrow.Author.Needs.{needs}
 use Rattle.laws.specs.Overlay.{put}
-use Rattle.files.specs.Disk.{diskOf}
-use Rattle.files.specs.Calls.{entries}
+use Rattle.file_rules.specs.Disk.{diskOf}
+use Rattle.file_rules.specs.Calls.{entries}
 use Rattle.files.specs.Laws.Delivered.{entries-room, next-place, next-put, put-length, entries-none}
 use Rattle.files.proofs.listing.list_slots.Statement.{statement}
 use Rattle.files.proofs.listing.list_slots.Tie as tie

@@ -6,9 +6,9 @@ use native.Mathlib.Omega.{arith}
 use borrow.Author.Needs.{needs}
 use Rattle.laws.specs.Count.{count}
 use Rattle.laws.specs.Overlay.{put}
-use Rattle.files.specs.Disk.{diskOf}
-use Rattle.files.specs.Directory.{held, dirEnd}
-use Rattle.files.specs.Calls.{entries}
+use Rattle.file_rules.specs.Disk.{diskOf}
+use Rattle.file_rules.specs.Directory.{held, dirEnd}
+use Rattle.file_rules.specs.Calls.{entries}
 use Rattle.files.specs.Laws.Delivered.{entries-length, fits-answer, fits-buffer, misses-answer, misses-buffer}
 use Rattle.files.proofs.listing.list_sound.Statement.{statement}
 use Rattle.files.proofs.listing.list_sound.Tie as tie

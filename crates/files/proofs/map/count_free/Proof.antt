@@ -6,8 +6,8 @@ use Prim.Native.Nat.{ℕ, _-_, _≤_}
 use native.Mathlib.Omega.{arith}
 use borrow.Author.Needs.{needs}
 use Rattle.laws.specs.Count.{count}
-use Rattle.files.specs.declared.MapRecord.{MapRecord}
-use Rattle.files.specs.Map.{isFree}
+use Rattle.file_rules.specs.declared.MapRecord.{MapRecord}
+use Rattle.file_rules.specs.Map.{isFree}
 use Rattle.files.specs.Laws.Loaded.{recordIn}
 use Rattle.files.specs.Laws.Loops.{counted-yes, counted-no}
 use Rattle.files.proofs.map.count_free.Statement.{statement}

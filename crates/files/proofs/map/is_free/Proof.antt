@@ -1,7 +1,7 @@
 -- `is_free` meets its contract.
 -- Assumes nothing.
 use borrow.Author.Needs.{needs}
-use Rattle.files.specs.Map.{isFree}
+use Rattle.file_rules.specs.Map.{isFree}
 use Rattle.files.proofs.map.is_free.Statement.{statement}
 use Rattle.files.proofs.map.is_free.Tie as tie
 

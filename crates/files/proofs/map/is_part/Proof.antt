@@ -1,7 +1,7 @@
 -- `is_part` meets its contract.
 -- Assumes nothing.
 use borrow.Author.Needs.{needs}
-use Rattle.files.specs.Map.{isPart}
+use Rattle.file_rules.specs.Map.{isPart}
 use Rattle.files.proofs.map.is_part.Statement.{statement}
 use Rattle.files.proofs.map.is_part.Tie as tie
 

@@ -6,8 +6,8 @@ use native.Mathlib.Omega.{arith}
 use lib.ListN.{length, length-set}
 use borrow.Author.Needs.{needs}
 use borrow.Author.Count.{below-none}
-use Rattle.files.specs.Disk.{diskOf}
-use Rattle.files.specs.Map.{recordAt}
+use Rattle.file_rules.specs.Disk.{diskOf}
+use Rattle.file_rules.specs.Map.{recordAt}
 use Rattle.files.specs.Laws.Loaded.{recordIn, records-more}
 use Rattle.files.proofs.map.load_map.Statement.{statement}
 use Rattle.files.proofs.map.load_map.Tie as tie

@@ -8,8 +8,8 @@ use borrow.Author.Needs.{needs}
 use borrow.Author.Count.{below-none, below-more}
 use Rattle.laws.specs.Below.{all-is}
 use Rattle.laws.specs.Search.{all-false}
-use Rattle.files.specs.Disk.{diskOf}
-use Rattle.files.specs.Directory.{nameEq, held, slotName}
+use Rattle.file_rules.specs.Disk.{diskOf}
+use Rattle.file_rules.specs.Directory.{nameEq, held, slotName}
 use Rattle.files.proofs.names.new_name.Statement.{statement}
 use Rattle.files.proofs.names.new_name.Tie as tie
 

@@ -4,7 +4,7 @@ use mathlib.Core.Path.{_≡_}
 use Prim.Native.Nat.{_-_, _≤_}
 use native.Mathlib.Omega.{arith}
 use borrow.Author.Needs.{needs}
-use Rattle.files.specs.Disk.{diskOf}
+use Rattle.file_rules.specs.Disk.{diskOf}
 use Rattle.files.specs.Laws.Tally.{Tallied, tally-none, tally-more}
 use Rattle.files.specs.Laws.Marks.{slotMark}
 use Rattle.files.proofs.names.tally_names.Statement.{statement}

@@ -6,8 +6,8 @@ use native.Mathlib.Omega.{arith}
 use lib.ListN.{length}
 use borrow.Author.Needs.{needs}
 use Rattle.laws.specs.Overlay.{overlay, overlay-none, overlay-next, overlay-length}
-use Rattle.files.specs.Disk.{diskOf}
-use Rattle.files.specs.Map.{fileByte}
+use Rattle.file_rules.specs.Disk.{diskOf}
+use Rattle.file_rules.specs.Map.{fileByte}
 use Rattle.files.specs.Laws.Loaded.{part-mapped}
 use Rattle.files.specs.Laws.Delivered.{file-run}
 use Rattle.files.proofs.reading.copy_data.Statement.{statement}

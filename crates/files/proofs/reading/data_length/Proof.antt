@@ -6,10 +6,10 @@ use native.Mathlib.Omega.{arith}
 use lib.ListN.{length}
 use borrow.Author.Needs.{needs}
 use Rattle.laws.specs.Tab.{elementAt}
-use Rattle.files.specs.Disk.{diskOf}
+use Rattle.file_rules.specs.Disk.{diskOf}
 use Rattle.files.specs.Laws.Slots.{entry-row}
-use Rattle.files.specs.Directory.{entryOf, slotEntry}
-use Rattle.files.specs.declared.Entry.{Entry}
+use Rattle.file_rules.specs.Directory.{entryOf, slotEntry}
+use Rattle.file_rules.specs.declared.Entry.{Entry}
 use Rattle.files.proofs.reading.data_length.Statement.{statement}
 use Rattle.files.proofs.reading.data_length.Tie as tie
 

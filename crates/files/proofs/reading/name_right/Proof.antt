@@ -2,7 +2,7 @@
 -- Assumes nothing.
 use mathlib.Core.Path.{refl}
 use Prim.Native.Nat.{_-_}
-use Rattle.files.specs.Directory.{nameRight}
+use Rattle.file_rules.specs.Directory.{nameRight}
 use Rattle.files.proofs.reading.name_right.Statement.{statement}
 use Rattle.files.proofs.reading.name_right.Tie as tie
 

@@ -2,7 +2,7 @@
 -- Assumes nothing.
 use Prim.Native.Nat.{_-_}
 use borrow.Author.Needs.{needs}
-use Rattle.files.specs.Map.{bears}
+use Rattle.file_rules.specs.Map.{bears}
 use Rattle.files.proofs.steps.bears_file.Statement.{statement}
 use Rattle.files.proofs.steps.bears_file.Tie as tie
 

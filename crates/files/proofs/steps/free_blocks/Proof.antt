@@ -6,8 +6,8 @@ use native.Mathlib.Omega.{arith}
 use lib.ListN.{length}
 use borrow.Author.Needs.{needs}
 use Rattle.files.specs.Laws.Given.{freed-none, freed-more}
-use Rattle.files.specs.Disk.{diskOf, imageOf}
-use Rattle.files.specs.Written.{freeBlocks}
+use Rattle.file_rules.specs.Disk.{diskOf, imageOf}
+use Rattle.file_rules.specs.Written.{freeBlocks}
 use Rattle.files.proofs.steps.free_blocks.Statement.{statement}
 use Rattle.files.proofs.steps.free_blocks.Tie as tie
 

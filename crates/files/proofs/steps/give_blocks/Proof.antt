@@ -6,10 +6,10 @@ use Prim.Native.Nat.{_-_, _≤_, _<_}
 use native.Mathlib.Omega.{arith}
 use lib.ListN.{length}
 use borrow.Author.Needs.{needs}
-use Rattle.files.specs.Map.{isFree}
-use Rattle.files.specs.declared.MapRecord.{MapRecord}
+use Rattle.file_rules.specs.Map.{isFree}
+use Rattle.file_rules.specs.declared.MapRecord.{MapRecord}
 use Rattle.files.specs.Laws.Given.{Walked, walked-none, walked-asked, walked-given, asked-below}
-use Rattle.files.specs.Disk.{diskOf}
+use Rattle.file_rules.specs.Disk.{diskOf}
 use Rattle.files.specs.Laws.Loaded.{Mapped}
 use Rattle.files.specs.Laws.Steps.{storedRow}
 use Rattle.files.proofs.steps.give_blocks.Statement.{statement}

@@ -8,7 +8,7 @@ use borrow.Author.Needs.{needs}
 use Rattle.files.specs.Laws.Stored.{patched, patched-none}
 use Rattle.files.specs.Laws.Steps.{storedRow, part-written}
 use Rattle.files.specs.Laws.Rows.{sector-next}
-use Rattle.files.specs.Disk.{diskOf, imageOf}
+use Rattle.file_rules.specs.Disk.{diskOf, imageOf}
 use Rattle.files.proofs.steps.put_part.Statement.{statement}
 use Rattle.files.proofs.steps.put_part.Tie as tie
 

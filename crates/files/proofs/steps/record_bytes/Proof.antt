@@ -3,7 +3,7 @@
 use native.Mathlib.Omega.{arith}
 use borrow.Author.Needs.{needs}
 use Rattle.laws.specs.Tab.{tab}
-use Rattle.files.specs.Map.{encode}
+use Rattle.file_rules.specs.Map.{encode}
 use Rattle.files.proofs.steps.record_bytes.Statement.{statement}
 use Rattle.files.proofs.steps.record_bytes.Tie as tie
 

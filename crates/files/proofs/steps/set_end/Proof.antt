@@ -2,7 +2,7 @@
 -- Assumes nothing.
 use borrow.Author.Needs.{needs}
 use Rattle.files.specs.Laws.Steps.{end-written}
-use Rattle.files.specs.Written.{setWord}
+use Rattle.file_rules.specs.Written.{setWord}
 use Rattle.files.proofs.steps.set_end.Statement.{statement}
 use Rattle.files.proofs.steps.set_end.Tie as tie
 

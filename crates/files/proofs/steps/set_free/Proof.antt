@@ -2,7 +2,7 @@
 -- Assumes nothing.
 use Prim.Native.Nat.{_-_}
 use borrow.Author.Needs.{needs}
-use Rattle.files.specs.Written.{setFree, setWord}
+use Rattle.file_rules.specs.Written.{setFree, setWord}
 use Rattle.files.proofs.steps.set_free.Statement.{statement}
 use Rattle.files.proofs.steps.set_free.Tie as tie
 

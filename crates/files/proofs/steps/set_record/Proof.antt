@@ -3,8 +3,8 @@
 use mathlib.Core.Path.{_∙_}
 use borrow.Author.Needs.{needs}
 use Rattle.files.specs.Laws.Stored.{patched-row}
-use Rattle.files.specs.Map.{encode}
-use Rattle.files.specs.Written.{setRecord}
+use Rattle.file_rules.specs.Map.{encode}
+use Rattle.file_rules.specs.Written.{setRecord}
 use Rattle.files.proofs.steps.set_record.Statement.{statement}
 use Rattle.files.proofs.steps.set_record.Tie as tie
 

@@ -1,7 +1,7 @@
 -- `step_update` meets its contract.
 -- Assumes nothing.
 use borrow.Author.Needs.{needs}
-use Rattle.files.specs.Written.{stepUpdate}
+use Rattle.file_rules.specs.Written.{stepUpdate}
 use Rattle.files.proofs.steps.step_update.Statement.{statement}
 use Rattle.files.proofs.steps.step_update.Tie as tie
 

@@ -7,7 +7,7 @@ use lib.ListN.{length, getD}
 use borrow.Author.Needs.{needs}
 use Rattle.files.specs.Laws.Stored.{patched, patched-none}
 use Rattle.files.specs.Laws.Rows.{rows-part}
-use Rattle.files.specs.Disk.{diskOf, imageOf}
+use Rattle.file_rules.specs.Disk.{diskOf, imageOf}
 use Rattle.files.proofs.store.put_bytes.Statement.{statement}
 use Rattle.files.proofs.store.put_bytes.Tie as tie
 

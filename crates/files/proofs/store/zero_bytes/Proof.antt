@@ -7,7 +7,7 @@ use lib.ListN.{length}
 use borrow.Author.Needs.{needs}
 use Rattle.files.specs.Laws.Stored.{patched, patched-none}
 use Rattle.files.specs.Laws.Rows.{rows-next}
-use Rattle.files.specs.Disk.{diskOf, imageOf}
+use Rattle.file_rules.specs.Disk.{diskOf, imageOf}
 use Rattle.files.proofs.store.zero_bytes.Statement.{statement}
 use Rattle.files.proofs.store.zero_bytes.Tie as tie
 

@@ -5,8 +5,8 @@ use native.Mathlib.Omega.{arith}
 use native.Mathlib.Nat.{mod-lt}
 use lib.Dec.{lit<}
 use borrow.Author.Needs.{needs}
-use Rattle.sectors.specs.Geometry.{imageSector, sidePlace}
-use Rattle.sectors.specs.Laws.Geometry.{mark-bound}
+use Rattle.sector_rules.specs.Geometry.{imageSector, sidePlace}
+use Rattle.sector_rules.specs.Laws.Geometry.{mark-bound}
 use Rattle.sectors.proofs.Geometry.place.Statement.{statement}
 use Rattle.sectors.proofs.Geometry.place.Tie as tie
 

@@ -2,7 +2,7 @@
 -- Assumes nothing.
 use native.Mathlib.Omega.{arith}
 use borrow.Author.Needs.{needs}
-use Rattle.sectors.specs.Hfe.{entryPlace}
+use Rattle.sector_rules.specs.Hfe.{entryPlace}
 use Rattle.sectors.proofs.hfe.entry_place.Statement.{statement}
 use Rattle.sectors.proofs.hfe.entry_place.Tie as tie
 

@@ -3,7 +3,7 @@
 use mathlib.Core.Path.{_∙_}
 use native.Mathlib.Nat.{add-zero}
 use borrow.Author.Needs.{needs}
-use Rattle.sectors.specs.Hfe.{flagFault}
+use Rattle.sector_rules.specs.Hfe.{flagFault}
 use Rattle.sectors.proofs.hfe.flag_fault.Statement.{statement}
 use Rattle.sectors.proofs.hfe.flag_fault.Tie as tie
 

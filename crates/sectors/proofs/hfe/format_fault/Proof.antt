@@ -2,7 +2,7 @@
 -- Assumes nothing.
 use mathlib.Core.Path.{_∙_}
 use borrow.Author.Needs.{needs}
-use Rattle.sectors.specs.Hfe.{formatFault}
+use Rattle.sector_rules.specs.Hfe.{formatFault}
 use Rattle.sectors.proofs.hfe.format_fault.Statement.{statement}
 use Rattle.sectors.proofs.hfe.format_fault.Tie as tie
 

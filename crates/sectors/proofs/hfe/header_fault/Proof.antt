@@ -2,7 +2,7 @@
 -- Assumes nothing.
 use mathlib.Core.Path.{_∙_}
 use borrow.Author.Needs.{needs}
-use Rattle.sectors.specs.Hfe.{headerFault, signature}
+use Rattle.sector_rules.specs.Hfe.{headerFault, signature}
 use Rattle.sectors.proofs.hfe.header_fault.Statement.{statement}
 use Rattle.sectors.proofs.hfe.header_fault.Tie as tie
 

@@ -6,8 +6,8 @@ use Prim.Native.Nat.{ℕ, _<_, _≤_, _-_}
 use native.Mathlib.Omega.{arith}
 use borrow.Author.Needs.{needs}
 use borrow.Author.Count.{below-more}
-use Rattle.sectors.specs.Hfe.{trackGood, tableFault}
-use Rattle.sectors.specs.Laws.Hfe.{fault-none, fault-some}
+use Rattle.sector_rules.specs.Hfe.{trackGood, tableFault}
+use Rattle.sector_rules.specs.Laws.Hfe.{fault-none, fault-some}
 use Rattle.sectors.proofs.hfe.table_fault.Statement.{statement}
 use Rattle.sectors.proofs.hfe.table_fault.Tie as tie
 

@@ -3,7 +3,7 @@
 use native.Mathlib.Omega.{arith}
 use borrow.Author.Needs.{needs}
 use Rattle.laws.specs.Numbers.{up}
-use Rattle.sectors.specs.Hfe.{trackBytes}
+use Rattle.sector_rules.specs.Hfe.{trackBytes}
 use Rattle.sectors.proofs.hfe.track_bytes.Statement.{statement}
 use Rattle.sectors.proofs.hfe.track_bytes.Tie as tie
 

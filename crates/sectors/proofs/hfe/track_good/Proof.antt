@@ -1,7 +1,7 @@
 -- `track_good` meets its contract.
 -- Assumes nothing.
 use borrow.Author.Needs.{needs}
-use Rattle.sectors.specs.Hfe.{trackGood}
+use Rattle.sector_rules.specs.Hfe.{trackGood}
 use Rattle.sectors.proofs.hfe.track_good.Statement.{statement}
 use Rattle.sectors.proofs.hfe.track_good.Tie as tie
 

@@ -1,7 +1,7 @@
 -- `track_length` meets its contract.
 -- Assumes nothing.
 use borrow.Author.Needs.{needs}
-use Rattle.sectors.specs.Hfe.{trackLength}
+use Rattle.sector_rules.specs.Hfe.{trackLength}
 use Rattle.sectors.proofs.hfe.track_length.Statement.{statement}
 use Rattle.sectors.proofs.hfe.track_length.Tie as tie
 

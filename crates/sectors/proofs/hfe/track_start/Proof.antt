@@ -2,7 +2,7 @@
 -- Assumes nothing.
 use native.Mathlib.Omega.{arith}
 use borrow.Author.Needs.{needs}
-use Rattle.sectors.specs.Hfe.{trackStart}
+use Rattle.sector_rules.specs.Hfe.{trackStart}
 use Rattle.sectors.proofs.hfe.track_start.Statement.{statement}
 use Rattle.sectors.proofs.hfe.track_start.Tie as tie
 

@@ -4,9 +4,9 @@ use mathlib.Core.Path.{sym}
 use native.Mathlib.Omega.{arith}
 use borrow.Author.Needs.{needs}
 use Rattle.laws.specs.Words.{lowByte}
-use Rattle.sectors.specs.Hfe.{signature}
-use Rattle.sectors.specs.Packed.{headerRest}
-use Rattle.sectors.specs.Laws.Packed.{header-in, header-out}
+use Rattle.sector_rules.specs.Hfe.{signature}
+use Rattle.sector_rules.specs.Packed.{headerRest}
+use Rattle.sector_rules.specs.Laws.Packed.{header-in, header-out}
 use Rattle.sectors.proofs.packing.header_byte.Statement.{statement}
 use Rattle.sectors.proofs.packing.header_byte.Tie as tie
 

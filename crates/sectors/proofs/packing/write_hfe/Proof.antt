@@ -6,7 +6,7 @@ use native.Mathlib.Omega.{arith}
 use lib.ListN.{length, length-set}
 use borrow.Author.Needs.{needs}
 use Rattle.laws.specs.Overlay.{overlay, overlay-none, overlay-first, overlay-all}
-use Rattle.sectors.specs.Packed.{hfeByte}
+use Rattle.sector_rules.specs.Packed.{hfeByte}
 use Rattle.sectors.proofs.packing.write_hfe.Statement.{statement}
 use Rattle.sectors.proofs.packing.write_hfe.Tie as tie
 

@@ -8,9 +8,9 @@ use Rattle.cells.specs.Stream.{stream, from}
 use Rattle.cells.specs.Sync.{threeSync}
 use Rattle.cells.specs.Laws.Stream.{rest-length}
 use Rattle.cells.specs.Laws.Sync.{three-past}
-use Rattle.sectors.specs.declared.Sector.the-variants.{Fieldless}
-use Rattle.sectors.specs.Search.{first, fieldAt, fieldOf}
-use Rattle.sectors.specs.Laws.Search.{first-here, first-later, first-none}
+use Rattle.sector_rules.specs.declared.Sector.the-variants.{Fieldless}
+use Rattle.sector_rules.specs.Search.{first, fieldAt, fieldOf}
+use Rattle.sector_rules.specs.Laws.Search.{first-here, first-later, first-none}
 use Rattle.sectors.proofs.search.field_of.Statement.{statement}
 use Rattle.sectors.proofs.search.field_of.Tie as tie
 

@@ -8,9 +8,9 @@ use lib.ListN.{length, getD, length-set}
 use borrow.Author.Needs.{needs}
 use Rattle.cells.specs.Laws.Stream.{from-zero}
 use Rattle.cells.specs.Stream.{stream}
-use Rattle.sectors.specs.Laws.Search.{scan-none, scan-all, scan-no, scan-yes}
-use Rattle.sectors.specs.declared.Found.the-variants.{Nothing}
-use Rattle.sectors.specs.Search.{headerAt, placesBelow, foundOf}
+use Rattle.sector_rules.specs.Laws.Search.{scan-none, scan-all, scan-no, scan-yes}
+use Rattle.sector_rules.specs.declared.Found.the-variants.{Nothing}
+use Rattle.sector_rules.specs.Search.{headerAt, placesBelow, foundOf}
 use Rattle.sectors.proofs.search.scan.Statement.{statement}
 use Rattle.sectors.proofs.search.scan.Tie as tie
 

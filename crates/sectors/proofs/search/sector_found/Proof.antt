@@ -2,7 +2,7 @@
 -- Assumes nothing.
 use mathlib.Core.Path.{_∙_}
 use borrow.Author.Needs.{needs}
-use Rattle.sectors.specs.Search.{sectorFound}
+use Rattle.sector_rules.specs.Search.{sectorFound}
 use Rattle.sectors.proofs.search.sector_found.Statement.{statement}
 use Rattle.sectors.proofs.search.sector_found.Tie as tie
 

@@ -5,9 +5,9 @@ use Prim.Native.Nat.{_-_, _*_, _≤_}
 use native.Mathlib.Omega.{arith}
 use lib.ListN.{length}
 use borrow.Author.Needs.{needs}
-use Rattle.sectors.specs.declared.Fault.the-variants.{Sound}
-use Rattle.sectors.specs.Unpacked.{sectorAt}
-use Rattle.sectors.specs.Laws.Unpacked.{Judged, judged-none, side-more, side-stop}
+use Rattle.sector_rules.specs.declared.Fault.the-variants.{Sound}
+use Rattle.sector_rules.specs.Unpacked.{sectorAt}
+use Rattle.sector_rules.specs.Laws.Unpacked.{Judged, judged-none, side-more, side-stop}
 use Rattle.sectors.proofs.unpacking.judge_all.Statement.{statement}
 use Rattle.sectors.proofs.unpacking.judge_all.Tie as tie
 

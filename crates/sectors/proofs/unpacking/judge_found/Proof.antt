@@ -6,11 +6,11 @@ use native.Mathlib.Omega.{arith}
 use lib.ListN.{length, getD, length-set}
 use borrow.Author.Needs.{needs}
 use Rattle.cells.specs.Stream.{stream}
-use Rattle.sectors.specs.Unpacked.{isBad}
-use Rattle.sectors.specs.declared.Found.the-variants.{Nothing}
-use Rattle.sectors.specs.declared.Fault.the-variants.{Sound}
-use Rattle.sectors.specs.Search.{sectorFound}
-use Rattle.sectors.specs.Laws.Unpacked.{Judged, judged-none, judged-more, judged-stop}
+use Rattle.sector_rules.specs.Unpacked.{isBad}
+use Rattle.sector_rules.specs.declared.Found.the-variants.{Nothing}
+use Rattle.sector_rules.specs.declared.Fault.the-variants.{Sound}
+use Rattle.sector_rules.specs.Search.{sectorFound}
+use Rattle.sector_rules.specs.Laws.Unpacked.{Judged, judged-none, judged-more, judged-stop}
 use Rattle.sectors.proofs.unpacking.judge_found.Statement.{statement}
 use Rattle.sectors.proofs.unpacking.judge_found.Tie as tie
 

@@ -7,7 +7,7 @@ use lib.ListN.{length, length-set}
 use borrow.Author.Needs.{needs}
 use Rattle.laws.specs.Overlay.{overlay, overlay-none, overlay-more}
 use Rattle.cells.specs.Stream.{stream}
-use Rattle.sectors.specs.Search.{sectorByte}
+use Rattle.sector_rules.specs.Search.{sectorByte}
 use Rattle.sectors.proofs.unpacking.write_sector.Statement.{statement}
 use Rattle.sectors.proofs.unpacking.write_sector.Tie as tie
 

@@ -1,0 +1,181 @@
+-- Format, check, list, read, add and remove: the reply, and what is left of the lent image or buffer, for any image.
+-- Document 01, "Header, map, directory" and "Numbered replies".
+-- Assumes nothing: these are definitions.
+use mathlib.Core.Bool.{Bool, cond, _&&_}
+use mathlib.Core.List.{List, [], _∷_, _++_}
+use Prim.Native.Nat.{ℕ, zero, suc, _+_, _-_, _*_, _/_, _%_}
+use lib.Dec.{leb, ltb, eqb}
+use lib.ListN.{length}
+use Rattle.laws.specs.Tab.{tab}
+use Rattle.laws.specs.Overlay.{put}
+use Rattle.laws.specs.Firsts.{firsts}
+use Rattle.sector_rules.specs.declared.Reply.{Reply}
+use Rattle.sector_rules.specs.Replies.{reply, done, refusal}
+pub use Rattle.sector_rules.specs.Replies.{wrongLength}
+unfoldable pub use Rattle.sector_rules.specs.Replies.{unless}
+use Rattle.sector_rules.specs.Geometry.{blockSectors, blocks, imageBytes}
+use Rattle.file_rules.specs.declared.Record.{Record}
+use Rattle.file_rules.specs.declared.Record.the-variants.{Free, System, File, Other}
+use Rattle.file_rules.specs.declared.Entry.{Entry}
+use Rattle.file_rules.specs.Sizes.{slotBytes, blockSlots, titleMost}
+use Rattle.file_rules.specs.Disk.{Disk, diskOf, imageOf}
+use Rattle.file_rules.specs.Map.{freeAt, freeCount, fileByte}
+use Rattle.file_rules.specs.Directory.{nameRight, entryByte, entryFor, slotByte, slotEntry, held, dirEnd, findName, vacantSlot}
+use Rattle.file_rules.specs.Check.{judged}
+use Rattle.file_rules.specs.Written.{headerByte, diskWith, storedByte, blocksFor, zeros, setSlot, setFree, setEnd, stepUpdate, giveBlocks, freeBlocks}
+
+-- what a call that reads leaves: its reply and the result buffer
+pub record Outcome : Type 0 where
+  pub answer : Reply
+  pub buffer : List ℕ
+
+-- what a call that writes leaves on a disk, and in an image
+pub record Changed : Type 0 where
+  pub answer : Reply
+  pub disk : Disk
+
+pub record Written : Type 0 where
+  pub answer : Reply
+  pub image : List ℕ
+
+-- a refusal leaves the buffer, the disk or the image as it was
+unfoldable pub kept : List ℕ → Reply → Outcome
+kept buf r = record { answer = r; buffer = buf }
+
+unfoldable pub refused : Disk → Reply → Changed
+refused d r = record { answer = r; disk = d }
+
+unfoldable pub unwritten : List ℕ → Reply → Written
+unwritten image r = record { answer = r; image = image }
+
+-- ---- 1: the block image has another length
+
+-- the block image has 737,280 bytes; else wrongLength
+unfoldable pub imageRight : List ℕ → Bool
+imageRight image = eqb (length image) imageBytes
+
+-- ---- format
+
+-- the records of a fresh disk: block 1 is file 0 sequence 0
+unfoldable pub freshOwner : ℕ → Record
+freshOwner zero = System
+freshOwner (suc zero) = File 0 0
+freshOwner (suc (suc b)) = Free
+
+-- update count 0, free word 3 x (480 - 2), one slot of directory, all else zero
+unfoldable pub formatDisk : List ℕ → ℕ → Disk
+formatDisk title number = diskWith (headerByte title number 0 (blockSectors * (blocks - 2)) 1) freshOwner (λ (r : Record) (o : ℕ). 0)
+
+-- judges 1 and 12 alone
+unfoldable pub format : List ℕ → List ℕ → ℕ → Written
+format image title number =
+    cond (imageRight image)
+    (cond (leb (length title) titleMost) (record { answer = done; image = imageOf (formatDisk title number) }) (unwritten image (refusal 12)))
+    (unwritten image wrongLength)
+
+-- ---- check
+
+-- 1, then 8 to 11
+unfoldable pub check : List ℕ → Reply
+check image = cond (imageRight image) (unless (judged (diskOf image)) (λ (r : Reply). r) done) wrongLength
+
+-- ---- list and read
+
+-- the bytes at the beginning of the buffer if they fit, else 16 with the bytes needed
+unfoldable pub deliver : List ℕ → List ℕ → Outcome
+deliver bytes buf =
+    cond (leb (length bytes) (length buf))
+    (record { answer = reply 0 (length bytes) 0 0; buffer = put buf 0 bytes })
+    (kept buf (reply 16 (length bytes) 0 0))
+
+-- the 64 bytes of each held slot below n, as they stand, in slot order
+unfoldable pub entries : Disk → ℕ → List ℕ
+entries d zero = []
+entries d (suc n) = entries d n ++ cond (held d n) (tab (slotByte d n) slotBytes) []
+
+-- 8 to 11, then 16
+unfoldable pub listDisk : Disk → List ℕ → Outcome
+listDisk d buf = unless (judged d) (kept buf) (deliver (entries d (dirEnd d)) buf)
+
+-- 1 before that
+unfoldable pub list : List ℕ → List ℕ → Outcome
+list image buf = cond (imageRight image) (listDisk (diskOf image) buf) (kept buf wrongLength)
+
+-- the data of file k, without its first 64 bytes
+unfoldable pub dataOf : Disk → ℕ → List ℕ
+dataOf d k = tab (λ (i : ℕ). fileByte d k (slotBytes + i)) (slotEntry d k .length - slotBytes)
+
+-- 8 to 11, then 12, 14, 16
+unfoldable pub readDisk : Disk → List ℕ → List ℕ → Outcome
+readDisk d name buf =
+    unless (judged d) (kept buf)
+    (cond (nameRight name)
+    (cond (ltb (findName d name) (dirEnd d)) (deliver (dataOf d (findName d name)) buf) (kept buf (refusal 14)))
+    (kept buf (refusal 12)))
+
+-- 1 before that
+unfoldable pub read : List ℕ → List ℕ → List ℕ → Outcome
+read image name buf = cond (imageRight image) (readDisk (diskOf image) name buf) (kept buf wrongLength)
+
+-- ---- add
+
+-- whether slot k begins a new block of the directory: it is at the end, and the end falls on one
+unfoldable pub opensBlock : Disk → ℕ → Bool
+opensBlock d k = eqb k (dirEnd d) && eqb (k % blockSlots) 0
+
+-- the new block of the directory is the lowest free one
+unfoldable pub growDir : Disk → ℕ → Disk
+growDir d k = cond (opensBlock d k) (giveBlocks d 0 zeros (k / blockSlots) (firsts blocks 1 (freeAt d))) d
+
+-- the directory grows by a slot where k was its end
+unfoldable pub endAfter : ℕ → ℕ → Disk → Disk
+endAfter k end d = cond (eqb k end) (setEnd d (suc k)) d
+
+-- directory block, then the file's blocks, the lowest free, in sequence; slot, directory length, free word, update count
+unfoldable pub addAt : Disk → ℕ → Entry → List ℕ → Disk
+addAt d k e content =
+    let d₁ : Disk = growDir d k in
+    let d₂ : Disk = giveBlocks d₁ k (storedByte e content) 0 (firsts blocks (blocksFor (length content)) (freeAt d₁)) in
+    stepUpdate (setFree (endAfter k (dirEnd d) (setSlot d₂ k (entryByte e))))
+
+-- blocks that an add into slot k takes
+unfoldable pub needed : Disk → ℕ → List ℕ → ℕ
+needed d k content = cond (opensBlock d k) (suc (blocksFor (length content))) (blocksFor (length content))
+
+-- 8 to 11, then 12, 13 with the slot that has the name, 15
+unfoldable pub addDisk : Disk → List ℕ → ℕ → List ℕ → Changed
+addDisk d name date content =
+    unless (judged d) (refused d)
+    (cond (nameRight name)
+    (cond (ltb (findName d name) (dirEnd d)) (refused d (reply 13 (findName d name) 0 0))
+    (cond (leb (needed d (vacantSlot d) content) (freeCount d))
+    (record { answer = done; disk = addAt d (vacantSlot d) (entryFor name date (length content)) content })
+    (refused d (refusal 15))))
+    (refused d (refusal 12)))
+
+-- the image of what a call left on the disk
+unfoldable pub imaged : Changed → Written
+imaged c = record { answer = c .answer; image = imageOf (c .disk) }
+
+-- 1 before that
+unfoldable pub add : List ℕ → List ℕ → ℕ → List ℕ → Written
+add image name date content = cond (imageRight image) (imaged (addDisk (diskOf image) name date content)) (unwritten image wrongLength)
+
+-- ---- remove
+
+-- the file's blocks are zeroed and freed, its slot zeroed, free word and update count set; the directory keeps its length
+unfoldable pub removeAt : Disk → ℕ → Disk
+removeAt d k = stepUpdate (setFree (setSlot (freeBlocks blocks d k) k zeros))
+
+-- 8 to 11, then 12, 14
+unfoldable pub removeDisk : Disk → List ℕ → Changed
+removeDisk d name =
+    unless (judged d) (refused d)
+    (cond (nameRight name)
+    (cond (ltb (findName d name) (dirEnd d)) (record { answer = done; disk = removeAt d (findName d name) })
+    (refused d (refusal 14)))
+    (refused d (refusal 12)))
+
+-- 1 before that
+unfoldable pub remove : List ℕ → List ℕ → Written
+remove image name = cond (imageRight image) (imaged (removeDisk (diskOf image) name)) (unwritten image wrongLength)

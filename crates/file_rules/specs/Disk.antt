@@ -1,0 +1,40 @@
+-- The disk in block order, and the block image that it is stored in. Document 01, "Place of a block".
+-- Every rule on header, map, directory and files is stated on the disk; only this file places blocks in the image. The header repeats the placement's
+-- numbers and tables as bytes (Check, Written).
+-- Assumes nothing: these are definitions.
+use mathlib.Core.Bool.{cond, _&&_}
+use mathlib.Core.List.{List}
+use Prim.Native.Nat.{ℕ, _+_, _*_, _/_, _%_}
+use lib.Dec.{ltb}
+use lib.ListN.{getD}
+use Rattle.laws.specs.Tab.{tab}
+use Rattle.laws.specs.Change.{upd}
+use Rattle.sector_rules.specs.Geometry.{sectorBytes, blockSectors, blocks, imageBytes, running, imageSector, runningSector}
+use Rattle.file_rules.specs.Sizes.{blockBytes}
+
+-- byte o of block b
+abbrev pub Disk : Type 0
+Disk = ℕ → ℕ → ℕ
+
+-- where byte o of block b stands in the image
+unfoldable pub byteOf : ℕ → ℕ → ℕ
+byteOf b o = imageSector (running b (o / sectorBytes)) * sectorBytes + o % sectorBytes
+
+-- the block that byte i of the image belongs to, and its offset there
+unfoldable pub blockOf : ℕ → ℕ
+blockOf i = runningSector (i / sectorBytes) / blockSectors
+
+unfoldable pub offsetOf : ℕ → ℕ
+offsetOf i = runningSector (i / sectorBytes) % blockSectors * sectorBytes + i % sectorBytes
+
+-- the disk in block order that an image holds; 0 outside the blocks
+unfoldable pub diskOf : List ℕ → Disk
+diskOf image b o = cond (ltb b blocks && ltb o blockBytes) (getD image (byteOf b o) 0) 0
+
+-- the image of a disk in block order
+unfoldable pub imageOf : Disk → List ℕ
+imageOf d = tab (λ (i : ℕ). d (blockOf i) (offsetOf i)) imageBytes
+
+-- one byte written
+unfoldable pub setByte : Disk → ℕ → ℕ → ℕ → Disk
+setByte d b o v = upd d b (upd (d b) o v)

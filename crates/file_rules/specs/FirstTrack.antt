@@ -1,0 +1,35 @@
+-- The judgement of track 0 alone: 1, 8, 9 and 11, and three counts. Document 01, "Values to check", the program.
+-- Assumes nothing: these are definitions.
+use mathlib.Core.Bool.{cond, not}
+use mathlib.Core.List.{List}
+use mathlib.Core.Option.{Option, none, some}
+use Prim.Native.Nat.{ℕ}
+use lib.Dec.{eqb}
+use lib.ListN.{length}
+use Rattle.laws.specs.Tests.{orElse}
+use Rattle.laws.specs.Count.{count}
+use Rattle.laws.specs.Numbers.{at16}
+use Rattle.sector_rules.specs.declared.Reply.{Reply}
+use Rattle.sector_rules.specs.Replies.{done}
+use Rattle.sector_rules.specs.Geometry.{blocks}
+use Rattle.file_rules.specs.declared.FirstTrack.{FirstTrack}
+use Rattle.file_rules.specs.Sizes.{trackBytes}
+use Rattle.file_rules.specs.Disk.{Disk, diskOf}
+use Rattle.file_rules.specs.Map.{freeAt}
+use Rattle.file_rules.specs.Check.{refusal8, refusal9, refusal11}
+use Rattle.file_rules.specs.Calls.{unless, wrongLength}
+
+-- a refusal has no counts
+abbrev pub refusedTrack : Reply → FirstTrack
+refusedTrack r = record { reply = r; free = 0; good = 0; held = 0 }
+
+-- the free word, the good word, and the records that are not free
+unfoldable pub counted : Disk → FirstTrack
+counted d = record { reply = done; free = at16 (d 0) 20; good = at16 (d 0) 22; held = count blocks (λ (b : ℕ). not (freeAt d b)) }
+
+-- block 0 lies on track 0 by the placement, and these judgements read nothing but block 0
+unfoldable pub firstTrack : List ℕ → FirstTrack
+firstTrack track =
+    cond (eqb (length track) trackBytes)
+    (unless (orElse (refusal8 (diskOf track)) (orElse (refusal9 (diskOf track)) (refusal11 (diskOf track)))) refusedTrack (counted (diskOf track)))
+    (refusedTrack wrongLength)

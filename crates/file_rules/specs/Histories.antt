@@ -1,0 +1,115 @@
+-- Histories: a list of calls, each on what the last left, on an image and in the model; and what the calls and their replies alone say.
+-- Document 01, "The book of demand 3".
+-- Assumes nothing: these are definitions.
+use mathlib.Core.Path.{_≡_}
+use mathlib.Core.Logic.{_⊎_}
+use mathlib.Core.Bool.{Bool, cond}
+use mathlib.Core.List.{List, [], _∷_}
+use mathlib.Core.Option.{Option, none, some}
+use Prim.Native.Nat.{ℕ, _+_, max}
+use lib.Dec.{eqb}
+use lib.ListN.{length}
+use Rattle.file_rules.specs.Calls.{Outcome, kept, list, read, add, remove}
+use Rattle.file_rules.specs.Directory.{nameEq}
+use Rattle.file_rules.specs.Model.{NamedFile, Model, modelList, modelRead, modelAdd, modelRemove}
+use Rattle.file_rules.specs.Written.{blocksFor}
+
+-- a call with its arguments; list and read have their result buffer as it is before
+pub data Call : Type 0 where
+  toAdd : NamedFile → Call
+  toRemove : List ℕ → Call
+  toList : List ℕ → Call
+  toRead : List ℕ → List ℕ → Call
+
+-- ---- on an image
+
+-- the reply of one call and the result buffer after it, which add and remove have none of
+unfoldable pub imageOut : List ℕ → Call → Outcome
+imageOut image (toAdd x) = kept [] (add image (x .name) (x .date) (x .content) .answer)
+imageOut image (toRemove name) = kept [] (remove image name .answer)
+imageOut image (toList buf) = list image buf
+imageOut image (toRead name buf) = read image name buf
+
+-- the image after it
+unfoldable pub imageStep : List ℕ → Call → List ℕ
+imageStep image (toAdd x) = add image (x .name) (x .date) (x .content) .image
+imageStep image (toRemove name) = remove image name .image
+imageStep image (toList buf) = image
+imageStep image (toRead name buf) = image
+
+-- all of them in order, each call on what the last left
+unfoldable pub imageOuts : List ℕ → List Call → List Outcome
+imageOuts image [] = []
+imageOuts image (c ∷ cs) = imageOut image c ∷ imageOuts (imageStep image c) cs
+
+-- the image at the end
+unfoldable pub imageEnd : List ℕ → List Call → List ℕ
+imageEnd image [] = image
+imageEnd image (c ∷ cs) = imageEnd (imageStep image c) cs
+
+-- ---- in the model
+
+unfoldable pub modelOut : Model → Call → Outcome
+modelOut m (toAdd x) = record { answer = modelAdd m x .answer; buffer = [] }
+modelOut m (toRemove name) = record { answer = modelRemove m name .answer; buffer = [] }
+modelOut m (toList buf) = modelList m buf
+modelOut m (toRead name buf) = modelRead m name buf
+
+unfoldable pub modelStep : Model → Call → Model
+modelStep m (toAdd x) = modelAdd m x .model
+modelStep m (toRemove name) = modelRemove m name .model
+modelStep m (toList buf) = m
+modelStep m (toRead name buf) = m
+
+unfoldable pub modelOuts : Model → List Call → List Outcome
+modelOuts m [] = []
+modelOuts m (c ∷ cs) = modelOut m c ∷ modelOuts (modelStep m c) cs
+
+unfoldable pub modelEnd : Model → List Call → Model
+modelEnd m [] = m
+modelEnd m (c ∷ cs) = modelEnd (modelStep m c) cs
+
+-- ---- by the calls and their replies alone
+
+-- a reply of 0
+unfoldable pub accepted : Outcome → Bool
+accepted o = eqb (o .answer .number) 0
+
+-- the files without that of a name
+unfoldable pub without : List ℕ → List NamedFile → List NamedFile
+without name [] = []
+without name (x ∷ xs) = cond (nameEq (x .name) name) xs (x ∷ without name xs)
+
+-- the files present after a call: an accepted add brings one, an accepted remove takes one away
+unfoldable pub leftBy : List NamedFile → Call → Outcome → List NamedFile
+leftBy fs (toAdd x) o = cond (accepted o) (x ∷ fs) fs
+leftBy fs (toRemove name) o = cond (accepted o) (without name fs) fs
+leftBy fs (toList buf) o = fs
+leftBy fs (toRead name buf) o = fs
+
+-- the files that the accepted calls leave
+unfoldable pub filesLeft : List NamedFile → List Call → List Outcome → List NamedFile
+filesLeft fs [] os = fs
+filesLeft fs (c ∷ cs) [] = fs
+filesLeft fs (c ∷ cs) (o ∷ os) = filesLeft (leftBy fs c o) cs os
+
+-- the greatest number of files present at once
+unfoldable pub mostPresent : List NamedFile → List Call → List Outcome → ℕ
+mostPresent fs [] os = length fs
+mostPresent fs (c ∷ cs) [] = length fs
+mostPresent fs (c ∷ cs) (o ∷ os) = max (length fs) (mostPresent (leftBy fs c o) cs os)
+
+-- S of demand 3: (64 + length of data) / 1536, rounded up, over these files
+unfoldable pub sizeOf : List NamedFile → ℕ
+sizeOf [] = 0
+sizeOf (x ∷ xs) = sizeOf xs + blocksFor (length (x .content))
+
+-- the file of a name
+unfoldable pub fileNamed : List ℕ → List NamedFile → Option NamedFile
+fileNamed name [] = none
+fileNamed name (x ∷ xs) = cond (nameEq (x .name) name) (some x) (fileNamed name xs)
+
+-- whether a file is one of these
+abbrev pub Present : NamedFile → List NamedFile → Type 0
+Present x [] = ⊥
+Present x (y ∷ ys) = (x ≡ y) ⊎ Present x ys

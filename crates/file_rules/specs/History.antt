@@ -1,0 +1,79 @@
+-- history: demand 3 as one statement, for every format that is accepted, whatever the image held, and every list of calls.
+-- Assumes nothing: these are definitions. The proof is `history` in Laws/History.antt.
+use mathlib.Core.Path.{_≡_}
+use mathlib.Core.Bool.{true, cond}
+use mathlib.Core.List.{List, []}
+use mathlib.Core.Option.{Option, none, some}
+use Prim.Native.Nat.{ℕ, suc, _+_, _*_, _/_, _%_, _≤_, _<_, max}
+use lib.Dec.{leb}
+use lib.ListN.{length}
+use Rattle.laws.specs.Numbers.{at16}
+use Rattle.sector_rules.specs.Geometry.{imageBytes}
+use Rattle.sector_rules.specs.Replies.{done, refusal}
+use Rattle.file_rules.specs.declared.Record.the-variants.{File}
+use Rattle.file_rules.specs.Calls.{Outcome, format, read, add}
+use Rattle.file_rules.specs.Directory.{entryByte, slotByte, held, dirEnd}
+use Rattle.file_rules.specs.Disk.{Disk, diskOf, imageOf}
+use Rattle.file_rules.specs.Histories.{Call, imageOuts, imageEnd, modelOuts, modelEnd, filesLeft, mostPresent, sizeOf, fileNamed, Present}
+use Rattle.file_rules.specs.Map.{recordAt}
+use Rattle.file_rules.specs.Model.{NamedFile, entryFrom, dirBlocks, usable, freeWord, modelDisk, modelFormat, resultOf}
+use Rattle.file_rules.specs.Sizes.{blockBytes, slotBytes, blockSlots, titleMost}
+use Rattle.file_rules.specs.Written.{blocksFor}
+
+-- what a read gives of the file that was found: its data and then the buffer's rest, or 16; where none was found 14, and the buffer as it was
+unfoldable pub dataFound : Option NamedFile → List ℕ → Outcome
+dataFound none buf = record { answer = refusal 14; buffer = buf }
+dataFound (some x) buf = resultOf (x .content) buf
+
+-- slot k has the entry of file x
+abbrev pub HasEntry : Disk → ℕ → NamedFile → Type 0
+HasEntry d k x = (i : ℕ) → i < slotBytes → slotByte d k i ≡ entryByte (entryFrom x) i
+
+-- byte o of block b is in the header or the map, in the directory slot of a present file, or in such a file
+pub data Belongs (d : Disk) (files : List NamedFile) : ℕ → ℕ → Type 0 where
+  inHead : (o : ℕ) → Belongs d files 0 o
+  inSlot : (b o k : ℕ) (x : NamedFile) → Present x files → 0 < k → k < dirEnd d → HasEntry d k x
+      → recordAt d b ≡ File 0 (k / blockSlots) → o / slotBytes ≡ k % blockSlots → Belongs d files b o
+  inFile : (b o k s : ℕ) (x : NamedFile) → Present x files → 0 < k → k < dirEnd d → HasEntry d k x
+      → recordAt d b ≡ File k s → o < blockBytes → s * blockBytes + o < slotBytes + length (x .content) → Belongs d files b o
+
+-- `image` is the image at the end, `outs` the replies and result buffers in order, `files` those that the accepted calls leave,
+-- `most` the greatest number of them present at once
+pub record Holds (title : List ℕ) (number : ℕ) (calls : List Call)
+    (image : List ℕ) (outs : List Outcome) (files : List NamedFile) (most : ℕ) : Type 0 where
+  -- each reply, the whole result buffer after each list and read, and the whole image at the end are the model's
+  pub same-outs : outs ≡ modelOuts (modelFormat title number) calls
+  pub same-image : image ≡ imageOf (modelDisk (modelEnd (modelFormat title number) calls))
+  pub whole : length image ≡ imageBytes
+  -- the files present are those that the accepted calls leave, with their bytes: a read of any name of 1 to 36 bytes gives theirs or 14,
+  -- each has its entry in a slot, and each held slot has the entry of one
+  pub read-gives : (name buf : List ℕ) → 1 ≤ length name → length name ≤ 36 → read image name buf ≡ dataFound (fileNamed name files) buf
+  pub has-slot : (x : NamedFile) → Present x files → (k : ℕ) × (0 < k) × (k < dirEnd (diskOf image)) × HasEntry (diskOf image) k x
+  pub slot-has : (k : ℕ) → k < dirEnd (diskOf image) → held (diskOf image) k ≡ true
+      → (x : NamedFile) × Present x files × HasEntry (diskOf image) k x
+  -- P, which the model counts as its peak, is the greatest number of them present at once
+  pub peak-is : modelEnd (modelFormat title number) calls .peak ≡ most
+  -- the free word is 3 x (479 - D - S), and D + S is at most 479
+  pub free-word : at16 (diskOf image 0) 20 ≡ freeWord most (sizeOf files)
+  pub no-less : dirBlocks most + sizeOf files ≤ usable
+  -- an add with a new name of 1 to 36 bytes is refused, with 15, exactly when with its file counted the word would fall below zero
+  pub add-gives : (x : NamedFile) → 1 ≤ length (x .name) → length (x .name) ≤ 36 → fileNamed (x .name) files ≡ none
+      → add image (x .name) (x .date) (x .content) .answer
+      ≡ cond (leb (dirBlocks (max most (suc (length files))) + (sizeOf files + blocksFor (length (x .content)))) usable) done (refusal 15)
+  -- every byte outside header, map, directory slots of present files and those files is zero
+  pub zero-else : (b o : ℕ) → (Belongs (diskOf image) files b o → ⊥) → diskOf image b o ≡ 0
+
+-- the image after the format
+abbrev pub formatted : List ℕ → List ℕ → ℕ → List ℕ
+formatted old title number = format old title number .image
+
+-- a history: an accepted format of an image that held anything, then the calls, each on the image that the last left
+abbrev pub History : Type 0
+History =
+    (old title : List ℕ) (number : ℕ) (calls : List Call) → length old ≡ imageBytes → length title ≤ titleMost
+    → (format old title number .answer ≡ done)
+    × Holds title number calls
+    (imageEnd (formatted old title number) calls)
+    (imageOuts (formatted old title number) calls)
+    (filesLeft [] calls (imageOuts (formatted old title number) calls))
+    (mostPresent [] calls (imageOuts (formatted old title number) calls))

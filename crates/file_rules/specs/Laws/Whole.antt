@@ -1,0 +1,262 @@
+-- What is read of a disk that is given by its header, records and contents (`diskWith`), and which such disk the single steps leave.
+-- Assumes nothing.
+use mathlib.Core.Path.{_≡_, refl, sym, ap, ap₂, _∙_, subst, fun-ext}
+use mathlib.Core.Logic.{_≢_}
+use mathlib.Core.Bool.{Bool, true, cond}
+use Prim.Native.Nat.{ℕ, zero, suc, _+_, _-_, _*_, _/_, _%_, _≤_, _<_}
+use native.Mathlib.Omega.{arith}
+use lib.Dec.{ltb}
+use Rattle.laws.specs.Change.{upd, patch, upd-same, upd-other, upd₂-same, upd₂-other, patch-in, patch-below, patch-above, by-place}
+use Rattle.laws.specs.Count.{count, count-cong}
+use Rattle.laws.specs.Lowest.{lowest}
+use Rattle.laws.specs.Order.{by-order}
+use Rattle.laws.specs.Search.{lowest-cong}
+use Rattle.laws.specs.Tests.{lt-true, lt-false, eq-false, true≢false, by-equal, cond-true, cond-false, and-true, and-false-left, and-false-right}
+use Rattle.laws.specs.Truth.{by-test}
+use Rattle.sector_rules.specs.Geometry.{blocks}
+use Rattle.file_rules.specs.declared.Record.{Record}
+use Rattle.file_rules.specs.declared.Record.the-variants.{Free, System, File, Other}
+use Rattle.file_rules.specs.Calls.{read}
+use Rattle.file_rules.specs.Disk.{Disk}
+use Rattle.file_rules.specs.Map.{decode, encode, recordAt, isFree, bears, isPart, freeAt, freeCount, partBlock}
+use Rattle.file_rules.specs.Model.{content}
+use Rattle.file_rules.specs.Sizes.{blockBytes, mapStart, recordBytes}
+use Rattle.file_rules.specs.Written.{diskWith, part, zeros, setBlock, setRecord, freeBlock, freeBlocks}
+
+-- ---- a record's three bytes say the record
+
+abbrev pub Valid : Record → Type 0
+Valid Free = Unit {0}
+Valid System = Unit {0}
+Valid (File f s) = (f < 3968) × (s < 4096)
+Valid Other = ⊥
+
+pub decode-encode : (r : Record) → Valid r → decode (encode r 0) (encode r 1) (encode r 2) ≡ r
+unfolding decode encode
+decode-encode Free v = refl
+decode-encode System v = refl
+decode-encode (File f s) v =
+    let a : f / 16 * 16 + (f % 16 * 16 + s / 256) / 16 ≡ f = omega (arith, v .0, v .1) in
+    let b : (f % 16 * 16 + s / 256) % 16 * 256 + s % 256 ≡ s = omega (arith, v .0, v .1) in
+    let c : f / 16 < 248 = omega (arith, v .0) in
+    cond-true _ _ (lt-true c) ∙ ap₂ File a b
+decode-encode Other v = absurd v
+
+-- ---- a disk by its places
+
+pub record With (d : Disk) (h : ℕ → ℕ) (owner : ℕ → Record) (content : Record → ℕ → ℕ) : Type 0 where
+  pub head : (o : ℕ) → o < mapStart → d 0 o ≡ h o
+  pub map : (b i : ℕ) → b < blocks → i < recordBytes → d 0 (mapStart + recordBytes * b + i) ≡ encode (owner b) i
+  pub block : (b o : ℕ) → 0 < b → b < blocks → o < blockBytes → d b o ≡ content (owner b) o
+  pub far : (b o : ℕ) → blocks ≤ b → d b o ≡ 0
+  pub out : (b o : ℕ) → blockBytes ≤ o → d b o ≡ 0
+
+module _ (h : ℕ → ℕ) (owner : ℕ → Record) (content : Record → ℕ → ℕ) where
+  zeroPart : ℕ → ℕ
+  zeroPart o = cond (ltb o mapStart) (h o) (encode (owner ((o - mapStart) / recordBytes)) ((o - mapStart) % recordBytes))
+
+  zero-block : (o : ℕ) → o < blockBytes → diskWith h owner content 0 o ≡ zeroPart o
+  unfolding diskWith zeroPart
+  zero-block o k = cond-true _ _ (and-true {a = ltb 0 blocks} refl (lt-true k))
+
+  pub with-is : With (diskWith h owner content) h owner content
+  unfolding diskWith zeroPart
+  with-is =
+      record {
+        head = λ o k. zero-block o (omega arith) ∙ cond-true _ _ (lt-true k);
+        map = λ b i k l.
+            let q : (mapStart + recordBytes * b + i - mapStart) / recordBytes ≡ b = omega arith in
+            let r : (mapStart + recordBytes * b + i - mapStart) % recordBytes ≡ i = omega arith in
+            zero-block (mapStart + recordBytes * b + i) (omega arith)
+            ∙ cond-false _ _ (lt-false {a = mapStart + recordBytes * b + i} {b = mapStart} (omega arith))
+            ∙ ap₂ (λ (x y : ℕ). encode (owner x) y) q r;
+        block = λ b o j k l. cond-true _ _ (and-true (lt-true k) (lt-true l)) ∙ cond-false _ _ (eq-false {a = b} {b = 0} (omega arith));
+        far = λ b o k. cond-false _ _ (and-false-left _ (lt-false k));
+        out = λ b o k. cond-false _ _ (and-false-right (ltb b blocks) (lt-false k));
+      }
+
+  -- the places determine the disk
+  pub with-only : (d : Disk) → With d h owner content → d ≡ diskWith h owner content
+  with-only d p =
+      fun-ext (λ (b : ℕ). fun-ext (λ (o : ℕ).
+      by-order b blocks
+      (λ (hb : b < blocks). by-order o blockBytes
+      (λ (ho : o < blockBytes). by-equal b 0
+      (λ (z : b ≡ 0). subst (λ (x : ℕ). d x o ≡ diskWith h owner content x o) (sym z)
+      (by-order o mapStart (λ k. p .head o k ∙ sym (with-is .head o k))
+      (λ k.
+      let e : mapStart + recordBytes * ((o - mapStart) / recordBytes) + (o - mapStart) % recordBytes ≡ o = omega arith in
+      subst (λ (x : ℕ). d 0 x ≡ diskWith h owner content 0 x) e
+      (p .map ((o - mapStart) / recordBytes) ((o - mapStart) % recordBytes) (omega arith) (omega arith) ∙ sym (with-is .map ((o - mapStart) / recordBytes) ((o - mapStart) % recordBytes) (omega arith) (omega arith))))))
+      (λ (z : b ≢ 0). p .block b o (omega arith) hb ho ∙ sym (with-is .block b o (omega arith) hb ho)))
+      (λ (k : blockBytes ≤ o). p .out b o k ∙ sym (with-is .out b o k)))
+      (λ (k : blocks ≤ b). p .far b o k ∙ sym (with-is .far b o k))))
+
+-- ---- what is read
+
+module _ (d : Disk) (h : ℕ → ℕ) (owner : ℕ → Record) (content : Record → ℕ → ℕ) (p : With d h owner content) where
+  pub record-is : (b : ℕ) → b < blocks → Valid (owner b) → recordAt d b ≡ owner b
+  unfolding recordAt
+  record-is b k v =
+      let e₀ : d 0 (mapStart + recordBytes * b) ≡ encode (owner b) 0 = subst (λ (x : ℕ). d 0 x ≡ encode (owner b) 0) (omega arith) (p .map b 0 k (omega arith)) in
+      let e₁ : d 0 (mapStart + recordBytes * b + 1) ≡ encode (owner b) 1 = p .map b 1 k (omega arith) in
+      let e₂ : d 0 (mapStart + recordBytes * b + 2) ≡ encode (owner b) 2 = p .map b 2 k (omega arith) in
+      rw (e₀, e₁, e₂) (decode-encode (owner b) v)
+
+  module _ (v : (b : ℕ) → b < blocks → Valid (owner b)) where
+    pub free-is : (b : ℕ) → b < blocks → freeAt d b ≡ isFree (owner b)
+    unfolding freeAt
+    free-is b k = ap isFree (record-is b k (v b k))
+
+    pub freeCount-is : freeCount d ≡ count blocks (λ (b : ℕ). isFree (owner b))
+    unfolding freeCount
+    freeCount-is = count-cong blocks (freeAt d) (λ (b : ℕ). isFree (owner b)) free-is
+
+    pub partBlock-is : (f s : ℕ) → partBlock d f s ≡ lowest (λ (b : ℕ). isPart f s (owner b)) blocks
+    unfolding partBlock
+    partBlock-is f s =
+        lowest-cong (λ (b : ℕ). isPart f s (recordAt d b)) (λ (b : ℕ). isPart f s (owner b)) blocks (λ b k. ap (isPart f s) (record-is b k (v b k)))
+
+-- ---- what the steps leave
+
+module _ (d : Disk) (h : ℕ → ℕ) (owner : ℕ → Record) (content : Record → ℕ → ℕ) (p : With d h owner content) where
+  -- a block is written and given to r
+  pub give-block : (b : ℕ) (r : Record) (g : ℕ → ℕ) → 0 < b → b < blocks → ((o : ℕ) → o < blockBytes → g o ≡ content r o) → ((o : ℕ) → blockBytes ≤ o → g o ≡ 0)
+      → With (setRecord (setBlock d b g) b r) h (upd owner b r) content
+  unfolding setRecord setBlock
+  give-block b r g b₀ b₁ inside outside =
+      let d₁ : Disk = upd d b g in
+      let zero-row : (o : ℕ) → d₁ 0 o ≡ d 0 o = λ o. upd₂-other d b g 0 o (omega arith) in
+      let F : ℕ → ℕ = patch (d₁ 0) (mapStart + recordBytes * b) recordBytes (encode r) in
+      record {
+        head = λ o k.
+            upd₂-same d₁ 0 F 0 o refl ∙ patch-below (d₁ 0) (mapStart + recordBytes * b) recordBytes (encode r) o (omega arith) ∙ zero-row o ∙ p .head o k;
+        map = λ b′ i k l.
+            upd₂-same d₁ 0 F 0 (mapStart + recordBytes * b′ + i) refl
+            ∙ by-equal b′ b
+            (λ e. patch-in (d₁ 0) (mapStart + recordBytes * b) recordBytes (encode r) (mapStart + recordBytes * b′ + i) (omega arith) (omega arith)
+            ∙ ap₂ encode (sym (upd-same owner b r b′ e)) (omega arith))
+            (λ e. by-order b′ b
+            (λ q. patch-below (d₁ 0) (mapStart + recordBytes * b) recordBytes (encode r) (mapStart + recordBytes * b′ + i) (omega arith))
+            (λ q. patch-above (d₁ 0) (mapStart + recordBytes * b) recordBytes (encode r) (mapStart + recordBytes * b′ + i) (omega arith))
+            ∙ zero-row (mapStart + recordBytes * b′ + i) ∙ p .map b′ i k l
+            ∙ ap (λ (x : Record). encode x i) (sym (upd-other owner b r b′ e)));
+        block = λ b′ o j k l.
+            upd₂-other d₁ 0 F b′ o (omega arith)
+            ∙ by-equal b′ b
+            (λ e. upd₂-same d b g b′ o e ∙ inside o l ∙ ap (λ (x : Record). content x o) (sym (upd-same owner b r b′ e)))
+            (λ e. upd₂-other d b g b′ o e ∙ p .block b′ o j k l ∙ ap (λ (x : Record). content x o) (sym (upd-other owner b r b′ e)));
+        far = λ b′ o k. upd₂-other d₁ 0 F b′ o (omega arith) ∙ upd₂-other d b g b′ o (omega arith) ∙ p .far b′ o k;
+        out = λ b′ o k.
+            by-equal b′ 0
+            (λ e. upd₂-same d₁ 0 F b′ o e ∙ patch-above (d₁ 0) (mapStart + recordBytes * b) recordBytes (encode r) o (omega arith) ∙ zero-row o ∙ p .out 0 o k)
+            (λ e. upd₂-other d₁ 0 F b′ o e
+            ∙ by-equal b′ b (λ q. upd₂-same d b g b′ o q ∙ outside o k) (λ q. upd₂-other d b g b′ o q ∙ p .out b′ o k));
+      }
+
+  -- n bytes of the header are written
+  pub write-head : (o n : ℕ) (g : ℕ → ℕ) → o + n ≤ mapStart → With (upd d 0 (patch (d 0) o n g)) (patch h o n g) owner content
+  write-head o n g f =
+      let F : ℕ → ℕ = patch (d 0) o n g in
+      record {
+        head = λ i k.
+            upd₂-same d 0 F 0 i refl
+            ∙ by-place (d 0) o n g i
+            (λ a b. patch-in (d 0) o n g i a b ∙ sym (patch-in h o n g i a b))
+            (λ a. patch-below (d 0) o n g i a ∙ p .head i k ∙ sym (patch-below h o n g i a))
+            (λ a. patch-above (d 0) o n g i a ∙ p .head i k ∙ sym (patch-above h o n g i a));
+        map = λ b i k l. upd₂-same d 0 F 0 (mapStart + recordBytes * b + i) refl ∙ patch-above (d 0) o n g (mapStart + recordBytes * b + i) (omega arith) ∙ p .map b i k l;
+        block = λ b i j k l. upd₂-other d 0 F b i (omega arith) ∙ p .block b i j k l;
+        far = λ b i k. upd₂-other d 0 F b i (omega arith) ∙ p .far b i k;
+        out = λ b i k.
+            by-equal b 0 (λ e. upd₂-same d 0 F b i e ∙ patch-above (d 0) o n g i (omega arith) ∙ p .out 0 i k)
+            (λ e. upd₂-other d 0 F b i e ∙ p .out b i k);
+      }
+
+  -- block b₀ is written, and what the others say stays
+  pub write-block : (content′ : Record → ℕ → ℕ) (b₀ : ℕ) (g : ℕ → ℕ) → 0 < b₀ → b₀ < blocks
+      → ((o : ℕ) → o < blockBytes → g o ≡ content′ (owner b₀) o) → ((o : ℕ) → blockBytes ≤ o → g o ≡ 0)
+      → ((b o : ℕ) → b ≢ b₀ → b < blocks → o < blockBytes → content (owner b) o ≡ content′ (owner b) o)
+      → With (upd d b₀ g) h owner content′
+  write-block content′ b₀ g z l inside outside others =
+      record {
+        head = λ i k. upd₂-other d b₀ g 0 i (omega arith) ∙ p .head i k;
+        map = λ b i k j. upd₂-other d b₀ g 0 (mapStart + recordBytes * b + i) (omega arith) ∙ p .map b i k j;
+        block = λ b i j k q.
+            by-equal b b₀ (λ e. upd₂-same d b₀ g b i e ∙ inside i q ∙ ap (λ (x : ℕ). content′ (owner x) i) (sym e))
+            (λ e. upd₂-other d b₀ g b i e ∙ p .block b i j k q ∙ others b i e k q);
+        far = λ b i k. upd₂-other d b₀ g b i (omega arith) ∙ p .far b i k;
+        out = λ b i k. by-equal b b₀ (λ e. upd₂-same d b₀ g b i e ∙ outside i k) (λ e. upd₂-other d b₀ g b i e ∙ p .out b i k);
+      }
+
+  -- the same disk, said otherwise
+  pub with-same : (h′ : ℕ → ℕ) (owner′ : ℕ → Record) (content′ : Record → ℕ → ℕ)
+      → ((o : ℕ) → o < mapStart → h o ≡ h′ o) → ((b : ℕ) → b < blocks → owner b ≡ owner′ b)
+      → ((b o : ℕ) → 0 < b → b < blocks → o < blockBytes → content (owner b) o ≡ content′ (owner b) o) → With d h′ owner′ content′
+  with-same h′ owner′ content′ eh eo ec =
+      record {
+        head = λ o k. p .head o k ∙ eh o k;
+        map = λ b i k l. p .map b i k l ∙ ap (λ (r : Record). encode r i) (eo b k);
+        block = λ b o j k l. p .block b o j k l ∙ ec b o j k l ∙ ap (λ (r : Record). content′ r o) (eo b k);
+        far = p .far;
+        out = p .out;
+      }
+
+-- file f's record becomes free
+unfoldable pub unowned : ℕ → Record → Record
+unowned f r = cond (bears f r) Free r
+
+-- ---- the blocks of a file are freed
+
+pub part-out : (c : ℕ → ℕ) (s o : ℕ) → blockBytes ≤ o → part c s o ≡ 0
+unfolding part
+part-out c s o h = cond-false _ _ (lt-false h)
+
+pub bears-not-system : (f : ℕ) (r : Record) → bears f r ≡ true → r ≡ System → ⊥
+unfolding bears
+bears-not-system f r t e = true≢false (bears f r) t (ap (bears f) e)
+
+-- so below n
+unfoldable pub unownedBelow : ℕ → ℕ → (ℕ → Record) → ℕ → Record
+unownedBelow n f owner b = cond (ltb b n) (unowned f (owner b)) (owner b)
+
+module _ (h : ℕ → ℕ) (owner : ℕ → Record) (content : Record → ℕ → ℕ) (f : ℕ)
+    (valid : (b : ℕ) → b < blocks → Valid (owner b)) (first : owner 0 ≡ System) (blank : (o : ℕ) → content Free o ≡ 0) where
+  pub free-below : (d : Disk) → With d h owner content → (n : ℕ) → n ≤ blocks → With (freeBlocks n d f) h (unownedBelow n f owner) content
+  unfolding freeBlocks freeBlock unownedBelow unowned zeros
+  free-below d p zero k = with-same d h owner content p h (unownedBelow 0 f owner) content (λ o q. refl) (λ b q. sym (cond-false _ _ (lt-false {a = b} {b = 0} (omega arith)))) (λ b o i j l. refl)
+  free-below d p (suc n) k =
+      let ow : ℕ → Record = unownedBelow n f owner in
+      let ow′ : ℕ → Record = unownedBelow (suc n) f owner in
+      let dn : Disk = freeBlocks n d f in
+      let q : With dn h ow content = free-below d p n (omega arith) in
+      let here : ow n ≡ owner n = cond-false _ _ (lt-false {a = n} {b = n} (omega arith)) in
+      let read : recordAt dn n ≡ owner n = record-is dn h ow content q n (omega arith) (subst Valid (sym here) (valid n (omega arith))) ∙ here in
+      let other : (b : ℕ) → b ≢ n → ow b ≡ ow′ b =
+      λ b e. ap (λ (t : Bool). cond t (unowned f (owner b)) (owner b))
+      (by-order b n (λ a. lt-true a ∙ sym (lt-true {a = b} {b = suc n} (omega arith))) (λ a. lt-false a ∙ sym (lt-false {a = b} {b = suc n} (omega arith)))) in
+      let there : ow′ n ≡ unowned f (owner n) = cond-true _ _ (lt-true {a = n} {b = suc n} (omega arith)) in
+      by-test (bears f (owner n))
+      (λ t.
+      let pos : n ≢ 0 = λ z. bears-not-system f (owner n) t (ap owner z ∙ first) in
+      subst (λ (x : Disk). With x h ow′ content) (sym (cond-true _ _ (ap (bears f) read ∙ t)))
+      (with-same (setRecord (setBlock dn n zeros) n Free) h (upd ow n Free) content
+      (give-block dn h ow content q n Free zeros (omega arith) (omega arith) (λ o l. sym (blank o)) (λ o l. refl))
+      h ow′ content (λ o l. refl)
+      (λ b l. by-equal b n
+      (λ e. upd-same ow n Free b e ∙ sym (ap ow′ e ∙ there ∙ cond-true _ _ t))
+      (λ e. upd-other ow n Free b e ∙ other b e))
+      (λ b o i j l. refl)))
+      (λ t.
+      subst (λ (x : Disk). With x h ow′ content) (sym (cond-false _ _ (ap (bears f) read ∙ t)))
+      (with-same dn h ow content q h ow′ content (λ o l. refl)
+      (λ b l. by-equal b n
+      (λ e. ap ow e ∙ here ∙ sym (cond-false _ _ t) ∙ sym (ap ow′ e ∙ there))
+      (λ e. other b e))
+      (λ b o i j l. refl)))
+
+  pub free-all : (d : Disk) → With d h owner content → With (freeBlocks blocks d f) h (λ (b : ℕ). unowned f (owner b)) content
+  unfolding unownedBelow
+  free-all d p =
+      with-same (freeBlocks blocks d f) h (unownedBelow blocks f owner) content (free-below d p blocks (omega arith)) h (λ (b : ℕ). unowned f (owner b)) content
+      (λ o l. refl) (λ b l. cond-true _ _ (lt-true l)) (λ b o i j l. refl)

@@ -1,0 +1,285 @@
+-- The model: document 01's book ("The book of demand 3"). It is fed with the arguments of the format and of the calls, never with an image.
+-- It shares with the calls the sizes, what an Outcome is, and the layout: header, entry, record and file bytes (headerByte, entryFor, entryByte,
+-- diskWith, storedByte, part), isFree of a record, blocksFor as 01's count of blocks, and equality of names. The decisions are its own.
+-- Assumes nothing: these are definitions.
+use mathlib.Core.Bool.{Bool, false, not, cond, _&&_}
+use mathlib.Core.List.{List, [], _∷_, _++_}
+use mathlib.Core.Option.{Option, none, some}
+use Prim.Native.Nat.{ℕ, zero, suc, _+_, _-_, _*_, _/_, _%_, max}
+use lib.Dec.{leb, ltb, eqb}
+use lib.ListN.{length, drop}
+use Rattle.laws.specs.Change.{upd}
+use Rattle.laws.specs.Count.{count, sum}
+use Rattle.laws.specs.Firsts.{firsts}
+use Rattle.laws.specs.Lowest.{lowest}
+use Rattle.laws.specs.Tab.{tab}
+use Rattle.laws.specs.Tests.{isSome}
+use Rattle.sector_rules.specs.Geometry.{blockSectors, blocks}
+use Rattle.sector_rules.specs.Replies.{reply, done, refusal}
+use Rattle.sector_rules.specs.declared.Reply.{Reply}
+use Rattle.file_rules.specs.declared.Entry.{Entry}
+use Rattle.file_rules.specs.declared.Record.{Record}
+use Rattle.file_rules.specs.declared.Record.the-variants.{Free, System, File, Other}
+use Rattle.file_rules.specs.Calls.{Outcome}
+use Rattle.file_rules.specs.Directory.{nameEq, entryByte, entryFor}
+use Rattle.file_rules.specs.Disk.{Disk}
+use Rattle.file_rules.specs.Map.{isFree}
+use Rattle.file_rules.specs.Sizes.{slotBytes, blockSlots}
+use Rattle.file_rules.specs.Written.{headerByte, diskWith, storedByte, part, blocksFor}
+
+-- ---- slots: 01's lines of the book
+
+-- a file as it is given to add
+pub record NamedFile : Type 0 where
+  pub name : List ℕ
+  pub date : ℕ
+  pub content : List ℕ
+
+-- what a slot holds: a file, or none
+abbrev pub HeldFile : Type 0
+HeldFile = Option NamedFile
+
+-- a filled slot: a file and its blocks, in sequence
+pub record Filled : Type 0 where
+  pub file : NamedFile
+  pub taken : List ℕ
+
+-- the model's state
+pub record Model : Type 0 where
+  -- given at format
+  pub title : List ℕ
+  pub number : ℕ
+  -- accepted adds and removes, wrapping at 32 bits
+  pub updates : ℕ
+  -- P: the greatest number of files present at once
+  pub peak : ℕ
+  -- the slots from 1 up, by their number; slot 0 stays empty
+  pub slots : ℕ → Option Filled
+  -- the directory's blocks, in sequence
+  pub dir : List ℕ
+
+-- a slot's file, and its blocks
+unfoldable pub fileOf : Option Filled → HeldFile
+fileOf none = none
+fileOf (some h) = some (h .file)
+
+unfoldable pub takenBy : Option Filled → List ℕ
+takenBy none = []
+takenBy (some h) = h .taken
+
+-- the entry that add writes for a file
+abbrev pub entryFrom : NamedFile → Entry
+entryFrom x = entryFor (x .name) (x .date) (length (x .content))
+
+-- ---- the sizes of demand 3
+
+-- the blocks of a slot's file: (64 + length of data) / 1536, rounded up
+unfoldable pub heldBlocks : HeldFile → ℕ
+heldBlocks none = 0
+heldBlocks (some x) = blocksFor (length (x .content))
+
+-- how many files are present
+unfoldable pub presentIn : Model → ℕ
+presentIn m = count (suc (m .peak)) (λ (k : ℕ). isSome (fileOf (m .slots k)))
+
+-- S: the blocks of all files present
+unfoldable pub sizeIn : Model → ℕ
+sizeIn m = sum (suc (m .peak)) (λ (k : ℕ). heldBlocks (fileOf (m .slots k)))
+
+-- D: 1 + P / 24, rounded down
+unfoldable pub dirBlocks : ℕ → ℕ
+dirBlocks peak = suc (peak / blockSlots)
+
+-- blocks that the directory and files can have: all but the header's
+abbrev pub usable : ℕ
+usable = blocks - 1
+
+-- the free word: 3 x (479 - D - S)
+unfoldable pub freeWord : ℕ → ℕ → ℕ
+freeWord peak size = blockSectors * (usable - (dirBlocks peak + size))
+
+-- ---- the model's image
+
+-- byte i of a slot, and of its file with the entry in front
+unfoldable pub slotOf : HeldFile → ℕ → ℕ
+slotOf none i = 0
+slotOf (some x) i = entryByte (entryFrom x) i
+
+unfoldable pub bytesOf : HeldFile → ℕ → ℕ
+bytesOf none i = 0
+bytesOf (some x) i = storedByte (entryFrom x) (x .content) i
+
+-- byte o of block s of the directory: entries in their slots
+unfoldable pub dirByte : (ℕ → HeldFile) → ℕ → ℕ → ℕ
+dirByte entries s o = slotOf (entries (s * blockSlots + o / slotBytes)) (o % slotBytes)
+
+-- byte o of a block with this record, where the directory has these entries and the files are these
+unfoldable pub content : (ℕ → HeldFile) → (ℕ → HeldFile) → Record → ℕ → ℕ
+content entries files Free o = 0
+content entries files System o = 0
+content entries files Other o = 0
+content entries files (File zero s) o = dirByte entries s o
+content entries files (File (suc f) s) o = part (bytesOf (files (suc f))) s o
+
+-- where b stands in a list of blocks
+unfoldable pub position : ℕ → ℕ → List ℕ → Option ℕ
+position b i [] = none
+position b i (x ∷ xs) = cond (eqb x b) (some i) (position b (suc i) xs)
+
+-- file k with that sequence, or the other record
+unfoldable pub orRecord : ℕ → Option ℕ → Record → Record
+orRecord k none r = r
+orRecord k (some s) r = File k s
+
+-- the record of block b by the slots below n: the slot that has it, and its place there
+unfoldable pub slotRecord : (ℕ → Option Filled) → ℕ → ℕ → Record
+slotRecord slots zero b = Free
+slotRecord slots (suc k) b = orRecord k (position b 0 (takenBy (slots k))) (slotRecord slots k b)
+
+-- the record of block b: block 0 is system, the directory is file 0
+unfoldable pub recordIn : (ℕ → Option Filled) → List ℕ → ℕ → ℕ → Record
+recordIn slots dir peak b = cond (eqb b 0) System (orRecord 0 (position b 0 dir) (slotRecord slots (suc peak) b))
+
+-- the header, with the free word by demand 3
+unfoldable pub modelHeader : Model → ℕ → ℕ
+modelHeader m = headerByte (m .title) (m .number) (m .updates) (freeWord (m .peak) (sizeIn m)) (suc (m .peak))
+
+-- the formatted disk with map and header, entries in their slots, files in their blocks
+unfoldable pub modelDisk : Model → Disk
+modelDisk m =
+    diskWith (modelHeader m) (recordIn (m .slots) (m .dir) (m .peak))
+    (content (λ (k : ℕ). fileOf (m .slots k)) (λ (k : ℕ). fileOf (m .slots k)))
+
+-- ---- format
+
+-- no file, and block 1 for the directory
+unfoldable pub modelFormat : List ℕ → ℕ → Model
+modelFormat title number = record { title = title; number = number; updates = 0; peak = 0; slots = λ (k : ℕ). none; dir = 1 ∷ [] }
+
+-- ---- names and result buffers
+
+-- whether a name has 1 to 36 bytes; written out, as the model's own rule
+unfoldable pub acceptable : List ℕ → Bool
+acceptable name = leb 1 (length name) && leb (length name) 36
+
+-- the count of the bytes, and the buffer with them first and the rest as it was; or 16 with the count, and the buffer as it was
+unfoldable pub resultOf : List ℕ → List ℕ → Outcome
+resultOf bytes buf =
+    cond (leb (length bytes) (length buf))
+    (record { answer = reply 0 (length bytes) 0 0; buffer = bytes ++ drop (length bytes) buf })
+    (record { answer = reply 16 (length bytes) 0 0; buffer = buf })
+
+-- ---- which slot
+
+-- whether a slot has the file of that name
+unfoldable pub named : List ℕ → HeldFile → Bool
+named name none = false
+named name (some x) = nameEq (x .name) name
+
+-- the slot with the file of that name, or the first past the peak
+unfoldable pub slotNamed : Model → List ℕ → ℕ
+slotNamed m name = lowest (λ (k : ℕ). named name (fileOf (m .slots k))) (suc (m .peak))
+
+-- the lowest empty slot from 1 on
+unfoldable pub slotVacant : Model → ℕ
+slotVacant m = lowest (λ (k : ℕ). ltb 0 k && not (isSome (fileOf (m .slots k)))) (suc (m .peak))
+
+-- ---- list and read
+
+-- the 64 bytes of its entry
+unfoldable pub heldEntry : HeldFile → List ℕ
+heldEntry none = []
+heldEntry (some x) = tab (entryByte (entryFrom x)) slotBytes
+
+-- the entries of the filled slots below n, in order
+unfoldable pub heldEntries : (ℕ → HeldFile) → ℕ → List ℕ
+heldEntries slots zero = []
+heldEntries slots (suc n) = heldEntries slots n ++ heldEntry (slots n)
+
+-- 16 or the entries
+unfoldable pub modelList : Model → List ℕ → Outcome
+modelList m buf = resultOf (heldEntries (λ (k : ℕ). fileOf (m .slots k)) (suc (m .peak))) buf
+
+-- its data
+unfoldable pub heldData : HeldFile → List ℕ
+heldData none = []
+heldData (some x) = x .content
+
+-- 12, 14, 16 or the slot's data
+unfoldable pub modelRead : Model → List ℕ → List ℕ → Outcome
+modelRead m name buf =
+    cond (acceptable name)
+    (cond (ltb (slotNamed m name) (suc (m .peak))) (resultOf (heldData (fileOf (m .slots (slotNamed m name)))) buf)
+    (record { answer = refusal 14; buffer = buf }))
+    (record { answer = refusal 12; buffer = buf })
+
+-- ---- add and remove
+
+-- counts wrap at 32 bits
+unfoldable pub wrap : ℕ → ℕ
+wrap n = n % 4294967296
+
+-- the peak once a file more is present
+unfoldable pub peakThen : Model → ℕ
+peakThen m = max (m .peak) (suc (presentIn m))
+
+-- whether demand 3's word, this file counted, stays at zero or above
+unfoldable pub fits : Model → NamedFile → Bool
+fits m x = leb (dirBlocks (peakThen m) + (sizeIn m + blocksFor (length (x .content)))) usable
+
+-- whether no slot and not the directory has block b
+unfoldable pub freeIn : (ℕ → Option Filled) → List ℕ → ℕ → ℕ → Bool
+freeIn slots dir peak b = isFree (recordIn slots dir peak b)
+
+-- the directory's blocks once a file more is present: a new one is the lowest free
+unfoldable pub dirThen : Model → List ℕ
+dirThen m =
+    cond (ltb (dirBlocks (m .peak)) (dirBlocks (peakThen m)))
+    (m .dir ++ firsts blocks 1 (freeIn (m .slots) (m .dir) (m .peak))) (m .dir)
+
+-- slot k is filled; the file's blocks are the lowest free, in sequence
+unfoldable pub fill : Model → ℕ → NamedFile → Model
+fill m k x =
+    record {
+      title = m .title;
+      number = m .number;
+      updates = wrap (m .updates + 1);
+      peak = peakThen m;
+      slots =
+          upd (m .slots) k
+          (some (record { file = x; taken = firsts blocks (blocksFor (length (x .content))) (freeIn (m .slots) (dirThen m) (m .peak)) }));
+      dir = dirThen m;
+    }
+
+-- slot k is emptied; the directory keeps its blocks
+unfoldable pub clear : Model → ℕ → Model
+clear m k =
+    record {
+      title = m .title;
+      number = m .number;
+      updates = wrap (m .updates + 1);
+      peak = m .peak;
+      slots = upd (m .slots) k none;
+      dir = m .dir;
+    }
+
+-- a reply, and the model after it
+pub record ModelChanged : Type 0 where
+  pub answer : Reply
+  pub model : Model
+
+-- 12, 13 with the slot, 15 or done
+unfoldable pub modelAdd : Model → NamedFile → ModelChanged
+modelAdd m x =
+    cond (acceptable (x .name))
+    (cond (ltb (slotNamed m (x .name)) (suc (m .peak))) (record { answer = reply 13 (slotNamed m (x .name)) 0 0; model = m })
+    (cond (fits m x) (record { answer = done; model = fill m (slotVacant m) x }) (record { answer = refusal 15; model = m })))
+    (record { answer = refusal 12; model = m })
+
+-- 12, 14 or done
+unfoldable pub modelRemove : Model → List ℕ → ModelChanged
+modelRemove m name =
+    cond (acceptable name)
+    (cond (ltb (slotNamed m name) (suc (m .peak))) (record { answer = done; model = clear m (slotNamed m name) })
+    (record { answer = refusal 14; model = m }))
+    (record { answer = refusal 12; model = m })

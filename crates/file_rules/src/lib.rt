@@ -1,0 +1,36 @@
+// The rules of layer 3: the types that its definitions speak of.
+use sector_rules::BlockNumber;
+use sector_rules::Reply;
+
+// What a map record says: its block is free, the system's, a file's with its sequence, or the record is none of these.
+pub enum Record {
+    Free,
+    System,
+    File(u16, u16),
+    Other,
+}
+
+// A map record beside its block's number.
+pub struct MapRecord {
+    pub block: BlockNumber,
+    pub record: Record,
+}
+
+// A directory entry: the length counts the file's first 64 bytes, and the name is the first `named` of the 36 bytes.
+#[repr(C)]
+pub struct Entry {
+    pub name: [u8; 36],
+    pub length: u32,
+    pub named: u16,
+    pub date: u32,
+}
+
+// What the judgement of track 0 gives: the reply, and where that is 0 the free word, the good word and the
+// number of records that are not free.
+#[repr(C)]
+pub struct FirstTrack {
+    pub reply: Reply,
+    pub free: usize,
+    pub good: usize,
+    pub held: usize,
+}

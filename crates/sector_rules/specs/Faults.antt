@@ -1,0 +1,33 @@
+-- Faults: the lowest wrong place that a judgement finds, and the refusal that names it. Document 01, "Numbered replies", places of 2, 3, 8, 9 and 10.
+-- Assumes nothing: these are definitions.
+use mathlib.Core.Bool.{Bool, cond}
+use mathlib.Core.Option.{Option, none, some}
+use Prim.Native.Nat.{ℕ}
+use lib.Dec.{ltb}
+use Rattle.laws.specs.Lowest.{lowest}
+use Rattle.sector_rules.specs.declared.Fault.{Fault}
+use Rattle.sector_rules.specs.declared.Fault.the-variants.{At, Sound}
+use Rattle.sector_rules.specs.declared.Reply.{Reply}
+use Rattle.sector_rules.specs.Replies.{reply}
+
+-- a field at offset o that is right or wrong
+abbrev pub wrongAt : ℕ → Bool → Fault
+wrongAt o right = cond right Sound (At o)
+
+-- the first of two faults
+abbrev pub orFault : Fault → Fault → Fault
+orFault (At o) f = At o
+orFault Sound f = f
+
+-- a number below n is at fault, and n stands for none
+unfoldable pub faultBelow : ℕ → ℕ → Fault
+faultBelow n m = cond (ltb m n) (At m) Sound
+
+-- the lowest number below n at which the test holds
+unfoldable pub lowestFault : (ℕ → Bool) → ℕ → Fault
+lowestFault p n = faultBelow n (lowest p n)
+
+-- the refusal with this number and the place that is at fault
+abbrev pub refusalAt : ℕ → Fault → Option Reply
+refusalAt n (At o) = some (reply n o 0 0)
+refusalAt n Sound = none

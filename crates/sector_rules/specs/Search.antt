@@ -1,0 +1,117 @@
+-- Headers, the search for a sector, its data field, and what a single sector gives. Document 01, "Cells and sectors", second paragraph.
+-- Every rule is stated over the cells from a place on.
+-- Assumes nothing: these are definitions.
+use mathlib.Core.Bool.{Bool, false, cond, _&&_}
+use mathlib.Core.List.{List, [], _∷_, _++_}
+use Prim.Native.Nat.{ℕ, zero, suc, _+_, _*_}
+use lib.Dec.{leb, eqb}
+use lib.ListN.{length}
+use Rattle.laws.specs.Tab.{tab}
+use Rattle.cells.specs.Stream.{from, dataByte}
+use Rattle.cells.specs.Sync.{threeSync}
+use Rattle.cells.specs.Crc.{crcFollows}
+use Rattle.sector_rules.specs.Geometry.{sectorBytes}
+use Rattle.sector_rules.specs.declared.Id.{Id}
+use Rattle.sector_rules.specs.declared.Header.{Header}
+use Rattle.sector_rules.specs.declared.Header.the-variants.{Is, Absent}
+use Rattle.sector_rules.specs.declared.Found.{Found}
+use Rattle.sector_rules.specs.declared.Found.the-variants.{One, Nothing, Several}
+use Rattle.sector_rules.specs.declared.Sector.{Sector}
+use Rattle.sector_rules.specs.declared.Sector.the-variants.{Delivered, Missing, Repeated, Fieldless, Damaged}
+
+-- the n bytes at the list's start are followed by their CRC
+unfoldable pub crcHolds : List ℕ → ℕ → Bool
+crcHolds f n = crcFollows (λ (j : ℕ). dataByte f (16 * j)) n
+
+-- the marks after three sync bytes
+abbrev pub headerMark : ℕ
+headerMark = 0xFE
+
+abbrev pub dataMark : ℕ
+dataMark = 0xFB
+
+-- a header's cells: three sync bytes, the mark, C, H, R, N and a CRC
+abbrev pub headerCells : ℕ
+headerCells = 160
+
+-- a data field's cells: three sync bytes, the mark, 512 bytes and a CRC
+abbrev pub fieldCells : ℕ
+fieldCells = 16 * (4 + sectorBytes + 2)
+
+-- a header stands at the list's start: three sync bytes, FE, four bytes and a CRC that holds, all before the end
+unfoldable pub isHeader : List ℕ → Bool
+isHeader f = leb headerCells (length f) && threeSync f && eqb (dataByte f 48) headerMark && crcHolds f 8
+
+-- C, H, R and N
+unfoldable pub idOf : List ℕ → Id
+idOf f = record { c = dataByte f 64; h = dataByte f 80; r = dataByte f 96; n = dataByte f 112 }
+
+-- the header at the list's start, or none
+unfoldable pub headerOf : List ℕ → Header
+headerOf f = cond (isHeader f) (Is (idOf f)) Absent
+
+-- a header belongs to the sector if C is the track, H the side, R the sector and N 2
+abbrev pub belongs : ℕ → ℕ → ℕ → Header → Bool
+belongs t s r (Is id) = eqb (id .c) t && eqb (id .h) s && eqb (id .n) 2 && eqb (id .r) r
+belongs t s r Absent = false
+
+-- a header of sector R of this track and side stands at cell place i
+unfoldable pub headerAt : List ℕ → ℕ → ℕ → ℕ → ℕ → Bool
+headerAt c t s r i = belongs t s r (headerOf (from c i))
+
+-- the places below n where the test holds, in order
+unfoldable pub placesBelow : (ℕ → Bool) → ℕ → List ℕ
+placesBelow p zero = []
+placesBelow p (suc n) = cond (p n) (placesBelow p n ++ (n ∷ [])) (placesBelow p n)
+
+-- the search's answer: where it is, that there is none, or that there are two or more
+unfoldable pub foundOf : List ℕ → Found
+foundOf [] = Nothing
+foundOf (i ∷ []) = One i
+foundOf (i ∷ (j ∷ xs)) = Several
+
+-- each cell place of the stream is tried
+unfoldable pub findSector : List ℕ → ℕ → ℕ → ℕ → Found
+findSector c t s r = foundOf (placesBelow (headerAt c t s r) (length c))
+
+-- what f gives at the first of the n places i, i + 1 .. where the test holds, and none where it holds at none of them
+unfoldable pub first : {A : Type 0} → (ℕ → Bool) → (ℕ → A) → A → ℕ → ℕ → A
+first p f none zero i = none
+first p f none (suc n) i = cond (p i) (f i) (first p f none n (suc i))
+
+-- the data field may begin at most this many cells after the end of the header's CRC
+abbrev pub gapCells : ℕ
+gapCells = 688
+
+-- the field whose three sync bytes begin at cell place j: present if the mark is FB and 512 bytes and a CRC fit
+unfoldable pub fieldAt : List ℕ → ℕ → Sector
+fieldAt c j =
+    cond (leb fieldCells (length (from c j)) && eqb (dataByte (from c j) 48) dataMark)
+    (cond (crcHolds (from c j) (4 + sectorBytes)) (Delivered (j + 64)) Damaged)
+    Fieldless
+
+-- the field of the header at cell place i: the first run of three sync bytes that begins at the end of its CRC or at most 688 cells after it
+unfoldable pub fieldOf : List ℕ → ℕ → Sector
+fieldOf c i = first (λ (j : ℕ). threeSync (from c j)) (fieldAt c) Fieldless (gapCells + 1) (i + headerCells)
+
+-- what the search's answer gives
+unfoldable pub sectorFound : List ℕ → Found → Sector
+sectorFound c (One i) = fieldOf c i
+sectorFound c Nothing = Missing
+sectorFound c Several = Repeated
+
+-- what sector R of this track and side gives, judged alone
+unfoldable pub sectorOf : List ℕ → ℕ → ℕ → ℕ → Sector
+sectorOf c t s r = sectorFound c (findSector c t s r)
+
+-- byte k of the sector whose bytes' cells begin at place p
+unfoldable pub sectorByte : List ℕ → ℕ → ℕ → ℕ
+sectorByte c p k = dataByte (from c p) (16 * k)
+
+-- its 512 bytes, where it is delivered
+unfoldable pub bytesOf : List ℕ → Sector → List ℕ
+bytesOf c (Delivered p) = tab (sectorByte c p) sectorBytes
+bytesOf c Missing = []
+bytesOf c Repeated = []
+bytesOf c Fieldless = []
+bytesOf c Damaged = []
