@@ -1,20 +1,7 @@
 -- Laws of the definitions that history rests on. No statement outside cites them.
-pub mod Disk
-pub mod Names
-pub mod Results
-pub mod Whole
-pub mod Inner
-pub mod Invariant
-pub mod Facts
-pub mod Owners
-pub mod Last
-pub mod Remove
-pub mod Add
-pub mod Run
-pub mod Listed
-pub mod Agree
-pub mod Present
-pub mod Left
-pub mod Zero
-pub mod History
-pub mod Refusals
+pub mod Base
+pub mod InnerModel
+pub mod OnImages
+pub mod InModel
+pub mod FilesLeft
+pub mod Theorem

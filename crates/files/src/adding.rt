@@ -12,7 +12,7 @@ ghost use Rattle.file_rules.specs.Check.{judged};
 ghost use Rattle.file_rules.specs.Written.{blocksFor};
 ghost use Rattle.file_rules.specs.Calls as Calls;
 ghost use Rattle.file_rules.specs.Calls.{opensBlock, growDir, endAfter, addAt, addDisk};
-ghost use Rattle.files.specs.Laws.Judged.{Gave, taken};
+ghost use Rattle.files.specs.Laws.Calling.Judged.{Gave, taken};
 use crate::Verdict;
 use crate::checking::judge;
 use crate::directory::find_name;

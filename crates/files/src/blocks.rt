@@ -3,7 +3,7 @@ ghost use mathlib.Core.Path.{_≡_};
 ghost use Prim.Native.Nat.{_+_, _%_, _<_, _≤_, _^_};
 ghost use Rattle.laws.specs.Numbers.{at16, at32};
 ghost use Rattle.file_rules.specs.Disk.{byteOf, diskOf};
-ghost use Rattle.files.specs.Laws.Rows.{runPlace};
+ghost use Rattle.files.specs.Laws.Writing.Rows.{runPlace};
 use crate::sizes::BLOCK_BYTES;
 use sector_rules::BlockNumber;
 use sectors::Geometry;

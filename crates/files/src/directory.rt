@@ -9,7 +9,7 @@ ghost use Rattle.laws.specs.Tab.{tab, elementAt};
 ghost use Rattle.laws.specs.Numbers.{at16};
 ghost use Rattle.file_rules.specs.Disk.{diskOf};
 ghost use Rattle.file_rules.specs.Directory.{nameEq, entryOf, nameOf, slotName, held, dirEnd, findName, vacantSlot};
-ghost use Rattle.files.specs.Laws.Slots.{slotPlace, Located};
+ghost use Rattle.files.specs.Laws.Loading.Slots.{slotPlace, Located};
 use crate::blocks::byte_place;
 use crate::header::dir_end;
 use crate::map::load_map;

@@ -8,7 +8,7 @@ ghost use Rattle.file_rules.specs.Sizes.{mapStart, titleMost};
 ghost use Rattle.file_rules.specs.Disk.{diskOf, imageOf};
 ghost use Rattle.file_rules.specs.Calls as Calls;
 ghost use Rattle.file_rules.specs.Calls.{freshOwner, formatDisk};
-ghost use Rattle.files.specs.Laws.Fresh.{titled, sized, started, freshHeader, mapped};
+ghost use Rattle.files.specs.Laws.Calling.Fresh.{titled, sized, started, freshHeader, mapped};
 use crate::sizes::SLOT_BYTES;
 use crate::sizes::TITLE_MOST;
 use crate::steps::set_record;

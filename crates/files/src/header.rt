@@ -8,7 +8,7 @@ ghost use Rattle.sector_rules.specs.Faults.{wrongAt};
 ghost use Rattle.file_rules.specs.Disk.{diskOf};
 ghost use Rattle.file_rules.specs.Directory.{dirBytes, dirEnd};
 ghost use Rattle.file_rules.specs.Check.{lengthRight, sizesFault, headerFault, refusal8};
-ghost use Rattle.files.specs.Laws.Verdict.{verdictOf};
+ghost use Rattle.files.specs.Laws.Judging.Verdict.{verdictOf};
 use crate::Verdict;
 use crate::blocks::block_word2;
 use crate::sizes::BLOCK_BYTES;

@@ -6,7 +6,7 @@ ghost use Rattle.laws.specs.Count.{count};
 ghost use Rattle.file_rules.specs.Disk.{diskOf};
 ghost use Rattle.file_rules.specs.Map.{recordAt, isFree, isPart, freeCount};
 ghost use Rattle.file_rules.specs.Check.{recordFault};
-ghost use Rattle.files.specs.Laws.Loaded.{recordOf, recordIn, mapRecordIn, Mapped};
+ghost use Rattle.files.specs.Laws.Loading.Loaded.{recordOf, recordIn, mapRecordIn, Mapped};
 use crate::blocks::block_byte;
 use crate::sizes::MAP_START;
 use crate::sizes::RECORD_BYTES;

@@ -6,10 +6,10 @@ ghost use lib.ListN.{getD};
 ghost use Rattle.laws.specs.Below.{all};
 ghost use Rattle.laws.specs.Lowest.{lowest};
 ghost use Rattle.file_rules.specs.Map.{isPart, bears};
-ghost use Rattle.files.specs.Laws.Loaded.{recordOf, recordIn};
-ghost use Rattle.files.specs.Laws.Tally as Tally;
-ghost use Rattle.files.specs.Laws.Tally.{Tallied};
-ghost use Rattle.files.specs.Laws.Parts.{partOf, partsIn, PartsAt};
+ghost use Rattle.files.specs.Laws.Loading.Loaded.{recordOf, recordIn};
+ghost use Rattle.files.specs.Laws.Loading.Tally as Tally;
+ghost use Rattle.files.specs.Laws.Loading.Tally.{Tallied};
+ghost use Rattle.files.specs.Laws.Loading.Parts.{partOf, partsIn, PartsAt};
 use crate::map::part_block;
 use sectors::Geometry;
 

@@ -7,7 +7,7 @@ ghost use Rattle.file_rules.specs.Disk.{diskOf, imageOf};
 ghost use Rattle.file_rules.specs.Check.{judged};
 ghost use Rattle.file_rules.specs.Calls as Calls;
 ghost use Rattle.file_rules.specs.Calls.{removeAt, removeDisk};
-ghost use Rattle.files.specs.Laws.Judged.{Gave};
+ghost use Rattle.files.specs.Laws.Calling.Judged.{Gave};
 use crate::Verdict;
 use crate::checking::judge;
 use crate::directory::find_name;

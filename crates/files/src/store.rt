@@ -6,7 +6,7 @@ ghost use Rattle.laws.specs.Words.{highByte};
 ghost use Rattle.sector_rules.specs.Geometry.{sectorBytes, imageBytes};
 ghost use Rattle.file_rules.specs.Sizes.{blockBytes};
 ghost use Rattle.file_rules.specs.Disk.{diskOf, imageOf};
-ghost use Rattle.files.specs.Laws.Stored.{patched};
+ghost use Rattle.files.specs.Laws.Writing.Stored.{patched};
 use crate::blocks::run_length;
 use crate::blocks::run_place;
 

@@ -6,7 +6,7 @@ ghost use Rattle.laws.specs.Tests.{orElse};
 ghost use Rattle.file_rules.specs.Disk.{diskOf};
 ghost use Rattle.file_rules.specs.Check.{refusal8, refusal9, refusal11};
 ghost use Rattle.file_rules.specs.FirstTrack as Tracks;
-ghost use Rattle.files.specs.Laws.Verdict.{verdictOf};
+ghost use Rattle.files.specs.Laws.Judging.Verdict.{verdictOf};
 use crate::Verdict;
 use crate::checking::judge_free;
 use crate::checking::judge_map;

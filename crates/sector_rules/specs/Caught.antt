@@ -19,11 +19,11 @@ use Rattle.sector_rules.specs.Search.{crcHolds, dataMark, fieldCells, is
 use Rattle.sector_rules.specs.Unpacked.{trackOf, sideOf, rOf, sectorAt, unpackReply, unpackImage}
 use Rattle.sector_rules.specs.Packed.{hfeBytes, packHfe}
 use Rattle.sector_rules.specs.Damage.{Binary, headerBits, fieldBits, FieldDamage, SameField, sideWith, ImageFieldDamage, SideDamage, ImageSideDamage, RunsApart, ImageBurst}
-use Rattle.sector_rules.specs.Laws.RoundTrip.{round-trip}
-use Rattle.sector_rules.specs.Laws.Told.{each-place}
-use Rattle.sector_rules.specs.Laws.FieldDamage.{holds-bits, field-refused, header-same, sector-same, same-images, sector-told-same, fields-bytes}
-use Rattle.sector_rules.specs.Laws.SideDamage.{side-same, sides-bytes}
-use Rattle.sector_rules.specs.Laws.SideBurst.{bursts-bytes}
+use Rattle.sector_rules.specs.Laws.Trip.RoundTrip.{round-trip}
+use Rattle.sector_rules.specs.Laws.Base.Told.{each-place}
+use Rattle.sector_rules.specs.Laws.Damage.FieldDamage.{holds-bits, field-refused, header-same, sector-same, same-images, sector-told-same, fields-bytes}
+use Rattle.sector_rules.specs.Laws.Damage.SideDamage.{side-same, sides-bytes}
+use Rattle.sector_rules.specs.Laws.Burst.SideBurst.{bursts-bytes}
 
 -- ---- one field, one header, one sector
 

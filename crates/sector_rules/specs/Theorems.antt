@@ -4,7 +4,7 @@ use mathlib.Core.Path.{_≡_}
 use Prim.Native.Nat.{ℕ, _+_, _*_, _/_, _%_, _<_}
 use lib.ListN.{getD}
 use Rattle.sector_rules.specs.Geometry.{sectors, trackSectors, allSectors, sidePlace, backward, imageSector, runningSector}
-use Rattle.sector_rules.specs.Laws.Geometry.{forth-back, back-forth, image-lt, running-lt, running-image, image-running}
+use Rattle.sector_rules.specs.Laws.Base.Geometry.{forth-back, back-forth, image-lt, running-lt, running-image, image-running}
 
 -- the placement maps the 1,440 running sectors onto the 1,440 image sectors, and its inverse undoes it both ways
 pub record Bijective : Type 0 where

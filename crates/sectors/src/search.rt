@@ -5,7 +5,7 @@ ghost use Prim.Native.Nat.{ℕ, _+_, _<_, _≤_, _^_};
 ghost use lib.ListN.{length, getD};
 ghost use Rattle.cells.specs.Stream.{stream, from};
 ghost use Rattle.sector_rules.specs.Search.{crcHolds, headerOf, belongs, findSector, fieldAt, fieldOf, sectorFound};
-ghost use Rattle.sector_rules.specs.Laws.Search.{moreFound, Indexed, Scanned};
+ghost use Rattle.sector_rules.specs.Laws.Base.Search.{moreFound, Indexed, Scanned};
 use crate::Geometry;
 use cells::Side;
 use sector_rules::Found;

@@ -3,8 +3,8 @@
 use mathlib.Core.Path.{refl, sym, _∙_}
 use Prim.Native.Nat.{_-_}
 use borrow.Author.Needs.{needs}
-use Rattle.files.specs.Laws.Verdict.{verdict-some, verdict-none}
-use Rattle.files.specs.Laws.Judged.{gave-refused, wrote-refused, wrote-gave, add-refused, add-length, add-whole}
+use Rattle.files.specs.Laws.Judging.Verdict.{verdict-some, verdict-none}
+use Rattle.files.specs.Laws.Calling.Judged.{gave-refused, wrote-refused, wrote-gave, add-refused, add-length, add-whole}
 use Rattle.files.proofs.adding.add.Statement.{statement}
 use Rattle.files.proofs.adding.add.Tie as tie
 

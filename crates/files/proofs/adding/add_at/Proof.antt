@@ -2,7 +2,7 @@
 -- Assumes nothing.
 use Prim.Native.Nat.{_-_}
 use borrow.Author.Needs.{needs}
-use Rattle.files.specs.Laws.Changed.{add-written}
+use Rattle.files.specs.Laws.Calling.Changed.{add-written}
 use Rattle.files.proofs.adding.add_at.Statement.{statement}
 use Rattle.files.proofs.adding.add_at.Tie as tie
 

@@ -6,8 +6,8 @@ use native.Mathlib.Omega.{arith}
 use borrow.Author.Needs.{needs}
 use borrow.Author.Tests.{not-false}
 use Rattle.laws.specs.Tests.{not-was}
-use Rattle.files.specs.Laws.Ends.{end-within}
-use Rattle.files.specs.Laws.Judged.{vacant-most, disk-byte, room-size, name-most, gave-refused, gave-done, add-name, add-present, add-full, add-done}
+use Rattle.files.specs.Laws.Judging.Ends.{end-within}
+use Rattle.files.specs.Laws.Calling.Judged.{vacant-most, disk-byte, room-size, name-most, gave-refused, gave-done, add-name, add-present, add-full, add-done}
 use Rattle.files.proofs.adding.add_judged.Statement.{statement}
 use Rattle.files.proofs.adding.add_judged.Tie as tie
 

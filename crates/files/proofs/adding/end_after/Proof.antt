@@ -2,7 +2,7 @@
 -- Assumes nothing.
 use Prim.Native.Nat.{_-_}
 use borrow.Author.Needs.{needs}
-use Rattle.files.specs.Laws.Changed.{end-kept, end-grown}
+use Rattle.files.specs.Laws.Calling.Changed.{end-kept, end-grown}
 use Rattle.files.proofs.adding.end_after.Statement.{statement}
 use Rattle.files.proofs.adding.end_after.Tie as tie
 

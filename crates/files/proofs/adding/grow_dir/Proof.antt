@@ -2,7 +2,7 @@
 -- Assumes nothing.
 use Prim.Native.Nat.{_-_}
 use borrow.Author.Needs.{needs}
-use Rattle.files.specs.Laws.Changed.{grow-inside, grow-within, grow-block}
+use Rattle.files.specs.Laws.Calling.Changed.{grow-inside, grow-within, grow-block}
 use Rattle.files.proofs.adding.grow_dir.Statement.{statement}
 use Rattle.files.proofs.adding.grow_dir.Tie as tie
 

@@ -3,7 +3,7 @@
 use mathlib.Core.Path.{sym, _∙_}
 use Prim.Native.Nat.{_-_}
 use borrow.Author.Needs.{needs}
-use Rattle.files.specs.Laws.Judged.{room-none, room-opens, room-keeps}
+use Rattle.files.specs.Laws.Calling.Judged.{room-none, room-opens, room-keeps}
 use Rattle.files.proofs.adding.has_room.Statement.{statement}
 use Rattle.files.proofs.adding.has_room.Tie as tie
 

@@ -4,7 +4,7 @@ use mathlib.Core.Path.{sym, _∙_}
 use native.Mathlib.Omega.{arith}
 use native.Mathlib.Nat.{add-zero}
 use borrow.Author.Needs.{needs}
-use Rattle.files.specs.Laws.Blocks.{disk-in, disk-far, disk-past}
+use Rattle.files.specs.Laws.Loading.Blocks.{disk-in, disk-far, disk-past}
 use Rattle.files.proofs.blocks.block_byte.Statement.{statement}
 use Rattle.files.proofs.blocks.block_byte.Tie as tie
 

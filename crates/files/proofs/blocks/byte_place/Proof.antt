@@ -3,7 +3,7 @@
 use Prim.Native.Nat.{_-_, _<_}
 use native.Mathlib.Omega.{arith}
 use borrow.Author.Needs.{needs}
-use Rattle.sector_rules.specs.Laws.Geometry.{image-lt}
+use Rattle.sector_rules.specs.Laws.Base.Geometry.{image-lt}
 use Rattle.file_rules.specs.Disk.{byteOf}
 use Rattle.files.proofs.blocks.byte_place.Statement.{statement}
 use Rattle.files.proofs.blocks.byte_place.Tie as tie

@@ -3,7 +3,7 @@
 use mathlib.Core.Path.{sym, _∙_}
 use Prim.Native.Nat.{_-_}
 use borrow.Author.Needs.{needs}
-use Rattle.files.specs.Laws.Sound.{check-length, check-refused, check-passed}
+use Rattle.files.specs.Laws.Judging.Sound.{check-length, check-refused, check-passed}
 use Rattle.files.proofs.checking.check.Statement.{statement}
 use Rattle.files.proofs.checking.check.Tie as tie
 

@@ -4,9 +4,9 @@ use mathlib.Core.Path.{sym, ap, _∙_}
 use Prim.Native.Nat.{ℕ, _-_}
 use borrow.Author.Needs.{needs}
 use Rattle.laws.specs.Tab.{elementAt}
-use Rattle.files.specs.Laws.Sound.{sizes-name, parts-mapped, entry-sizes-wrong, entry-name-wrong, entry-parts, entry-name}
+use Rattle.files.specs.Laws.Judging.Sound.{sizes-name, parts-mapped, entry-sizes-wrong, entry-name-wrong, entry-parts, entry-name}
 use Rattle.file_rules.specs.Disk.{diskOf}
-use Rattle.files.specs.Laws.Slots.{entry-row}
+use Rattle.files.specs.Laws.Loading.Slots.{entry-row}
 use Rattle.file_rules.specs.Directory.{entryOf}
 use Rattle.file_rules.specs.Check.{partsRight}
 use Rattle.files.proofs.checking.entry_right.Statement.{statement}

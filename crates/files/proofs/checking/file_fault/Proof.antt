@@ -7,8 +7,8 @@ use native.Mathlib.Omega.{arith}
 use borrow.Author.Needs.{needs}
 use borrow.Author.Count.{below-none, below-more}
 use Rattle.file_rules.specs.Disk.{diskOf}
-use Rattle.files.specs.Laws.Slots.{located}
-use Rattle.files.specs.Laws.Sound.{fault-here, fault-none}
+use Rattle.files.specs.Laws.Loading.Slots.{located}
+use Rattle.files.specs.Laws.Judging.Sound.{fault-here, fault-none}
 use Rattle.file_rules.specs.Check.{fileRight}
 use Rattle.files.proofs.checking.file_fault.Statement.{statement}
 use Rattle.files.proofs.checking.file_fault.Tie as tie

@@ -7,7 +7,7 @@ use lib.Dec.{ltb}
 use borrow.Author.Needs.{needs}
 use Rattle.file_rules.specs.Disk.{diskOf}
 use Rattle.file_rules.specs.Directory.{held}
-use Rattle.files.specs.Laws.Sound.{parts-mapped, unborne-mapped, unmarked-unborne, file-zero, file-listed, file-unlisted}
+use Rattle.files.specs.Laws.Judging.Sound.{parts-mapped, unborne-mapped, unmarked-unborne, file-zero, file-listed, file-unlisted}
 use Rattle.file_rules.specs.Check.{partsRight}
 use Rattle.files.proofs.checking.file_right.Statement.{statement}
 use Rattle.files.proofs.checking.file_right.Tie as tie

@@ -4,7 +4,7 @@ use mathlib.Core.Path.{sym}
 use Prim.Native.Nat.{_-_}
 use borrow.Author.Needs.{needs}
 use Rattle.laws.specs.Tests.{lt-true, lt-false, cond-true, cond-false}
-use Rattle.files.specs.Laws.Sound.{unmarked}
+use Rattle.files.specs.Laws.Judging.Sound.{unmarked}
 use Rattle.files.proofs.checking.is_unborne.Statement.{statement}
 use Rattle.files.proofs.checking.is_unborne.Tie as tie
 

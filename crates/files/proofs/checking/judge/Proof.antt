@@ -3,7 +3,7 @@
 use mathlib.Core.Path.{sym, _∙_}
 use Prim.Native.Nat.{_-_}
 use borrow.Author.Needs.{needs}
-use Rattle.files.specs.Laws.Sound.{judged-header, judged-map, judged-files, judged-free}
+use Rattle.files.specs.Laws.Judging.Sound.{judged-header, judged-map, judged-files, judged-free}
 use Rattle.files.proofs.checking.judge.Statement.{statement}
 use Rattle.files.proofs.checking.judge.Tie as tie
 

@@ -2,7 +2,7 @@
 -- Assumes nothing.
 use Prim.Native.Nat.{_-_}
 use borrow.Author.Needs.{needs}
-use Rattle.files.specs.Laws.Sound.{refused-files, passed-files}
+use Rattle.files.specs.Laws.Judging.Sound.{refused-files, passed-files}
 use Rattle.files.proofs.checking.judge_files.Statement.{statement}
 use Rattle.files.proofs.checking.judge_files.Tie as tie
 

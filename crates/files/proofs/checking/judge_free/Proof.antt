@@ -2,7 +2,7 @@
 -- Assumes nothing.
 use Prim.Native.Nat.{_-_}
 use borrow.Author.Needs.{needs}
-use Rattle.files.specs.Laws.Sound.{refused-free, passed-free}
+use Rattle.files.specs.Laws.Judging.Sound.{refused-free, passed-free}
 use Rattle.files.proofs.checking.judge_free.Statement.{statement}
 use Rattle.files.proofs.checking.judge_free.Tie as tie
 

@@ -3,8 +3,8 @@
 use mathlib.Core.Path.{_∙_}
 use Prim.Native.Nat.{_-_}
 use borrow.Author.Needs.{needs}
-use Rattle.files.specs.Laws.Loaded.{fault-mapped}
-use Rattle.files.specs.Laws.Sound.{refused-map, passed-map}
+use Rattle.files.specs.Laws.Loading.Loaded.{fault-mapped}
+use Rattle.files.specs.Laws.Judging.Sound.{refused-map, passed-map}
 use Rattle.files.proofs.checking.judge_map.Statement.{statement}
 use Rattle.files.proofs.checking.judge_map.Tie as tie
 

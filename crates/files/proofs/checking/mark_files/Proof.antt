@@ -4,7 +4,7 @@ use mathlib.Core.Path.{_≡_, refl}
 use Prim.Native.Nat.{_-_, _≤_}
 use native.Mathlib.Omega.{arith}
 use borrow.Author.Needs.{needs}
-use Rattle.files.specs.Laws.Sound.{mark-none, Marked, mark-more}
+use Rattle.files.specs.Laws.Judging.Sound.{mark-none, Marked, mark-more}
 use Rattle.files.proofs.checking.mark_files.Statement.{statement}
 use Rattle.files.proofs.checking.mark_files.Tie as tie
 

@@ -7,7 +7,7 @@ use native.Mathlib.Omega.{arith}
 use borrow.Author.Needs.{needs}
 use borrow.Author.Count.{below-none, below-more}
 use Rattle.file_rules.specs.Disk.{diskOf}
-use Rattle.files.specs.Laws.Slots.{found-at, found-none}
+use Rattle.files.specs.Laws.Loading.Slots.{found-at, found-none}
 use Rattle.file_rules.specs.Directory.{nameEq, held, slotName}
 use Rattle.files.proofs.directory.find_name.Statement.{statement}
 use Rattle.files.proofs.directory.find_name.Tie as tie

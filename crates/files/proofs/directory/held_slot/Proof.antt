@@ -3,7 +3,7 @@
 use Prim.Native.Nat.{_-_}
 use native.Mathlib.Omega.{arith}
 use borrow.Author.Needs.{needs}
-use Rattle.files.specs.Laws.Slots.{held-row, held-zero}
+use Rattle.files.specs.Laws.Loading.Slots.{held-row, held-zero}
 use Rattle.files.proofs.directory.held_slot.Statement.{statement}
 use Rattle.files.proofs.directory.held_slot.Tie as tie
 

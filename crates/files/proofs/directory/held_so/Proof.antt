@@ -2,7 +2,7 @@
 -- Assumes nothing.
 use Prim.Native.Nat.{_-_}
 use borrow.Author.Needs.{needs}
-use Rattle.files.specs.Laws.Slots.{held-named, not-named}
+use Rattle.files.specs.Laws.Loading.Slots.{held-named, not-named}
 use Rattle.files.proofs.directory.held_so.Statement.{statement}
 use Rattle.files.proofs.directory.held_so.Tie as tie
 

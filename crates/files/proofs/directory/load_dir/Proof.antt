@@ -2,7 +2,7 @@
 -- Assumes nothing.
 use Prim.Native.Nat.{_-_}
 use borrow.Author.Needs.{needs}
-use Rattle.files.specs.Laws.Slots.{located}
+use Rattle.files.specs.Laws.Loading.Slots.{located}
 use Rattle.files.proofs.directory.load_dir.Statement.{statement}
 use Rattle.files.proofs.directory.load_dir.Tie as tie
 

@@ -7,7 +7,7 @@ use lib.ListN.{length, getD, length-set}
 use borrow.Author.Needs.{needs}
 use borrow.Author.Count.{below-none}
 use Rattle.laws.specs.Tab.{elementAt, eq-tab}
-use Rattle.files.specs.Laws.Slots.{parts-more}
+use Rattle.files.specs.Laws.Loading.Slots.{parts-more}
 use Rattle.files.proofs.directory.name_at.Statement.{statement}
 use Rattle.files.proofs.directory.name_at.Tie as tie
 

@@ -6,7 +6,7 @@ use native.Mathlib.Omega.{arith}
 use borrow.Author.Needs.{needs}
 use Rattle.laws.specs.Numbers.{at16}
 use Rattle.laws.specs.Tab.{elementAt}
-use Rattle.files.specs.Laws.Slots.{word2-row}
+use Rattle.files.specs.Laws.Loading.Slots.{word2-row}
 use Rattle.files.proofs.directory.name_length.Statement.{statement}
 use Rattle.files.proofs.directory.name_length.Tie as tie
 

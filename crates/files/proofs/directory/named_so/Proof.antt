@@ -7,7 +7,7 @@ use lib.ListN.{length, getD}
 use borrow.Author.Needs.{needs}
 use borrow.Author.Count.{below-none, below-more}
 use Rattle.laws.specs.Tab.{elementAt}
-use Rattle.files.specs.Laws.Slots.{name-other-length, name-other, name-equal}
+use Rattle.files.specs.Laws.Loading.Slots.{name-other-length, name-other, name-equal}
 use Rattle.files.proofs.directory.named_so.Statement.{statement}
 use Rattle.files.proofs.directory.named_so.Tie as tie
 

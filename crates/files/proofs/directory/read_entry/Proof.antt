@@ -2,7 +2,7 @@
 -- Assumes nothing.
 use Prim.Native.Nat.{_-_}
 use borrow.Author.Needs.{needs}
-use Rattle.files.specs.Laws.Slots.{entry-read}
+use Rattle.files.specs.Laws.Loading.Slots.{entry-read}
 use Rattle.files.proofs.directory.read_entry.Statement.{statement}
 use Rattle.files.proofs.directory.read_entry.Tie as tie
 

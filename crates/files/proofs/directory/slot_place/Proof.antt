@@ -5,7 +5,7 @@ use Prim.Native.Nat.{_-_}
 use native.Mathlib.Omega.{arith}
 use borrow.Author.Needs.{needs}
 use Rattle.laws.specs.Tests.{lt-true, lt-false, cond-true, cond-false}
-use Rattle.files.specs.Laws.Slots.{slotPlace}
+use Rattle.files.specs.Laws.Loading.Slots.{slotPlace}
 use Rattle.files.proofs.directory.slot_place.Statement.{statement}
 use Rattle.files.proofs.directory.slot_place.Tie as tie
 

@@ -8,7 +8,7 @@ use lib.Dec.{ltb}
 use borrow.Author.Needs.{needs}
 use borrow.Author.Count.{below-none, below-more}
 use Rattle.file_rules.specs.Disk.{diskOf}
-use Rattle.files.specs.Laws.Slots.{vacant-here, vacant-none}
+use Rattle.files.specs.Laws.Loading.Slots.{vacant-here, vacant-none}
 use Rattle.file_rules.specs.Directory.{held}
 use Rattle.files.proofs.directory.vacant_slot.Statement.{statement}
 use Rattle.files.proofs.directory.vacant_slot.Tie as tie

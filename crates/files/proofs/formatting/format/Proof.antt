@@ -4,7 +4,7 @@ use mathlib.Core.Path.{refl}
 use Prim.Native.Nat.{_-_}
 use borrow.Author.Needs.{needs}
 use Rattle.file_rules.specs.Calls.{unwritten}
-use Rattle.files.specs.Laws.Fresh.{format-length, format-name, format-done}
+use Rattle.files.specs.Laws.Calling.Fresh.{format-length, format-name, format-done}
 use Rattle.files.proofs.formatting.format.Statement.{statement}
 use Rattle.files.proofs.formatting.format.Tie as tie
 

@@ -1,7 +1,7 @@
 -- `fresh_record` meets its contract.
 -- Assumes nothing.
 use Prim.Native.Nat.{_-_}
-use Rattle.files.specs.Laws.Fresh.{fresh-zero, fresh-one, fresh-free}
+use Rattle.files.specs.Laws.Calling.Fresh.{fresh-zero, fresh-one, fresh-free}
 use Rattle.files.proofs.formatting.fresh_record.Statement.{statement}
 use Rattle.files.proofs.formatting.fresh_record.Tie as tie
 

@@ -2,7 +2,7 @@
 -- Assumes nothing.
 use Prim.Native.Nat.{_-_}
 use borrow.Author.Needs.{needs}
-use Rattle.files.specs.Laws.Fresh.{sized-is}
+use Rattle.files.specs.Laws.Calling.Fresh.{sized-is}
 use Rattle.files.proofs.formatting.put_sizes.Statement.{statement}
 use Rattle.files.proofs.formatting.put_sizes.Tie as tie
 

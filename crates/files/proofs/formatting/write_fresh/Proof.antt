@@ -2,7 +2,7 @@
 -- Assumes nothing.
 use Prim.Native.Nat.{_-_}
 use borrow.Author.Needs.{needs}
-use Rattle.files.specs.Laws.Fresh.{fresh-written}
+use Rattle.files.specs.Laws.Calling.Fresh.{fresh-written}
 use Rattle.files.proofs.formatting.write_fresh.Statement.{statement}
 use Rattle.files.proofs.formatting.write_fresh.Tie as tie
 

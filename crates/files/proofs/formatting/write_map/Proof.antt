@@ -7,8 +7,8 @@ use lib.ListN.{length}
 use borrow.Author.Needs.{needs}
 use Rattle.file_rules.specs.Disk.{diskOf, imageOf}
 use Rattle.file_rules.specs.Calls.{freshOwner}
-use Rattle.files.specs.Laws.Steps.{Packs}
-use Rattle.files.specs.Laws.Fresh.{mapped, mapped-none, mapped-more, fresh-packs}
+use Rattle.files.specs.Laws.Writing.Steps.{Packs}
+use Rattle.files.specs.Laws.Calling.Fresh.{mapped, mapped-none, mapped-more, fresh-packs}
 use Rattle.files.proofs.formatting.write_map.Statement.{statement}
 use Rattle.files.proofs.formatting.write_map.Tie as tie
 

@@ -5,7 +5,7 @@ use native.Mathlib.Omega.{arith}
 use borrow.Author.Needs.{needs}
 use Rattle.sector_rules.specs.Geometry.{sidePlace, backward}
 use Rattle.file_rules.specs.Check.{signature, headerFault}
-use Rattle.files.specs.Laws.Verdict.{bytes-stand}
+use Rattle.files.specs.Laws.Judging.Verdict.{bytes-stand}
 use Rattle.files.proofs.header.header_fault.Statement.{statement}
 use Rattle.files.proofs.header.header_fault.Tie as tie
 

@@ -2,7 +2,7 @@
 -- Assumes nothing.
 use mathlib.Core.Path.{sym, _∙_}
 use borrow.Author.Needs.{needs}
-use Rattle.files.specs.Laws.Verdict.{refused-header, passed-header}
+use Rattle.files.specs.Laws.Judging.Verdict.{refused-header, passed-header}
 use Rattle.files.proofs.header.judge_header.Statement.{statement}
 use Rattle.files.proofs.header.judge_header.Tie as tie
 

@@ -8,7 +8,7 @@ use borrow.Author.Needs.{needs}
 use Rattle.laws.specs.Count.{count}
 use Rattle.file_rules.specs.Disk.{diskOf}
 use Rattle.file_rules.specs.Directory.{held}
-use Rattle.files.specs.Laws.Loops.{counted-yes, counted-no}
+use Rattle.files.specs.Laws.Loading.Loops.{counted-yes, counted-no}
 use Rattle.files.proofs.listing.count_held.Statement.{statement}
 use Rattle.files.proofs.listing.count_held.Tie as tie
 

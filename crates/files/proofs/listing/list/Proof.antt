@@ -3,9 +3,9 @@
 use mathlib.Core.Path.{sym, _∙_}
 use Prim.Native.Nat.{_-_}
 use borrow.Author.Needs.{needs}
-use Rattle.files.specs.Laws.Delivered.{list-length, list-refused, list-passed, kept-answer, kept-buffer, same-answer, same-buffer}
-use Rattle.files.specs.Laws.Ends.{end-within}
-use Rattle.files.specs.Laws.Verdict.{verdict-none}
+use Rattle.files.specs.Laws.Calling.Delivered.{list-length, list-refused, list-passed, kept-answer, kept-buffer, same-answer, same-buffer}
+use Rattle.files.specs.Laws.Judging.Ends.{end-within}
+use Rattle.files.specs.Laws.Judging.Verdict.{verdict-none}
 use Rattle.files.proofs.listing.list.Statement.{statement}
 use Rattle.files.proofs.listing.list.Tie as tie
 

@@ -4,7 +4,7 @@ use mathlib.Core.Path.{sym, ap, _∙_}
 use Prim.Native.Nat.{ℕ, _+_, _-_}
 use native.Mathlib.Omega.{arith}
 use borrow.Author.Needs.{needs}
-use Rattle.files.specs.Laws.Delivered.{put-none, part-vacant, part-held, part-put}
+use Rattle.files.specs.Laws.Calling.Delivered.{put-none, part-vacant, part-held, part-put}
 use Rattle.files.proofs.listing.list_slot.Statement.{statement}
 use Rattle.files.proofs.listing.list_slot.Tie as tie
 

@@ -8,7 +8,7 @@ use borrow.Author.Needs.{needs}
 use Rattle.laws.specs.Overlay.{put}
 use Rattle.file_rules.specs.Disk.{diskOf}
 use Rattle.file_rules.specs.Calls.{entries}
-use Rattle.files.specs.Laws.Delivered.{entries-room, next-place, next-put, put-length, entries-none}
+use Rattle.files.specs.Laws.Calling.Delivered.{entries-room, next-place, next-put, put-length, entries-none}
 use Rattle.files.proofs.listing.list_slots.Statement.{statement}
 use Rattle.files.proofs.listing.list_slots.Tie as tie
 

@@ -9,7 +9,7 @@ use Rattle.laws.specs.Overlay.{put}
 use Rattle.file_rules.specs.Disk.{diskOf}
 use Rattle.file_rules.specs.Directory.{held, dirEnd}
 use Rattle.file_rules.specs.Calls.{entries}
-use Rattle.files.specs.Laws.Delivered.{entries-length, fits-answer, fits-buffer, misses-answer, misses-buffer}
+use Rattle.files.specs.Laws.Calling.Delivered.{entries-length, fits-answer, fits-buffer, misses-answer, misses-buffer}
 use Rattle.files.proofs.listing.list_sound.Statement.{statement}
 use Rattle.files.proofs.listing.list_sound.Tie as tie
 

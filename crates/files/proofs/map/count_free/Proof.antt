@@ -8,8 +8,8 @@ use borrow.Author.Needs.{needs}
 use Rattle.laws.specs.Count.{count}
 use Rattle.file_rules.specs.declared.MapRecord.{MapRecord}
 use Rattle.file_rules.specs.Map.{isFree}
-use Rattle.files.specs.Laws.Loaded.{recordIn}
-use Rattle.files.specs.Laws.Loops.{counted-yes, counted-no}
+use Rattle.files.specs.Laws.Loading.Loaded.{recordIn}
+use Rattle.files.specs.Laws.Loading.Loops.{counted-yes, counted-no}
 use Rattle.files.proofs.map.count_free.Statement.{statement}
 use Rattle.files.proofs.map.count_free.Tie as tie
 

@@ -2,7 +2,7 @@
 -- Assumes nothing.
 use mathlib.Core.Path.{_∙_}
 use borrow.Author.Needs.{needs}
-use Rattle.files.specs.Laws.Loaded.{free-mapped}
+use Rattle.files.specs.Laws.Loading.Loaded.{free-mapped}
 use Rattle.files.proofs.map.free_count.Statement.{statement}
 use Rattle.files.proofs.map.free_count.Tie as tie
 

@@ -8,7 +8,7 @@ use borrow.Author.Needs.{needs}
 use borrow.Author.Count.{below-none}
 use Rattle.file_rules.specs.Disk.{diskOf}
 use Rattle.file_rules.specs.Map.{recordAt}
-use Rattle.files.specs.Laws.Loaded.{recordIn, records-more}
+use Rattle.files.specs.Laws.Loading.Loaded.{recordIn, records-more}
 use Rattle.files.proofs.map.load_map.Statement.{statement}
 use Rattle.files.proofs.map.load_map.Tie as tie
 

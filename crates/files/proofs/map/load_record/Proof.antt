@@ -4,7 +4,7 @@ use mathlib.Core.Path.{_∙_}
 use native.Mathlib.Omega.{arith}
 use borrow.Author.Needs.{needs}
 use Rattle.file_rules.specs.Map.{recordAt}
-use Rattle.files.specs.Laws.Loaded.{record-of}
+use Rattle.files.specs.Laws.Loading.Loaded.{record-of}
 use Rattle.files.proofs.map.load_record.Statement.{statement}
 use Rattle.files.proofs.map.load_record.Tie as tie
 

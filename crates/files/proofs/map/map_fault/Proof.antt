@@ -9,7 +9,7 @@ use borrow.Author.Count.{below-none, below-more}
 use Rattle.laws.specs.Lowest.{lowest-some, lowest-none}
 use Rattle.file_rules.specs.declared.MapRecord.{MapRecord}
 use Rattle.file_rules.specs.Check.{recordFault}
-use Rattle.files.specs.Laws.Loaded.{recordIn}
+use Rattle.files.specs.Laws.Loading.Loaded.{recordIn}
 use Rattle.files.proofs.map.map_fault.Statement.{statement}
 use Rattle.files.proofs.map.map_fault.Tie as tie
 

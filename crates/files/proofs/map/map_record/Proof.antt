@@ -1,7 +1,7 @@
 -- `map_record` meets its contract.
 -- Assumes nothing.
 use borrow.Author.Needs.{needs}
-use Rattle.files.specs.Laws.Loaded.{recordIn}
+use Rattle.files.specs.Laws.Loading.Loaded.{recordIn}
 use Rattle.files.proofs.map.map_record.Statement.{statement}
 use Rattle.files.proofs.map.map_record.Tie as tie
 

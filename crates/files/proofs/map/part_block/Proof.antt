@@ -9,7 +9,7 @@ use borrow.Author.Count.{below-none, below-more}
 use Rattle.laws.specs.Lowest.{lowest-some, lowest-none}
 use Rattle.file_rules.specs.declared.MapRecord.{MapRecord}
 use Rattle.file_rules.specs.Map.{isPart}
-use Rattle.files.specs.Laws.Loaded.{recordIn}
+use Rattle.files.specs.Laws.Loading.Loaded.{recordIn}
 use Rattle.files.proofs.map.part_block.Statement.{statement}
 use Rattle.files.proofs.map.part_block.Tie as tie
 

@@ -1,7 +1,7 @@
 -- `record_fault` meets its contract.
 -- Assumes nothing.
 use borrow.Author.Needs.{needs}
-use Rattle.files.specs.Laws.Loaded.{fault-free, fault-system, fault-file, fault-other}
+use Rattle.files.specs.Laws.Loading.Loaded.{fault-free, fault-system, fault-file, fault-other}
 use Rattle.files.proofs.map.record_fault.Statement.{statement}
 use Rattle.files.proofs.map.record_fault.Tie as tie
 

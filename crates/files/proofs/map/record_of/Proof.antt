@@ -2,7 +2,7 @@
 -- Assumes nothing.
 use borrow.Author.Needs.{needs}
 use borrow.Author.Tests.{lt-ltb, le-ltb, ne-eqb}
-use Rattle.files.specs.Laws.Loaded.{recordOf}
+use Rattle.files.specs.Laws.Loading.Loaded.{recordOf}
 use Rattle.files.proofs.map.record_of.Statement.{statement}
 use Rattle.files.proofs.map.record_of.Tie as tie
 

@@ -5,7 +5,7 @@ use Prim.Native.Nat.{_-_, _≤_, _<_, _+_}
 use native.Mathlib.Omega.{arith}
 use borrow.Author.Needs.{needs}
 use Rattle.laws.specs.Tab.{elementAt}
-use Rattle.files.specs.Laws.Marks.{rowMark, mark-more, mark-row}
+use Rattle.files.specs.Laws.Loading.Marks.{rowMark, mark-more, mark-row}
 use Rattle.files.proofs.names.name_mark.Statement.{statement}
 use Rattle.files.proofs.names.name_mark.Tie as tie
 

@@ -3,7 +3,7 @@
 use Prim.Native.Nat.{_-_}
 use native.Mathlib.Nat.{sub-zero}
 use borrow.Author.Needs.{needs}
-use Rattle.files.specs.Laws.Marks.{new-by-mark, mark-place}
+use Rattle.files.specs.Laws.Loading.Marks.{new-by-mark, mark-place}
 use Rattle.files.proofs.names.new_first.Statement.{statement}
 use Rattle.files.proofs.names.new_first.Tie as tie
 

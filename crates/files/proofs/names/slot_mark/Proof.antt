@@ -4,7 +4,7 @@ use mathlib.Core.Path.{sym, _∙_}
 use Prim.Native.Nat.{_-_}
 use native.Mathlib.Omega.{arith}
 use borrow.Author.Needs.{needs}
-use Rattle.files.specs.Laws.Marks.{mark-held, mark-vacant, mark-place}
+use Rattle.files.specs.Laws.Loading.Marks.{mark-held, mark-vacant, mark-place}
 use Rattle.files.proofs.names.slot_mark.Statement.{statement}
 use Rattle.files.proofs.names.slot_mark.Tie as tie
 

@@ -5,8 +5,8 @@ use Prim.Native.Nat.{_-_, _≤_}
 use native.Mathlib.Omega.{arith}
 use borrow.Author.Needs.{needs}
 use Rattle.file_rules.specs.Disk.{diskOf}
-use Rattle.files.specs.Laws.Tally.{Tallied, tally-none, tally-more}
-use Rattle.files.specs.Laws.Marks.{slotMark}
+use Rattle.files.specs.Laws.Loading.Tally.{Tallied, tally-none, tally-more}
+use Rattle.files.specs.Laws.Loading.Marks.{slotMark}
 use Rattle.files.proofs.names.tally_names.Statement.{statement}
 use Rattle.files.proofs.names.tally_names.Tie as tie
 

@@ -5,8 +5,8 @@ use mathlib.Core.Logic.{⊎-elim}
 use Prim.Native.Nat.{_-_, _≤_}
 use native.Mathlib.Omega.{arith}
 use borrow.Author.Needs.{needs}
-use Rattle.files.specs.Laws.Loaded.{recordIn}
-use Rattle.files.specs.Laws.Parts.{PartsFrom, from-none, from-part, from-other, from-all}
+use Rattle.files.specs.Laws.Loading.Loaded.{recordIn}
+use Rattle.files.specs.Laws.Loading.Parts.{PartsFrom, from-none, from-part, from-other, from-all}
 use Rattle.files.proofs.parts.file_blocks.Statement.{statement}
 use Rattle.files.proofs.parts.file_blocks.Tie as tie
 

@@ -2,7 +2,7 @@
 -- Assumes nothing.
 use Prim.Native.Nat.{_-_}
 use borrow.Author.Needs.{needs}
-use Rattle.files.specs.Laws.Parts.{bears-number}
+use Rattle.files.specs.Laws.Loading.Parts.{bears-number}
 use Rattle.files.proofs.parts.in_file.Statement.{statement}
 use Rattle.files.proofs.parts.in_file.Tie as tie
 

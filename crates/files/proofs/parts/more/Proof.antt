@@ -1,7 +1,7 @@
 -- `more` meets its contract.
 -- Assumes nothing.
 use Prim.Native.Nat.{_-_}
-use Rattle.files.specs.Laws.Tally.{more-none, more-some}
+use Rattle.files.specs.Laws.Loading.Tally.{more-none, more-some}
 use Rattle.files.proofs.parts.more.Statement.{statement}
 use Rattle.files.proofs.parts.more.Tie as tie
 

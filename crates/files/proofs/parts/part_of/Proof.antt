@@ -3,7 +3,7 @@
 use Prim.Native.Nat.{_-_}
 use native.Mathlib.Omega.{arith}
 use borrow.Author.Needs.{needs}
-use Rattle.files.specs.Laws.Parts.{part-none, part-other, part-low, part-later}
+use Rattle.files.specs.Laws.Loading.Parts.{part-none, part-other, part-low, part-later}
 use Rattle.files.proofs.parts.part_of.Statement.{statement}
 use Rattle.files.proofs.parts.part_of.Tie as tie
 

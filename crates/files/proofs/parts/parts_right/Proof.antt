@@ -2,7 +2,7 @@
 -- Assumes nothing.
 use Prim.Native.Nat.{_-_}
 use borrow.Author.Needs.{needs}
-use Rattle.files.specs.Laws.Parts.{parts-many, parts-later, parts-once}
+use Rattle.files.specs.Laws.Loading.Parts.{parts-many, parts-later, parts-once}
 use Rattle.files.proofs.parts.parts_right.Statement.{statement}
 use Rattle.files.proofs.parts.parts_right.Tie as tie
 

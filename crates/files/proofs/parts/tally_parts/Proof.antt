@@ -5,9 +5,9 @@ use mathlib.Core.Logic.{⊎-elim}
 use Prim.Native.Nat.{ℕ, _-_, _≤_}
 use native.Mathlib.Omega.{arith}
 use borrow.Author.Needs.{needs}
-use Rattle.files.specs.Laws.Loaded.{recordIn}
-use Rattle.files.specs.Laws.Tally.{Tallied, tally-none, tally-more, tally-skip}
-use Rattle.files.specs.Laws.Parts.{partOf, part-borne, part-unborne}
+use Rattle.files.specs.Laws.Loading.Loaded.{recordIn}
+use Rattle.files.specs.Laws.Loading.Tally.{Tallied, tally-none, tally-more, tally-skip}
+use Rattle.files.specs.Laws.Loading.Parts.{partOf, part-borne, part-unborne}
 use Rattle.files.proofs.parts.tally_parts.Statement.{statement}
 use Rattle.files.proofs.parts.tally_parts.Tie as tie
 

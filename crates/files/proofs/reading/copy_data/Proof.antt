@@ -8,8 +8,8 @@ use borrow.Author.Needs.{needs}
 use Rattle.laws.specs.Overlay.{overlay, overlay-none, overlay-next, overlay-length}
 use Rattle.file_rules.specs.Disk.{diskOf}
 use Rattle.file_rules.specs.Map.{fileByte}
-use Rattle.files.specs.Laws.Loaded.{part-mapped}
-use Rattle.files.specs.Laws.Delivered.{file-run}
+use Rattle.files.specs.Laws.Loading.Loaded.{part-mapped}
+use Rattle.files.specs.Laws.Calling.Delivered.{file-run}
 use Rattle.files.proofs.reading.copy_data.Statement.{statement}
 use Rattle.files.proofs.reading.copy_data.Tie as tie
 

@@ -8,7 +8,7 @@ use lib.ListN.{length}
 use borrow.Author.Needs.{needs}
 use Rattle.laws.specs.Overlay.{overlay, overlay-none, overlay-length}
 use Rattle.file_rules.specs.Disk.{diskOf}
-use Rattle.files.specs.Laws.Rows.{overlay-on}
+use Rattle.files.specs.Laws.Writing.Rows.{overlay-on}
 use Rattle.files.proofs.reading.copy_part.Statement.{statement}
 use Rattle.files.proofs.reading.copy_part.Tie as tie
 

@@ -3,7 +3,7 @@
 use mathlib.Core.Path.{_∙_, refl}
 use native.Mathlib.Omega.{arith}
 use borrow.Author.Needs.{needs}
-use Rattle.files.specs.Laws.Rows.{row-within, row-read, row-far}
+use Rattle.files.specs.Laws.Writing.Rows.{row-within, row-read, row-far}
 use Rattle.files.proofs.reading.copy_run.Statement.{statement}
 use Rattle.files.proofs.reading.copy_run.Tie as tie
 

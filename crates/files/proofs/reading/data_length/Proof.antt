@@ -7,7 +7,7 @@ use lib.ListN.{length}
 use borrow.Author.Needs.{needs}
 use Rattle.laws.specs.Tab.{elementAt}
 use Rattle.file_rules.specs.Disk.{diskOf}
-use Rattle.files.specs.Laws.Slots.{entry-row}
+use Rattle.files.specs.Laws.Loading.Slots.{entry-row}
 use Rattle.file_rules.specs.Directory.{entryOf, slotEntry}
 use Rattle.file_rules.specs.declared.Entry.{Entry}
 use Rattle.files.proofs.reading.data_length.Statement.{statement}

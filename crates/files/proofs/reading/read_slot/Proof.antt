@@ -3,7 +3,7 @@
 use mathlib.Core.Path.{_∙_}
 use Prim.Native.Nat.{_-_}
 use borrow.Author.Needs.{needs}
-use Rattle.files.specs.Laws.Delivered.{fits-answer, fits-buffer, misses-answer, misses-buffer, data-length, data-put}
+use Rattle.files.specs.Laws.Calling.Delivered.{fits-answer, fits-buffer, misses-answer, misses-buffer, data-length, data-put}
 use Rattle.files.proofs.reading.read_slot.Statement.{statement}
 use Rattle.files.proofs.reading.read_slot.Tie as tie
 

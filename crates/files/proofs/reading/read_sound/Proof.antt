@@ -4,7 +4,7 @@ use mathlib.Core.Path.{sym, _∙_}
 use Prim.Native.Nat.{_-_}
 use borrow.Author.Needs.{needs}
 use borrow.Author.Tests.{not-true, not-false}
-use Rattle.files.specs.Laws.Delivered.{read-misnamed, read-absent, read-present, kept-answer, kept-buffer, same-answer, same-buffer}
+use Rattle.files.specs.Laws.Calling.Delivered.{read-misnamed, read-absent, read-present, kept-answer, kept-buffer, same-answer, same-buffer}
 use Rattle.files.proofs.reading.read_sound.Statement.{statement}
 use Rattle.files.proofs.reading.read_sound.Tie as tie
 

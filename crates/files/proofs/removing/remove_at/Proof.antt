@@ -2,7 +2,7 @@
 -- Assumes nothing.
 use Prim.Native.Nat.{_-_}
 use borrow.Author.Needs.{needs}
-use Rattle.files.specs.Laws.Changed.{remove-written}
+use Rattle.files.specs.Laws.Calling.Changed.{remove-written}
 use Rattle.files.proofs.removing.remove_at.Statement.{statement}
 use Rattle.files.proofs.removing.remove_at.Tie as tie
 

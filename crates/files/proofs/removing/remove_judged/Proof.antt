@@ -5,8 +5,8 @@ use Prim.Native.Nat.{_-_}
 use borrow.Author.Needs.{needs}
 use borrow.Author.Tests.{not-false}
 use Rattle.laws.specs.Tests.{not-was}
-use Rattle.files.specs.Laws.Ends.{end-within}
-use Rattle.files.specs.Laws.Judged.{gave-refused, gave-done, remove-name, remove-none, remove-done}
+use Rattle.files.specs.Laws.Judging.Ends.{end-within}
+use Rattle.files.specs.Laws.Calling.Judged.{gave-refused, gave-done, remove-name, remove-none, remove-done}
 use Rattle.files.proofs.removing.remove_judged.Statement.{statement}
 use Rattle.files.proofs.removing.remove_judged.Tie as tie
 

@@ -4,7 +4,7 @@ use mathlib.Core.Path.{_≡_, refl}
 use lib.ListN.{length}
 use borrow.Author.Needs.{needs}
 use Rattle.laws.specs.Tab.{tab}
-use Rattle.files.specs.Laws.Steps.{entry-row}
+use Rattle.files.specs.Laws.Writing.Steps.{entry-row}
 use Rattle.files.proofs.steps.entry_bytes.Statement.{statement}
 use Rattle.files.proofs.steps.entry_bytes.Tie as tie
 

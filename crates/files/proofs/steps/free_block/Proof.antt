@@ -6,7 +6,7 @@ use borrow.Author.Needs.{needs}
 use borrow.Author.Tests.{not-false}
 use Rattle.laws.specs.Tests.{not-was}
 use Rattle.file_rules.specs.Map.{bears}
-use Rattle.files.specs.Laws.Given.{freed-not, freed-yes}
+use Rattle.files.specs.Laws.Writing.Given.{freed-not, freed-yes}
 use Rattle.files.proofs.steps.free_block.Statement.{statement}
 use Rattle.files.proofs.steps.free_block.Tie as tie
 

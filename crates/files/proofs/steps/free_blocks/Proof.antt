@@ -5,7 +5,7 @@ use Prim.Native.Nat.{_-_, _≤_}
 use native.Mathlib.Omega.{arith}
 use lib.ListN.{length}
 use borrow.Author.Needs.{needs}
-use Rattle.files.specs.Laws.Given.{freed-none, freed-more}
+use Rattle.files.specs.Laws.Writing.Given.{freed-none, freed-more}
 use Rattle.file_rules.specs.Disk.{diskOf, imageOf}
 use Rattle.file_rules.specs.Written.{freeBlocks}
 use Rattle.files.proofs.steps.free_blocks.Statement.{statement}

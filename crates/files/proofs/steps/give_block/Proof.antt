@@ -2,7 +2,7 @@
 -- Assumes nothing.
 use Prim.Native.Nat.{_-_}
 use borrow.Author.Needs.{needs}
-use Rattle.files.specs.Laws.Given.{given-written}
+use Rattle.files.specs.Laws.Writing.Given.{given-written}
 use Rattle.files.proofs.steps.give_block.Statement.{statement}
 use Rattle.files.proofs.steps.give_block.Tie as tie
 

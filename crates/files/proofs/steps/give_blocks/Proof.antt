@@ -8,10 +8,10 @@ use lib.ListN.{length}
 use borrow.Author.Needs.{needs}
 use Rattle.file_rules.specs.Map.{isFree}
 use Rattle.file_rules.specs.declared.MapRecord.{MapRecord}
-use Rattle.files.specs.Laws.Given.{Walked, walked-none, walked-asked, walked-given, asked-below}
+use Rattle.files.specs.Laws.Writing.Given.{Walked, walked-none, walked-asked, walked-given, asked-below}
 use Rattle.file_rules.specs.Disk.{diskOf}
-use Rattle.files.specs.Laws.Loaded.{Mapped}
-use Rattle.files.specs.Laws.Steps.{storedRow}
+use Rattle.files.specs.Laws.Loading.Loaded.{Mapped}
+use Rattle.files.specs.Laws.Writing.Steps.{storedRow}
 use Rattle.files.proofs.steps.give_blocks.Statement.{statement}
 use Rattle.files.proofs.steps.give_blocks.Tie as tie
 

@@ -5,9 +5,9 @@ use Prim.Native.Nat.{ℕ, _+_, _-_, _*_, _≤_}
 use native.Mathlib.Omega.{arith}
 use lib.ListN.{length}
 use borrow.Author.Needs.{needs}
-use Rattle.files.specs.Laws.Stored.{patched, patched-none}
-use Rattle.files.specs.Laws.Steps.{storedRow, part-written}
-use Rattle.files.specs.Laws.Rows.{sector-next}
+use Rattle.files.specs.Laws.Writing.Stored.{patched, patched-none}
+use Rattle.files.specs.Laws.Writing.Steps.{storedRow, part-written}
+use Rattle.files.specs.Laws.Writing.Rows.{sector-next}
 use Rattle.file_rules.specs.Disk.{diskOf, imageOf}
 use Rattle.files.proofs.steps.put_part.Statement.{statement}
 use Rattle.files.proofs.steps.put_part.Tie as tie

@@ -5,8 +5,8 @@ use Prim.Native.Nat.{_+_, _-_, _≤_}
 use native.Mathlib.Omega.{arith}
 use lib.ListN.{length}
 use borrow.Author.Needs.{needs}
-use Rattle.files.specs.Laws.Stored.{patched-row}
-use Rattle.files.specs.Laws.Rows.{content-row, content-past, content-within}
+use Rattle.files.specs.Laws.Writing.Stored.{patched-row}
+use Rattle.files.specs.Laws.Writing.Rows.{content-row, content-past, content-within}
 use Rattle.files.proofs.steps.put_sector.Statement.{statement}
 use Rattle.files.proofs.steps.put_sector.Tie as tie
 

@@ -1,7 +1,7 @@
 -- `set_end` meets its contract.
 -- Assumes nothing.
 use borrow.Author.Needs.{needs}
-use Rattle.files.specs.Laws.Steps.{end-written}
+use Rattle.files.specs.Laws.Writing.Steps.{end-written}
 use Rattle.file_rules.specs.Written.{setWord}
 use Rattle.files.proofs.steps.set_end.Statement.{statement}
 use Rattle.files.proofs.steps.set_end.Tie as tie

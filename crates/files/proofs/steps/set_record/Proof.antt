@@ -2,7 +2,7 @@
 -- Assumes nothing.
 use mathlib.Core.Path.{_∙_}
 use borrow.Author.Needs.{needs}
-use Rattle.files.specs.Laws.Stored.{patched-row}
+use Rattle.files.specs.Laws.Writing.Stored.{patched-row}
 use Rattle.file_rules.specs.Map.{encode}
 use Rattle.file_rules.specs.Written.{setRecord}
 use Rattle.files.proofs.steps.set_record.Statement.{statement}

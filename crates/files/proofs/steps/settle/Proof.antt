@@ -2,7 +2,7 @@
 -- Assumes nothing.
 use Prim.Native.Nat.{_-_}
 use borrow.Author.Needs.{needs}
-use Rattle.files.specs.Laws.Given.{settled-written}
+use Rattle.files.specs.Laws.Writing.Given.{settled-written}
 use Rattle.files.proofs.steps.settle.Statement.{statement}
 use Rattle.files.proofs.steps.settle.Tie as tie
 

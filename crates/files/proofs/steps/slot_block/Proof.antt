@@ -3,7 +3,7 @@
 use mathlib.Core.Path.{_∙_}
 use Prim.Native.Nat.{_-_}
 use borrow.Author.Needs.{needs}
-use Rattle.files.specs.Laws.Loaded.{part-mapped}
+use Rattle.files.specs.Laws.Loading.Loaded.{part-mapped}
 use Rattle.files.proofs.steps.slot_block.Statement.{statement}
 use Rattle.files.proofs.steps.slot_block.Tie as tie
 

@@ -2,7 +2,7 @@
 -- Assumes nothing.
 use mathlib.Core.Path.{_∙_}
 use borrow.Author.Needs.{needs}
-use Rattle.files.specs.Laws.Steps.{stored-head, stored-rest}
+use Rattle.files.specs.Laws.Writing.Steps.{stored-head, stored-rest}
 use Rattle.files.proofs.steps.stored_byte.Statement.{statement}
 use Rattle.files.proofs.steps.stored_byte.Tie as tie
 

@@ -7,8 +7,8 @@ use lib.ListN.{length, getD, length-set}
 use borrow.Author.Needs.{needs}
 use borrow.Author.Count.{below-none}
 use Rattle.laws.specs.Tab.{eq-tab}
-use Rattle.files.specs.Laws.Steps.{storedRow}
-use Rattle.files.specs.Laws.Rows.{bytes-more}
+use Rattle.files.specs.Laws.Writing.Steps.{storedRow}
+use Rattle.files.specs.Laws.Writing.Rows.{bytes-more}
 use Rattle.files.proofs.steps.stored_sector.Statement.{statement}
 use Rattle.files.proofs.steps.stored_sector.Tie as tie
 

@@ -3,9 +3,9 @@
 use mathlib.Core.Path.{_∙_}
 use Prim.Native.Nat.{_-_}
 use borrow.Author.Needs.{needs}
-use Rattle.files.specs.Laws.Given.{slot-written}
+use Rattle.files.specs.Laws.Writing.Given.{slot-written}
 use Rattle.file_rules.specs.Directory.{entryByte}
-use Rattle.files.specs.Laws.Stored.{patched-row}
+use Rattle.files.specs.Laws.Writing.Stored.{patched-row}
 use Rattle.files.proofs.steps.write_entry.Statement.{statement}
 use Rattle.files.proofs.steps.write_entry.Tie as tie
 

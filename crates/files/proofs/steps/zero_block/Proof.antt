@@ -2,7 +2,7 @@
 -- Assumes nothing.
 use mathlib.Core.Path.{_∙_}
 use borrow.Author.Needs.{needs}
-use Rattle.files.specs.Laws.Steps.{zeros-written}
+use Rattle.files.specs.Laws.Writing.Steps.{zeros-written}
 use Rattle.files.proofs.steps.zero_block.Statement.{statement}
 use Rattle.files.proofs.steps.zero_block.Tie as tie
 

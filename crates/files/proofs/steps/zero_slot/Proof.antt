@@ -2,7 +2,7 @@
 -- Assumes nothing.
 use Prim.Native.Nat.{_-_}
 use borrow.Author.Needs.{needs}
-use Rattle.files.specs.Laws.Given.{slot-written}
+use Rattle.files.specs.Laws.Writing.Given.{slot-written}
 use Rattle.file_rules.specs.Written.{zeros}
 use Rattle.files.proofs.steps.zero_slot.Statement.{statement}
 use Rattle.files.proofs.steps.zero_slot.Tie as tie

@@ -2,8 +2,8 @@
 -- Assumes nothing.
 use mathlib.Core.Path.{refl, _∙_}
 use borrow.Author.Needs.{needs}
-use Rattle.files.specs.Laws.Steps.{put-row}
-use Rattle.files.specs.Laws.Rows.{row-written}
+use Rattle.files.specs.Laws.Writing.Steps.{put-row}
+use Rattle.files.specs.Laws.Writing.Rows.{row-written}
 use Rattle.files.proofs.store.put_run.Statement.{statement}
 use Rattle.files.proofs.store.put_run.Tie as tie
 

@@ -3,7 +3,7 @@
 use mathlib.Core.Path.{_∙_}
 use borrow.Author.Needs.{needs}
 use Rattle.laws.specs.Words.{highByte, high-row4}
-use Rattle.files.specs.Laws.Stored.{patched-row}
+use Rattle.files.specs.Laws.Writing.Stored.{patched-row}
 use Rattle.files.proofs.store.put_word4.Statement.{statement}
 use Rattle.files.proofs.store.put_word4.Tie as tie
 

@@ -5,8 +5,8 @@ use Prim.Native.Nat.{ℕ, _-_, _≤_}
 use native.Mathlib.Omega.{arith}
 use lib.ListN.{length}
 use borrow.Author.Needs.{needs}
-use Rattle.files.specs.Laws.Stored.{patched, patched-none}
-use Rattle.files.specs.Laws.Rows.{rows-next}
+use Rattle.files.specs.Laws.Writing.Stored.{patched, patched-none}
+use Rattle.files.specs.Laws.Writing.Rows.{rows-next}
 use Rattle.file_rules.specs.Disk.{diskOf, imageOf}
 use Rattle.files.proofs.store.zero_bytes.Statement.{statement}
 use Rattle.files.proofs.store.zero_bytes.Tie as tie

@@ -2,7 +2,7 @@
 -- Assumes nothing.
 use mathlib.Core.Path.{_∙_}
 use borrow.Author.Needs.{needs}
-use Rattle.files.specs.Laws.Rows.{row-written}
+use Rattle.files.specs.Laws.Writing.Rows.{row-written}
 use Rattle.files.proofs.store.zero_run.Statement.{statement}
 use Rattle.files.proofs.store.zero_run.Tie as tie
 

@@ -1,7 +1,7 @@
 -- `counted_track` meets its contract.
 -- Assumes nothing.
 use borrow.Author.Needs.{needs}
-use Rattle.files.specs.Laws.Track.{counted-is}
+use Rattle.files.specs.Laws.Judging.Track.{counted-is}
 use Rattle.files.proofs.track.counted_track.Statement.{statement}
 use Rattle.files.proofs.track.counted_track.Tie as tie
 

@@ -3,7 +3,7 @@
 use mathlib.Core.Path.{sym, ap, _∙_}
 use borrow.Author.Needs.{needs}
 use Rattle.file_rules.specs.FirstTrack.{refusedTrack}
-use Rattle.files.specs.Laws.Track.{track-length, track-refused, track-passed}
+use Rattle.files.specs.Laws.Judging.Track.{track-length, track-refused, track-passed}
 use Rattle.files.proofs.track.first_track.Statement.{statement}
 use Rattle.files.proofs.track.first_track.Tie as tie
 

@@ -2,7 +2,7 @@
 -- Assumes nothing.
 use mathlib.Core.Path.{sym, _∙_}
 use borrow.Author.Needs.{needs}
-use Rattle.files.specs.Laws.Track.{track-header, track-map, track-free}
+use Rattle.files.specs.Laws.Judging.Track.{track-header, track-map, track-free}
 use Rattle.files.proofs.track.judge_track.Statement.{statement}
 use Rattle.files.proofs.track.judge_track.Tie as tie
 

@@ -2,7 +2,7 @@
 -- Assumes nothing.
 use mathlib.Core.Path.{sym, _∙_}
 use borrow.Author.Needs.{needs}
-use Rattle.sector_rules.specs.Laws.Packed.{hfe-header, hfe-table, hfe-track}
+use Rattle.sector_rules.specs.Laws.Base.Packed.{hfe-header, hfe-table, hfe-track}
 use Rattle.sectors.proofs.packing.hfe_byte.Statement.{statement}
 use Rattle.sectors.proofs.packing.hfe_byte.Tie as tie
 

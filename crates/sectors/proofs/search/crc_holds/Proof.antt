@@ -1,7 +1,7 @@
 -- `crc_holds` meets its contract.
 -- Assumes nothing.
 use borrow.Author.Needs.{needs}
-use Rattle.sector_rules.specs.Laws.Search.{crc-two}
+use Rattle.sector_rules.specs.Laws.Base.Search.{crc-two}
 use Rattle.sectors.proofs.search.crc_holds.Statement.{statement}
 use Rattle.sectors.proofs.search.crc_holds.Tie as tie
 

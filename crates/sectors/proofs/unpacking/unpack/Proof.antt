@@ -2,7 +2,7 @@
 -- Assumes nothing.
 use mathlib.Core.Path.{sym, _∙_}
 use borrow.Author.Needs.{needs}
-use Rattle.sector_rules.specs.Laws.Unpacked.{short-reply, length-reply, header-reply, table-reply, sound-reply, image-after}
+use Rattle.sector_rules.specs.Laws.Base.Unpacked.{short-reply, length-reply, header-reply, table-reply, sound-reply, image-after}
 use Rattle.sectors.proofs.unpacking.unpack.Statement.{statement}
 use Rattle.sectors.proofs.unpacking.unpack.Tie as tie
 

@@ -4,7 +4,7 @@ use mathlib.Core.Path.{sym, ap, _∙_}
 use native.Mathlib.Omega.{arith}
 use borrow.Author.Needs.{needs}
 use Rattle.cells.specs.declared.Item.the-variants.{Plain}
-use Rattle.sector_rules.specs.Laws.Packed.{sector-lead, sector-sync, sector-header, sector-gap, sector-zeros, sector-mark}
+use Rattle.sector_rules.specs.Laws.Base.Packed.{sector-lead, sector-sync, sector-header, sector-gap, sector-zeros, sector-mark}
 use Rattle.sectors.proofs.written.header_item.Statement.{statement}
 use Rattle.sectors.proofs.written.header_item.Tie as tie
 

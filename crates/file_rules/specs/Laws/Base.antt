@@ -1,0 +1,5 @@
+-- Stage 1: the definitions by themselves. The disk in block order and its image, disks given by header, records and contents, names, result buffers.
+pub mod Disk
+pub mod Whole
+pub mod Names
+pub mod Results

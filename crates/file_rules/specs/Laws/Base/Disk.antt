@@ -1,0 +1,130 @@
+-- Laws of the disk in block order: an image and its disk determine each other, and a byte written in the one is written in the other.
+-- Assumes nothing.
+use mathlib.Core.Path.{_≡_, sym, ap, ap₂, _∙_, fun-ext}
+use mathlib.Core.Logic.{_≢_}
+use mathlib.Core.List.{List}
+use Prim.Native.Nat.{ℕ, _+_, _*_, _/_, _%_, _≤_, _<_}
+use native.Mathlib.Omega.{arith}
+use lib.Dec.{ltb}
+use lib.ListN.{length, getD, set, length-set}
+use lib.Seq.{ext-getD, getD-set-same, getD-set-other}
+use Rattle.laws.specs.Change.{upd, upd-same, upd-other, upd₂-same, upd₂-other}
+use Rattle.laws.specs.Order.{by-order}
+use Rattle.laws.specs.Search.{tab-self}
+use Rattle.laws.specs.Tab.{tab, tab-length, tab-in, tab-ext}
+use Rattle.laws.specs.Tests.{lt-true, lt-false, by-equal, cond-true, cond-false, and-true, and-false-left, and-false-right}
+use Rattle.sector_rules.specs.Geometry.{sectorBytes, blockSectors, allSectors, blocks, imageBytes, running, imageSector, runningSector}
+use Rattle.sector_rules.specs.Laws.Base.Geometry.{image-lt, running-lt, running-image, image-running}
+use Rattle.file_rules.specs.Disk.{Disk, byteOf, blockOf, offsetOf, diskOf, imageOf, setByte}
+use Rattle.file_rules.specs.Sizes.{blockBytes}
+
+-- ---- a byte's two places
+
+module _ (b o : ℕ) (hb : b < blocks) (ho : o < blockBytes) where
+  abbrev run : ℕ
+  run = running b (o / sectorBytes)
+
+  run-lt : run < allSectors
+  run-lt = omega arith
+
+  pub byte-lt : byteOf b o < imageBytes
+  unfolding byteOf
+  byte-lt = omega (arith, image-lt run run-lt)
+
+  byte-run : runningSector (byteOf b o / sectorBytes) ≡ run
+  unfolding byteOf
+  byte-run =
+      let e : (imageSector run * sectorBytes + o % sectorBytes) / sectorBytes ≡ imageSector run = omega arith in
+      ap runningSector e ∙ running-image run run-lt
+
+  pub block-byte : blockOf (byteOf b o) ≡ b
+  unfolding blockOf
+  block-byte = ap (λ (x : ℕ). x / blockSectors) byte-run ∙ omega arith
+
+  byte-low : byteOf b o % sectorBytes ≡ o % sectorBytes
+  unfolding byteOf
+  byte-low = omega arith
+
+  pub offset-byte : offsetOf (byteOf b o) ≡ o
+  unfolding offsetOf
+  offset-byte = ap₂ (λ (x y : ℕ). x % blockSectors * sectorBytes + y) byte-run byte-low ∙ omega arith
+
+module _ (i : ℕ) (h : i < imageBytes) where
+  pub block-lt : blockOf i < blocks
+  unfolding blockOf
+  block-lt = omega (arith, running-lt (i / sectorBytes) (omega arith))
+
+  pub offset-lt : offsetOf i < blockBytes
+  unfolding offsetOf
+  offset-lt = omega arith
+
+  pub byte-is : byteOf (blockOf i) (offsetOf i) ≡ i
+  unfolding byteOf blockOf offsetOf
+  byte-is =
+      let r : ℕ = runningSector (i / sectorBytes) in
+      let e₁ : running (r / blockSectors) ((r % blockSectors * sectorBytes + i % sectorBytes) / sectorBytes) ≡ r = omega arith in
+      let e₂ : (r % blockSectors * sectorBytes + i % sectorBytes) % sectorBytes ≡ i % sectorBytes = omega arith in
+      ap₂ (λ (x y : ℕ). imageSector x * sectorBytes + y) e₁ e₂
+      ∙ ap (λ (x : ℕ). x * sectorBytes + i % sectorBytes) (image-running (i / sectorBytes) (omega arith))
+      ∙ omega arith
+
+pub length-image : (d : Disk) → length (imageOf d) ≡ imageBytes
+unfolding imageOf
+length-image d = tab-length (λ (i : ℕ). d (blockOf i) (offsetOf i)) imageBytes
+
+-- a disk with nothing outside its blocks is the disk of its image
+pub disk-image : (d : Disk) → ((b o : ℕ) → blocks ≤ b → d b o ≡ 0) → ((b o : ℕ) → blockBytes ≤ o → d b o ≡ 0) → diskOf (imageOf d) ≡ d
+unfolding diskOf imageOf
+disk-image d far out =
+    fun-ext (λ (b : ℕ). fun-ext (λ (o : ℕ).
+    by-order b blocks
+    (λ hb. by-order o blockBytes
+    (λ ho.
+    cond-true _ _ (and-true (lt-true hb) (lt-true ho))
+    ∙ tab-in (λ (i : ℕ). d (blockOf i) (offsetOf i)) imageBytes (byteOf b o) (byte-lt b o hb ho)
+    ∙ ap₂ d (block-byte b o hb ho) (offset-byte b o hb ho))
+    (λ k. cond-false _ _ (and-false-right (ltb b blocks) (lt-false k)) ∙ sym (out b o k)))
+    (λ k. cond-false _ _ (and-false-left (ltb o blockBytes) (lt-false k)) ∙ sym (far b o k))))
+
+pub image-disk : (l : List ℕ) → length l ≡ imageBytes → imageOf (diskOf l) ≡ l
+unfolding diskOf imageOf
+image-disk l e =
+    tab-ext (λ (i : ℕ). diskOf l (blockOf i) (offsetOf i)) (λ (i : ℕ). getD l i 0) imageBytes
+    (λ i h. cond-true _ _ (and-true (lt-true (block-lt i h)) (lt-true (offset-lt i h))) ∙ ap (λ (x : ℕ). getD l x 0) (byte-is i h))
+    ∙ ap (λ (n : ℕ). tab (λ (i : ℕ). getD l i 0) n) (sym e)
+    ∙ tab-self l
+
+-- ---- one byte written
+
+pub image-cong : (d d′ : Disk) → ((b o : ℕ) → b < blocks → o < blockBytes → d b o ≡ d′ b o) → imageOf d ≡ imageOf d′
+unfolding imageOf
+image-cong d d′ e =
+    tab-ext (λ (i : ℕ). d (blockOf i) (offsetOf i)) (λ (i : ℕ). d′ (blockOf i) (offsetOf i)) imageBytes
+    (λ i h. e (blockOf i) (offsetOf i) (block-lt i h) (offset-lt i h))
+
+pub image-set : (d : Disk) (b o v : ℕ) → b < blocks → o < blockBytes → set (imageOf d) (byteOf b o) v ≡ imageOf (setByte d b o v)
+unfolding imageOf setByte
+image-set d b o v hb ho =
+    let f : ℕ → ℕ = λ (i : ℕ). d (blockOf i) (offsetOf i) in
+    let g : ℕ → ℕ = λ (i : ℕ). setByte d b o v (blockOf i) (offsetOf i) in
+    let at : ℕ = byteOf b o in
+    let n : length (tab f imageBytes) ≡ imageBytes = tab-length f imageBytes in
+    ext-getD 0 (set (tab f imageBytes) at v) (tab g imageBytes) (length-set (tab f imageBytes) at v ∙ n ∙ sym (tab-length g imageBytes))
+    (λ i h.
+    let lt : i < imageBytes = omega (arith, length-set (tab f imageBytes) at v) in
+    by-equal i at
+    (λ e.
+    ap (λ (x : ℕ). getD (set (tab f imageBytes) at v) x 0) e
+    ∙ getD-set-same (tab f imageBytes) at v 0 (omega (arith, byte-lt b o hb ho))
+    ∙ sym (tab-in g imageBytes i lt
+    ∙ upd₂-same d b (upd (d b) o v) (blockOf i) (offsetOf i) (ap blockOf e ∙ block-byte b o hb ho)
+    ∙ upd-same (d b) o v (offsetOf i) (ap offsetOf e ∙ offset-byte b o hb ho)))
+    (λ e.
+    getD-set-other (tab f imageBytes) at i v 0 e
+    ∙ tab-in f imageBytes i lt
+    ∙ sym (tab-in g imageBytes i lt
+    ∙ by-equal (blockOf i) b
+    (λ p.
+    let q : offsetOf i ≢ o = λ z. e (sym (byte-is i lt) ∙ ap₂ byteOf p z) in
+    upd₂-same d b (upd (d b) o v) (blockOf i) (offsetOf i) p ∙ upd-other (d b) o v (offsetOf i) q ∙ ap (λ (x : ℕ). d x (offsetOf i)) (sym p))
+    (λ p. upd₂-other d b (upd (d b) o v) (blockOf i) (offsetOf i) p))))

@@ -1,0 +1,306 @@
+-- Every history gives in the model what it gives in the inner model.
+-- Assumes nothing.
+use mathlib.Core.Path.{_≡_, refl, sym, ap, ap₂, _∙_, subst, fun-ext}
+use mathlib.Core.Logic.{_≢_}
+use mathlib.Core.Bool.{Bool, true, false, cond}
+use mathlib.Core.List.{List, [], _∷_, _++_}
+use mathlib.Core.Option.{Option, none, some}
+use Prim.Native.Nat.{ℕ, zero, suc, _+_, _≤_, _<_}
+use native.Mathlib.Omega.{arith}
+use lib.Dec.{ltb}
+use lib.ListN.{length, getD}
+use Rattle.laws.specs.Change.{upd, upd-same, upd-other}
+use Rattle.laws.specs.Firsts.{firsts, firsts-picks, firsts-cong}
+use Rattle.laws.specs.Order.{by-order}
+use Rattle.laws.specs.Tests.{lt-true, lt-false, true-le, true≢false, by-equal, cond-true, cond-false, isSome}
+use Rattle.laws.specs.Truth.{by-test}
+use Rattle.sector_rules.specs.Geometry.{blocks}
+use Rattle.sector_rules.specs.Replies.{refusal}
+use Rattle.file_rules.specs.declared.Record.{Record}
+use Rattle.file_rules.specs.declared.Record.the-variants.{File}
+use Rattle.file_rules.specs.Calls.{Outcome, kept, freshOwner}
+use Rattle.file_rules.specs.Directory.{nameEq, nameRight}
+use Rattle.file_rules.specs.Histories.{Call, modelOut, modelStep, modelOuts, modelEnd, toAdd, toRemove, toList, toRead}
+use Rattle.file_rules.specs.Laws.OnImages.Add.{k-pos, k-none, by-growth, dir-parts, first-length, owned₁, parts₁-k, parts-after}
+use Rattle.file_rules.specs.Laws.InnerModel.Facts.{parts-none, found-slot}
+use Rattle.file_rules.specs.Laws.InnerModel.Inner.{Inner, present, fileBlocks, header, render, emptySlots, formatM, findM, emptySlot, give, freeOf, listM, readM, ChangedM, refusedM, removeAtM, removeM, growOwner, peakAfter, addAtM, roomFor, addM, stepM, outM, outsM, endM}
+use Rattle.file_rules.specs.Laws.InnerModel.Invariant.{partsOf, Inv}
+use Rattle.file_rules.specs.Laws.InModel.Listed.{blocksOf, withOwner, Listed, owner-is, give-listed, freed-listed, listed-cong}
+use Rattle.file_rules.specs.Laws.Base.Names.{name-bounds, name-is, name-so}
+use Rattle.file_rules.specs.Laws.OnImages.Remove.{parts-other, parts-gone}
+use Rattle.file_rules.specs.Laws.Base.Results.{result-is}
+use Rattle.file_rules.specs.Laws.OnImages.Run.{step-inv}
+use Rattle.file_rules.specs.Laws.Base.Whole.{with-is, with-only, with-same, unowned}
+use Rattle.file_rules.specs.Map.{isFree}
+use Rattle.file_rules.specs.Model.{NamedFile, HeldFile, Filled, Model, fileOf, takenBy, heldBlocks, presentIn, sizeIn, dirBlocks, usable, content, recordIn, modelHeader, modelDisk, modelFormat, acceptable, slotNamed, slotVacant, heldEntries, heldData, modelList, modelRead, wrap, peakThen, fits, freeIn, dirThen, fill, clear, ModelChanged, modelAdd, modelRemove}
+use Rattle.file_rules.specs.Sizes.{nameMost}
+use Rattle.file_rules.specs.Written.{blocksFor}
+
+file-none : (h : Option Filled) → fileOf h ≡ none → h ≡ none
+unfolding fileOf isSome
+file-none none e = refl
+file-none (some h) e = true≢false (isSome (fileOf (some h))) refl (ap isSome e)
+
+upd-file : (L : ℕ → Option Filled) (k : ℕ) (v : Option Filled) → upd (λ (j : ℕ). fileOf (L j)) k (fileOf v) ≡ (λ (j : ℕ). fileOf (upd L k v j))
+upd-file L k v =
+    fun-ext (λ (j : ℕ).
+    by-equal j k
+    (λ q. upd-same (λ (i : ℕ). fileOf (L i)) k (fileOf v) j q ∙ ap fileOf (sym (upd-same L k v j q)))
+    (λ q. upd-other (λ (i : ℕ). fileOf (L i)) k (fileOf v) j q ∙ ap fileOf (sym (upd-other L k v j q))))
+
+blocks-other : (L : ℕ → Option Filled) (dir : List ℕ) (k : ℕ) (v : Option Filled) (j : ℕ) → j ≢ k → blocksOf (upd L k v) dir j ≡ blocksOf L dir j
+unfolding blocksOf
+blocks-other L dir k v zero q = refl
+blocks-other L dir k v (suc j) q = ap takenBy (upd-other L k v (suc j) q)
+
+blocks-this : (L : ℕ → Option Filled) (dir : List ℕ) (k : ℕ) (v : Option Filled) → 0 < k → blocksOf (upd L k v) dir k ≡ takenBy v
+unfolding blocksOf
+blocks-this L dir zero v h = absurd (omega arith)
+blocks-this L dir (suc k) v h = ap takenBy (upd-same L (suc k) v (suc k) refl)
+
+blocks-empty : (L : ℕ → Option Filled) (dir : List ℕ) (k : ℕ) → 0 < k → L k ≡ none → blocksOf L dir k ≡ []
+unfolding blocksOf takenBy
+blocks-empty L dir zero h e = absurd (omega arith)
+blocks-empty L dir (suc k) h e = ap takenBy e
+
+module _ (b : Model) (o : ℕ → Record) (v : Inv (withOwner b o)) (r : Listed (b .slots) (b .dir) o (partsOf (withOwner b o))) where
+  abbrev m : Inner
+  m = withOwner b o
+
+  no-zero : b .slots 0 ≡ none
+  unfolding withOwner
+  no-zero = file-none (b .slots 0) (v .slot-zero)
+
+  past : (k : ℕ) → b .peak < k → partsOf m k ≡ 0
+  unfolding withOwner
+  past k h = parts-none m k (v .slot-past k h) (omega arith)
+
+  owner-same : (x : ℕ) → x < blocks → o x ≡ recordIn (b .slots) (b .dir) (b .peak) x
+  unfolding withOwner
+  owner-same x l = sym (owner-is (b .slots) (b .dir) o (partsOf m) (v .own) r no-zero (b .peak) past x l)
+
+  -- the book's image is the model's
+  pub image-same : render m ≡ modelDisk b
+  unfolding render modelDisk modelHeader sizeIn withOwner header fileBlocks
+  image-same =
+      let c = content (m .slots) (m .slots) in
+      with-only (header m) (recordIn (b .slots) (b .dir) (b .peak)) c (render m)
+      (with-same (render m) (header m) o c (with-is (header m) o c) (header m) (recordIn (b .slots) (b .dir) (b .peak)) c (λ i l. refl) owner-same (λ x i p l q. refl))
+
+  -- a reply looks at the slots alone
+  pub out-same : (c : Call) → outM m c ≡ modelOut b c
+  unfolding outM modelOut modelAdd modelRemove modelList modelRead addM removeM refusedM withOwner slotNamed findM fits roomFor listM readM peakThen peakAfter presentIn present sizeIn fileBlocks kept
+  out-same (toList buf) = result-is (heldEntries (m .slots) (suc (m .peak))) buf
+  out-same (toRead name buf) =
+      ap₂ (λ (t : Bool) (o : Outcome). cond t (cond (ltb (findM m name) (suc (m .peak))) o (kept buf (refusal 14))) (kept buf (refusal 12)))
+      (name-is name) (result-is (heldData (m .slots (findM m name))) buf)
+  out-same (toRemove name) =
+      ap (kept [])
+      (by-test (nameRight name)
+      (λ t. let u : acceptable name ≡ true = name-so name t in
+      by-order (findM m name) (suc (m .peak))
+      (λ h. ap (λ (c : ChangedM). c .answer) (cond-true _ _ t ∙ cond-true _ _ (lt-true h)) ∙ sym (ap (λ (c : ModelChanged). c .answer) (cond-true _ _ u ∙ cond-true _ _ (lt-true h))))
+      (λ h. ap (λ (c : ChangedM). c .answer) (cond-true _ _ t ∙ cond-false _ _ (lt-false h)) ∙ sym (ap (λ (c : ModelChanged). c .answer) (cond-true _ _ u ∙ cond-false _ _ (lt-false h)))))
+      (λ t. let u : acceptable name ≡ false = name-so name t in ap (λ (c : ChangedM). c .answer) (cond-false _ _ t) ∙ sym (ap (λ (c : ModelChanged). c .answer) (cond-false _ _ u))))
+  out-same (toAdd x) =
+      ap (kept [])
+      (by-test (nameRight (x .name))
+      (λ t. let u : acceptable (x .name) ≡ true = name-so (x .name) t in
+      by-order (findM m (x .name)) (suc (m .peak))
+      (λ h. ap (λ (c : ChangedM). c .answer) (cond-true _ _ t ∙ cond-true _ _ (lt-true h)) ∙ sym (ap (λ (c : ModelChanged). c .answer) (cond-true _ _ u ∙ cond-true _ _ (lt-true h))))
+      (λ h. by-test (roomFor m x)
+      (λ s. ap (λ (c : ChangedM). c .answer) (cond-true _ _ t ∙ cond-false _ _ (lt-false h) ∙ cond-true _ _ s) ∙ sym (ap (λ (c : ModelChanged). c .answer) (cond-true _ _ u ∙ cond-false _ _ (lt-false h) ∙ cond-true _ _ s)))
+      (λ s. ap (λ (c : ChangedM). c .answer) (cond-true _ _ t ∙ cond-false _ _ (lt-false h) ∙ cond-false _ _ s) ∙ sym (ap (λ (c : ModelChanged). c .answer) (cond-true _ _ u ∙ cond-false _ _ (lt-false h) ∙ cond-false _ _ s)))))
+      (λ t. let u : acceptable (x .name) ≡ false = name-so (x .name) t in ap (λ (c : ChangedM). c .answer) (cond-false _ _ t) ∙ sym (ap (λ (c : ModelChanged). c .answer) (cond-false _ _ u))))
+
+  -- what a step leaves: owners o′ of the next book, with the next model
+  abbrev Next : Inner → Model → Type 0
+  Next m′ b′ = (o′ : ℕ → Record) × (m′ ≡ withOwner b′ o′) × Listed (b′ .slots) (b′ .dir) o′ (partsOf m′)
+
+  stay : Next m b
+  stay = (o, refl, r)
+
+  remove-next : (k : ℕ) → 0 < k → k ≤ m .peak → Next (removeAtM m k) (clear b k)
+  unfolding removeAtM clear withOwner fileOf takenBy
+  remove-next k h l = (
+    (λ (x : ℕ). unowned k (o x)),
+    ap (λ (ls : ℕ → HeldFile). record {
+      title = b .title;
+      number = b .number;
+      updates = wrap (b .updates + 1);
+      peak = b .peak;
+      slots = ls;
+      owner = λ (x : ℕ). unowned k (o x);
+    }) (upd-file (b .slots) k none),
+    freed-listed (b .slots) (upd (b .slots) k none) (b .dir) (b .dir) o (partsOf m) r k (partsOf (removeAtM m k)) (parts-other m v k h l) (parts-gone m v k h l)
+        (λ j q. blocks-other (b .slots) (b .dir) k none j q) (blocks-this (b .slots) (b .dir) k none h),
+  )
+
+  module _ (x : NamedFile) (right : (1 ≤ length (x .name)) × (length (x .name) ≤ nameMost)) (new : suc (m .peak) ≤ findM m (x .name))
+      (room : dirBlocks (peakAfter m) + (fileBlocks m + blocksFor (length (x .content))) ≤ usable) where
+    abbrev k : ℕ
+    k = emptySlot m
+
+    abbrev owner₁ : ℕ → Record
+    owner₁ = growOwner m (peakAfter m)
+
+    abbrev parts₁ : ℕ → ℕ
+    parts₁ = upd (partsOf m) 0 (dirBlocks (peakAfter m))
+
+    abbrev n : ℕ
+    n = blocksFor (length (x .content))
+
+    first-same : firsts blocks 1 (freeIn (b .slots) (b .dir) (b .peak)) ≡ firsts blocks 1 (freeOf o)
+    unfolding freeIn freeOf
+    first-same = firsts-cong blocks 1 (freeIn (b .slots) (b .dir) (b .peak)) (freeOf o) (λ j l. ap isFree (sym (owner-same j l)))
+
+    listed₁ : Listed (b .slots) (dirThen b) owner₁ parts₁
+    unfolding dirThen growOwner withOwner peakThen presentIn peakAfter present blocksOf
+    listed₁ =
+        let first : List ℕ = firsts blocks 1 (freeOf o) in
+        by-growth m v
+        (λ t e q s.
+        let w : Listed (b .slots) (b .dir ++ first) (give o 0 (dirBlocks (m .peak)) first) (upd (partsOf m) 0 (dirBlocks (m .peak) + length first)) =
+        give-listed (b .slots) (b .slots) (b .dir) (b .dir ++ first) o (partsOf m) r first 0 (dirBlocks (m .peak)) 0 (firsts-picks blocks 1 (freeOf o))
+        (dir-parts m v x right new room) (λ j p. dir-other j p) refl in
+        let d : dirBlocks (m .peak) + length first ≡ dirBlocks (peakAfter m) = omega (arith, first-length m v x right new room s) in
+        let dd : dirThen b ≡ b .dir ++ first = cond-true _ _ t ∙ ap (λ (bs : List ℕ). b .dir ++ bs) first-same in
+        let oo : owner₁ ≡ give o 0 (dirBlocks (m .peak)) first = cond-true _ _ t in
+        subst (λ (z : List ℕ). Listed (b .slots) z owner₁ parts₁) (sym dd)
+        (subst (λ (z : ℕ → Record). Listed (b .slots) (b .dir ++ first) z parts₁) (sym oo)
+        (subst (λ (z : ℕ). Listed (b .slots) (b .dir ++ first) (give o 0 (dirBlocks (m .peak)) first) (upd (partsOf m) 0 z)) d w)))
+        (λ t s.
+        let dd : dirThen b ≡ b .dir = cond-false _ _ t in
+        let oo : owner₁ ≡ o = cond-false _ _ t in
+        subst (λ (z : List ℕ). Listed (b .slots) z owner₁ parts₁) (sym dd)
+        (subst (λ (z : ℕ → Record). Listed (b .slots) (b .dir) z parts₁) (sym oo)
+        (listed-cong (b .slots) (b .dir) o (partsOf m) parts₁
+        (λ f. by-equal f 0
+        (λ p. ap (partsOf m) p ∙ dir-parts m v x right new room ∙ sym s ∙ sym (upd-same (partsOf m) 0 (dirBlocks (peakAfter m)) f p))
+        (λ p. sym (upd-other (partsOf m) 0 (dirBlocks (peakAfter m)) f p))) r)))
+      where
+        dir-other : (j : ℕ) → j ≢ 0 → blocksOf (b .slots) (b .dir ++ firsts blocks 1 (freeOf o)) j ≡ blocksOf (b .slots) (b .dir) j
+        dir-other zero p = absurd (p refl)
+        dir-other (suc j) p = refl
+
+    past₁ : (j : ℕ) → b .peak < j → parts₁ j ≡ 0
+    past₁ j h = upd-other (partsOf m) 0 (dirBlocks (peakAfter m)) j (omega arith) ∙ past j h
+
+    rest-same : firsts blocks n (freeIn (b .slots) (dirThen b) (b .peak)) ≡ firsts blocks n (freeOf owner₁)
+    unfolding freeIn freeOf
+    rest-same =
+        firsts-cong blocks n (freeIn (b .slots) (dirThen b) (b .peak)) (freeOf owner₁)
+        (λ j l. ap isFree (owner-is (b .slots) (dirThen b) owner₁ parts₁ (owned₁ m v x right new room) listed₁ no-zero (b .peak) past₁ j l))
+
+    add-next : Next (addAtM m k x) (fill b k x)
+    unfolding addAtM fill withOwner fileOf takenBy peakThen presentIn peakAfter present
+    add-next =
+        let bs : List ℕ = firsts blocks n (freeIn (b .slots) (dirThen b) (b .peak)) in
+        let rest : List ℕ = firsts blocks n (freeOf owner₁) in
+        let h : Option Filled = some (record { file = x; taken = bs }) in
+        let o′ : ℕ → Record = give owner₁ k 0 rest in
+        let empty : b .slots k ≡ none = file-none (b .slots k) (k-none m v) in (
+          o′,
+          ap (λ (ls : ℕ → HeldFile). record {
+            title = b .title;
+            number = b .number;
+            updates = wrap (b .updates + 1);
+            peak = peakAfter m;
+            slots = ls;
+            owner = o′;
+          }) (upd-file (b .slots) k h),
+          listed-cong (upd (b .slots) k h) (dirThen b) o′ (upd parts₁ k (0 + length rest)) (partsOf (addAtM m k x)) (parts-after m v x right new room)
+              (give-listed (b .slots) (upd (b .slots) k h) (dirThen b) (dirThen b) owner₁ parts₁ listed₁ rest k 0 0 (firsts-picks blocks n (freeOf owner₁))
+              (parts₁-k m v x right new room)
+              (λ j q. blocks-other (b .slots) (dirThen b) k h j q)
+              (blocks-this (b .slots) (dirThen b) k h (k-pos m v) ∙ rest-same
+              ∙ ap (λ (l : List ℕ). l ++ rest) (sym (blocks-empty (b .slots) (dirThen b) k (k-pos m v) empty)))),
+        )
+
+  pub next : (c : Call) → Next (stepM m c) (modelStep b c)
+  unfolding stepM modelStep modelAdd modelRemove removeM addM refusedM withOwner slotNamed findM fits roomFor slotVacant emptySlot peakThen peakAfter presentIn present sizeIn fileBlocks
+  next (toList buf) = stay
+  next (toRead name buf) = stay
+  next (toRemove name) =
+      by-test (nameRight name)
+      (λ t. by-order (findM m name) (suc (m .peak))
+      (λ h.
+      let w : (x : NamedFile) × (m .slots (findM m name) ≡ some x) × (nameEq (x .name) name ≡ true) × (0 < findM m name) = found-slot m v name h in
+      let em : removeM m name .model ≡ removeAtM m (findM m name) = ap (λ (c : ChangedM). c .model) (cond-true _ _ t ∙ cond-true _ _ (lt-true h)) in
+      let eb : modelStep b (toRemove name) ≡ clear b (findM m name) = ap (λ (c : ModelChanged). c .model) (cond-true _ _ (name-so name t) ∙ cond-true _ _ (lt-true h)) in
+      subst (λ (z : Inner). Next z (modelStep b (toRemove name))) (sym em)
+      (subst (λ (z : Model). Next (removeAtM m (findM m name)) z) (sym eb) (remove-next (findM m name) (w .3) (omega arith))))
+      (λ h.
+      let em : removeM m name .model ≡ m = ap (λ (c : ChangedM). c .model) (cond-true _ _ t ∙ cond-false _ _ (lt-false h)) in
+      let eb : modelStep b (toRemove name) ≡ b = ap (λ (c : ModelChanged). c .model) (cond-true _ _ (name-so name t) ∙ cond-false _ _ (lt-false h)) in
+      subst (λ (z : Inner). Next z (modelStep b (toRemove name))) (sym em) (subst (λ (z : Model). Next m z) (sym eb) stay)))
+      (λ t.
+      let em : removeM m name .model ≡ m = ap (λ (c : ChangedM). c .model) (cond-false _ _ t) in
+      let eb : modelStep b (toRemove name) ≡ b = ap (λ (c : ModelChanged). c .model) (cond-false _ _ (name-so name t)) in
+      subst (λ (z : Inner). Next z (modelStep b (toRemove name))) (sym em) (subst (λ (z : Model). Next m z) (sym eb) stay))
+  next (toAdd x) =
+      by-test (nameRight (x .name))
+      (λ t. by-order (findM m (x .name)) (suc (m .peak))
+      (λ h.
+      let em : addM m x .model ≡ m = ap (λ (c : ChangedM). c .model) (cond-true _ _ t ∙ cond-true _ _ (lt-true h)) in
+      let eb : modelStep b (toAdd x) ≡ b = ap (λ (c : ModelChanged). c .model) (cond-true _ _ (name-so (x .name) t) ∙ cond-true _ _ (lt-true h)) in
+      subst (λ (z : Inner). Next z (modelStep b (toAdd x))) (sym em) (subst (λ (z : Model). Next m z) (sym eb) stay))
+      (λ h. by-test (roomFor m x)
+      (λ s.
+      let right : (1 ≤ length (x .name)) × (length (x .name) ≤ nameMost) = name-bounds (x .name) t in
+      let em : addM m x .model ≡ addAtM m (emptySlot m) x = ap (λ (c : ChangedM). c .model) (cond-true _ _ t ∙ cond-false _ _ (lt-false h) ∙ cond-true _ _ s) in
+      let eb : modelStep b (toAdd x) ≡ fill b (emptySlot m) x = ap (λ (c : ModelChanged). c .model) (cond-true _ _ (name-so (x .name) t) ∙ cond-false _ _ (lt-false h) ∙ cond-true _ _ s) in
+      subst (λ (z : Inner). Next z (modelStep b (toAdd x))) (sym em)
+      (subst (λ (z : Model). Next (addAtM m (emptySlot m) x) z) (sym eb) (add-next x right h (true-le s))))
+      (λ s.
+      let em : addM m x .model ≡ m = ap (λ (c : ChangedM). c .model) (cond-true _ _ t ∙ cond-false _ _ (lt-false h) ∙ cond-false _ _ s) in
+      let eb : modelStep b (toAdd x) ≡ b = ap (λ (c : ModelChanged). c .model) (cond-true _ _ (name-so (x .name) t) ∙ cond-false _ _ (lt-false h) ∙ cond-false _ _ s) in
+      subst (λ (z : Inner). Next z (modelStep b (toAdd x))) (sym em) (subst (λ (z : Model). Next m z) (sym eb) stay))))
+      (λ t.
+      let em : addM m x .model ≡ m = ap (λ (c : ChangedM). c .model) (cond-false _ _ t) in
+      let eb : modelStep b (toAdd x) ≡ b = ap (λ (c : ModelChanged). c .model) (cond-false _ _ (name-so (x .name) t)) in
+      subst (λ (z : Inner). Next z (modelStep b (toAdd x))) (sym em) (subst (λ (z : Model). Next m z) (sym eb) stay))
+
+-- ---- a history
+
+peak-same : (b : Model) (o : ℕ → Record) → withOwner b o .peak ≡ b .peak
+unfolding withOwner
+peak-same b o = refl
+
+pub agree : (cs : List Call) (b : Model) (o : ℕ → Record) → Inv (withOwner b o) → Listed (b .slots) (b .dir) o (partsOf (withOwner b o))
+    → (outsM (withOwner b o) cs ≡ modelOuts b cs) × (render (endM (withOwner b o) cs) ≡ modelDisk (modelEnd b cs)) × (endM (withOwner b o) cs .peak ≡ modelEnd b cs .peak)
+unfolding outsM modelOuts endM modelEnd
+agree [] b o v r = (refl, image-same b o v r, peak-same b o)
+agree (c ∷ cs) b o v r =
+    let m : Inner = withOwner b o in
+    let w : (o′ : ℕ → Record) × (stepM m c ≡ withOwner (modelStep b c) o′) × Listed (modelStep b c .slots) (modelStep b c .dir) o′ (partsOf (stepM m c)) = next b o v r c in
+    let v′ : Inv (withOwner (modelStep b c) (w .0)) = subst Inv (w .1) (step-inv m v c) in
+    let r′ : Listed (modelStep b c .slots) (modelStep b c .dir) (w .0) (partsOf (withOwner (modelStep b c) (w .0))) =
+    subst (λ (z : Inner). Listed (modelStep b c .slots) (modelStep b c .dir) (w .0) (partsOf z)) (w .1) (w .2) in
+    let ih : (outsM (withOwner (modelStep b c) (w .0)) cs ≡ modelOuts (modelStep b c) cs)
+    × (render (endM (withOwner (modelStep b c) (w .0)) cs) ≡ modelDisk (modelEnd (modelStep b c) cs))
+    × (endM (withOwner (modelStep b c) (w .0)) cs .peak ≡ modelEnd (modelStep b c) cs .peak) = agree cs (modelStep b c) (w .0) v′ r′ in (
+      ap₂ (λ (x : Outcome) (xs : List Outcome). x ∷ xs) (out-same b o v r c) (ap (λ (z : Inner). outsM z cs) (w .1) ∙ ih .0),
+      ap (λ (z : Inner). render (endM z cs)) (w .1) ∙ ih .1,
+      ap (λ (z : Inner). endM z cs .peak) (w .1) ∙ ih .2,
+    )
+
+pub fresh-listed : (title : List ℕ) (number : ℕ)
+    → Listed (modelFormat title number .slots) (modelFormat title number .dir) freshOwner (partsOf (formatM title number))
+unfolding modelFormat formatM partsOf dirBlocks heldBlocks emptySlots blocksOf takenBy freshOwner
+fresh-listed title number = record { sizes = sizes; each = each }
+  where
+    sizes : (k : ℕ) → length (blocksOf (modelFormat title number .slots) (modelFormat title number .dir) k) ≡ partsOf (formatM title number) k
+    sizes zero = refl
+    sizes (suc k) = refl
+
+    each : (k s : ℕ) → s < partsOf (formatM title number) k
+        → (getD (blocksOf (modelFormat title number .slots) (modelFormat title number .dir) k) s 0 < blocks)
+        × (freshOwner (getD (blocksOf (modelFormat title number .slots) (modelFormat title number .dir) k) s 0) ≡ File k s)
+    each zero zero h = (omega arith, refl)
+    each zero (suc s) h = absurd (omega arith)
+    each (suc k) s h = absurd (omega arith)
+
+pub start-is : (title : List ℕ) (number : ℕ) → formatM title number ≡ withOwner (modelFormat title number) freshOwner
+unfolding formatM modelFormat withOwner emptySlots fileOf
+start-is title number = refl

@@ -1,0 +1,6 @@
+-- Stage 2: the inner model, which the proofs alone use, with an owner for each block; what holds of it throughout a history, and what is read of its disk.
+pub mod Inner
+pub mod Invariant
+pub mod Facts
+pub mod Owners
+pub mod Last

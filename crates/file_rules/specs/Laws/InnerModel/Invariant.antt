@@ -1,0 +1,42 @@
+-- What holds of the inner model throughout a history.
+-- Assumes nothing.
+use mathlib.Core.Path.{_≡_}
+use mathlib.Core.Bool.{true}
+use mathlib.Core.Option.{none, some}
+use Prim.Native.Nat.{ℕ, zero, suc, _+_, _≤_, _<_}
+use lib.ListN.{length}
+use Rattle.laws.specs.Count.{count}
+use Rattle.sector_rules.specs.Geometry.{blocks}
+use Rattle.file_rules.specs.declared.Record.{Record}
+use Rattle.file_rules.specs.declared.Record.the-variants.{System, File}
+use Rattle.file_rules.specs.Directory.{nameEq}
+use Rattle.file_rules.specs.Laws.InnerModel.Inner.{Inner, fileBlocks, freeOf}
+use Rattle.file_rules.specs.Laws.Base.Whole.{Valid}
+use Rattle.file_rules.specs.Model.{NamedFile, heldBlocks, dirBlocks, usable}
+use Rattle.file_rules.specs.Sizes.{nameMost}
+
+-- how many blocks file f has
+unfoldable pub partsOf : Inner → ℕ → ℕ
+partsOf m zero = dirBlocks (m .peak)
+partsOf m (suc f) = heldBlocks (m .slots (suc f))
+
+-- the blocks are owned so that file f has `parts f` of them, each sequence once
+pub record Owned (owner : ℕ → Record) (parts : ℕ → ℕ) : Type 0 where
+  pub own-valid : (b : ℕ) → b < blocks → Valid (owner b)
+  pub own-zero : owner 0 ≡ System
+  pub own-system : (b : ℕ) → b < blocks → owner b ≡ System → b ≡ 0
+  pub own-below : (b f s : ℕ) → b < blocks → owner b ≡ File f s → s < parts f
+  pub own-part : (f s : ℕ) → s < parts f → (b : ℕ) × (b < blocks) × (owner b ≡ File f s)
+  pub own-once : (b b′ f s : ℕ) → b < blocks → b′ < blocks → owner b ≡ File f s → owner b′ ≡ File f s → b ≡ b′
+
+pub record Inv (m : Inner) : Type 0 where
+  pub own : Owned (m .owner) (partsOf m)
+  -- the slots
+  pub slot-zero : m .slots 0 ≡ none
+  pub slot-past : (k : ℕ) → m .peak < k → m .slots k ≡ none
+  pub slot-name : (k : ℕ) (x : NamedFile) → m .slots k ≡ some x → (1 ≤ length (x .name)) × (length (x .name) ≤ nameMost)
+  pub slot-once : (j k : ℕ) (x y : NamedFile) → m .slots j ≡ some x → m .slots k ≡ some y → nameEq (x .name) (y .name) ≡ true → j ≡ k
+  -- the counts
+  pub free-sum : count blocks (freeOf (m .owner)) + (dirBlocks (m .peak) + fileBlocks m) ≡ usable
+  pub peak-most : m .peak ≤ 460
+  pub updates-fit : m .updates < 4294967296

@@ -1,0 +1,4 @@
+-- Stage 3: calls on an image give what the inner model gives.
+pub mod Remove
+pub mod Add
+pub mod Run

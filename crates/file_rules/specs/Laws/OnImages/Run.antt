@@ -1,0 +1,229 @@
+-- Every history on an image gives what the inner model gives, outcome by outcome, and ends with its image.
+-- Assumes nothing.
+use mathlib.Core.Path.{_≡_, refl, sym, ap, ap₂, _∙_, subst}
+use mathlib.Core.Bool.{true}
+use mathlib.Core.List.{List, [], _∷_}
+use mathlib.Core.Option.{some}
+use Prim.Native.Nat.{ℕ, zero, suc, _-_, _*_, _≤_, _<_}
+use native.Mathlib.Omega.{arith}
+use lib.Dec.{ltb}
+use lib.ListN.{length}
+use Rattle.laws.specs.Count.{count, sum}
+use Rattle.laws.specs.Order.{by-order}
+use Rattle.laws.specs.Tests.{lt-true, lt-false, eq-true, true-le, true≢false, cond-true, cond-false, isSome}
+use Rattle.laws.specs.Truth.{by-test}
+use Rattle.sector_rules.specs.Geometry.{blockSectors, blocks}
+use Rattle.sector_rules.specs.Replies.{reply, done, refusal}
+use Rattle.file_rules.specs.declared.Record.{Record}
+use Rattle.file_rules.specs.declared.Record.the-variants.{Free, System, File, Other}
+use Rattle.file_rules.specs.Calls.{Outcome, Changed, Written, kept, refused, unless, imageRight, freshOwner, formatDisk, listDisk, list, readDisk, read, addDisk, imaged, add, removeDisk, remove}
+use Rattle.file_rules.specs.Directory.{nameEq, nameRight}
+use Rattle.file_rules.specs.Disk.{Disk, diskOf, imageOf}
+use Rattle.file_rules.specs.Histories.{Call, imageOut, imageStep, imageOuts, imageEnd, toAdd, toRemove, toList, toRead}
+use Rattle.file_rules.specs.Laws.OnImages.Add.{room-is, add-inv, add-image}
+use Rattle.file_rules.specs.Laws.Base.Disk.{length-image, disk-image}
+use Rattle.file_rules.specs.Laws.InnerModel.Facts.{dirEnd-is, findName-is, vacantSlot-is, judged-none, found-slot, list-is, read-is}
+use Rattle.file_rules.specs.Laws.InnerModel.Inner.{Inner, fileBlocks, header, render, emptySlots, formatM, findM, emptySlot, freeOf, ChangedM, refusedM, removeAtM, removeM, addAtM, roomFor, addM, stepM, outM, outsM, endM}
+use Rattle.file_rules.specs.Laws.InnerModel.Invariant.{partsOf, Inv}
+use Rattle.file_rules.specs.Laws.Base.Names.{name-bounds}
+use Rattle.file_rules.specs.Laws.OnImages.Remove.{remove-inv, remove-image}
+use Rattle.file_rules.specs.Laws.Base.Whole.{Valid, with-is, with-only, with-same}
+use Rattle.file_rules.specs.Map.{isFree, isSystem}
+use Rattle.file_rules.specs.Model.{NamedFile, heldBlocks, dirBlocks, freeWord, slotOf, bytesOf, dirByte, content}
+use Rattle.file_rules.specs.Sizes.{blockBytes, nameMost}
+use Rattle.file_rules.specs.Written.{headerByte, part}
+
+-- ---- format
+
+blank : (r : Record) (o : ℕ) → content emptySlots emptySlots r o ≡ 0
+unfolding content dirByte slotOf bytesOf part emptySlots
+blank Free o = refl
+blank System o = refl
+blank Other o = refl
+blank (File zero s) o = refl
+blank (File (suc f) s) o = by-test (ltb o blockBytes) (λ t. cond-true _ _ t) (λ t. cond-false _ _ t)
+
+pub format-is : (title : List ℕ) (number : ℕ) → formatDisk title number ≡ render (formatM title number)
+unfolding formatDisk render formatM header freeWord fileBlocks dirBlocks sum heldBlocks emptySlots
+format-is title number =
+    with-only (headerByte title number 0 (blockSectors * (blocks - 2)) 1) freshOwner (content emptySlots emptySlots) (formatDisk title number)
+    (with-same (formatDisk title number) (headerByte title number 0 (blockSectors * (blocks - 2)) 1) freshOwner (λ (r : Record) (o : ℕ). 0)
+    (with-is (headerByte title number 0 (blockSectors * (blocks - 2)) 1) freshOwner (λ (r : Record) (o : ℕ). 0))
+    (headerByte title number 0 (blockSectors * (blocks - 2)) 1) freshOwner (content emptySlots emptySlots)
+    (λ o l. refl) (λ b l. refl) (λ b o i j l. sym (blank (freshOwner b) o)))
+
+fresh-valid : (b : ℕ) → Valid (freshOwner b)
+unfolding freshOwner
+fresh-valid zero = tt
+fresh-valid (suc zero) = (omega arith, omega arith)
+fresh-valid (suc (suc b)) = tt
+
+fresh-system : (b : ℕ) → freshOwner b ≡ System → b ≡ 0
+unfolding freshOwner isSystem
+fresh-system zero e = refl
+fresh-system (suc zero) e = true≢false (isSystem System) refl (ap isSystem (sym e))
+fresh-system (suc (suc b)) e = true≢false (isSystem System) refl (ap isSystem (sym e))
+
+fresh-file : (b f s : ℕ) → freshOwner b ≡ File f s → (b ≡ 1) × (f ≡ 0) × (s ≡ 0)
+unfolding freshOwner isSystem isFree
+fresh-file zero f s e = true≢false (isSystem System) refl (ap isSystem e)
+fresh-file (suc zero) f s e = (refl, cc, cc)
+fresh-file (suc (suc b)) f s e = true≢false (isFree Free) refl (ap isFree e)
+
+fresh-part : (title : List ℕ) (number f s : ℕ) → s < partsOf (formatM title number) f → (b : ℕ) × (b < blocks) × (freshOwner b ≡ File f s)
+unfolding freshOwner partsOf formatM dirBlocks heldBlocks emptySlots
+fresh-part title number zero s h = (1, omega arith, ap (File 0) (omega arith))
+fresh-part title number (suc f) s h = absurd (omega arith)
+
+pub format-inv : (title : List ℕ) (number : ℕ) → Inv (formatM title number)
+unfolding formatM partsOf dirBlocks fileBlocks heldBlocks emptySlots sum count freeOf freshOwner isFree isSome
+format-inv title number =
+    record {
+      own =
+          record {
+            own-valid = λ b l. fresh-valid b;
+            own-zero = refl;
+            own-system = λ b l e. fresh-system b e;
+            own-below = λ b f s l e.
+                let w : (b ≡ 1) × (f ≡ 0) × (s ≡ 0) = fresh-file b f s e in
+                subst (λ (g : ℕ). s < partsOf (formatM title number) g) (sym (w .1)) (omega (arith, w .2));
+            own-part = λ f s h. fresh-part title number f s h;
+            own-once = λ b b′ f s l l′ e e′. fresh-file b f s e .0 ∙ sym (fresh-file b′ f s e′ .0);
+          };
+      slot-zero = refl;
+      slot-past = λ k h. refl;
+      slot-name = λ k x e. true≢false (isSome (some x)) refl (ap isSome (sym e));
+      slot-once = λ j k x y e e′ n. true≢false (isSome (some x)) refl (ap isSome (sym e));
+      free-sum = refl;
+      peak-most = omega arith;
+      updates-fit = omega arith;
+    }
+
+-- ---- one call
+
+disked : ChangedM → Changed
+disked c = record { answer = c .answer; disk = render (c .model) }
+
+module _ (m : Inner) (v : Inv m) where
+  remove-is : (name : List ℕ) → (removeDisk (render m) name ≡ disked (removeM m name)) × Inv (removeM m name .model)
+  unfolding removeDisk removeM unless refused refusedM disked
+  remove-is name =
+      by-test (nameRight name)
+      (λ t. by-order (findM m name) (suc (m .peak))
+      (λ h.
+      let w : (x : NamedFile) × (m .slots (findM m name) ≡ some x) × (nameEq (x .name) name ≡ true) × (0 < findM m name) = found-slot m v name h in
+      let e : removeM m name ≡ record { answer = done; model = removeAtM m (findM m name) } = cond-true _ _ t ∙ cond-true _ _ (lt-true h) in (
+        rw (judged-none m v, findName-is m v name, dirEnd-is m v)
+            (cond-true _ _ t ∙ cond-true _ _ (lt-true h)
+            ∙ ap (λ (d : Disk). record { answer = done; disk = d }) (remove-image m v (findM m name) (w .3) (omega arith))
+            ∙ ap disked (sym e)),
+        subst (λ (c : ChangedM). Inv (c .model)) (sym e) (remove-inv m v (findM m name) (w .3) (omega arith)),
+      ))
+      (λ h.
+      let e : removeM m name ≡ refusedM m (refusal 14) = cond-true _ _ t ∙ cond-false _ _ (lt-false h) in (
+        rw (judged-none m v, findName-is m v name, dirEnd-is m v)
+            (cond-true _ _ t ∙ cond-false _ _ (lt-false h) ∙ ap disked (sym e)),
+        subst (λ (c : ChangedM). Inv (c .model)) (sym e) v,
+      )))
+      (λ t.
+      let e : removeM m name ≡ refusedM m (refusal 12) = cond-false _ _ t in (
+        rw (judged-none m v) (cond-false _ _ t ∙ ap disked (sym e)),
+        subst (λ (c : ChangedM). Inv (c .model)) (sym e) v,
+      ))
+
+  add-is : (x : NamedFile) → (addDisk (render m) (x .name) (x .date) (x .content) ≡ disked (addM m x)) × Inv (addM m x .model)
+  unfolding addDisk addM unless refused refusedM disked nameRight roomFor
+  add-is x =
+      by-test (nameRight (x .name))
+      (λ t. by-order (findM m (x .name)) (suc (m .peak))
+      (λ h.
+      let e : addM m x ≡ refusedM m (reply 13 (findM m (x .name)) 0 0) = cond-true _ _ t ∙ cond-true _ _ (lt-true h) in (
+        rw (judged-none m v, findName-is m v (x .name), dirEnd-is m v) (cond-true _ _ t ∙ cond-true _ _ (lt-true h) ∙ ap disked (sym e)),
+        subst (λ (c : ChangedM). Inv (c .model)) (sym e) v,
+      ))
+      (λ h. by-test (roomFor m x)
+      (λ r.
+      let right : (1 ≤ length (x .name)) × (length (x .name) ≤ nameMost) = name-bounds (x .name) t in
+      let e : addM m x ≡ record { answer = done; model = addAtM m (emptySlot m) x } =
+      cond-true _ _ t ∙ cond-false _ _ (lt-false h) ∙ cond-true _ _ r in (
+        rw (judged-none m v, findName-is m v (x .name), dirEnd-is m v, vacantSlot-is m v)
+            (cond-true _ _ t ∙ cond-false _ _ (lt-false h) ∙ cond-true _ _ (sym (room-is m v x) ∙ r)
+            ∙ ap (λ (d : Disk). record { answer = done; disk = d }) (add-image m v x right h (true-le r))
+            ∙ ap disked (sym e)),
+        subst (λ (c : ChangedM). Inv (c .model)) (sym e) (add-inv m v x right h (true-le r)),
+      ))
+      (λ r.
+      let e : addM m x ≡ refusedM m (refusal 15) = cond-true _ _ t ∙ cond-false _ _ (lt-false h) ∙ cond-false _ _ r in (
+        rw (judged-none m v, findName-is m v (x .name), dirEnd-is m v, vacantSlot-is m v)
+            (cond-true _ _ t ∙ cond-false _ _ (lt-false h) ∙ cond-false _ _ (sym (room-is m v x) ∙ r) ∙ ap disked (sym e)),
+        subst (λ (c : ChangedM). Inv (c .model)) (sym e) v,
+      ))))
+      (λ t.
+      let e : addM m x ≡ refusedM m (refusal 12) = cond-false _ _ t in (
+        rw (judged-none m v) (cond-false _ _ t ∙ ap disked (sym e)),
+        subst (λ (c : ChangedM). Inv (c .model)) (sym e) v,
+      ))
+
+  -- ---- the same on the image
+
+  abbrev img : List ℕ
+  img = imageOf (render m)
+
+  pub img-right : imageRight img ≡ true
+  unfolding imageRight
+  img-right = eq-true (length-image (render m))
+
+  pub img-disk : diskOf img ≡ render m
+  unfolding render
+  img-disk =
+      disk-image (render m) (with-is (header m) (m .owner) (content (m .slots) (m .slots)) .far)
+      (with-is (header m) (m .owner) (content (m .slots) (m .slots)) .out)
+
+  add-image-is : (x : NamedFile) → add img (x .name) (x .date) (x .content) ≡ record { answer = addM m x .answer; image = imageOf (render (addM m x .model)) }
+  unfolding add imaged disked
+  add-image-is x =
+      cond-true _ _ img-right ∙ ap (λ (d : Disk). imaged (addDisk d (x .name) (x .date) (x .content))) img-disk ∙ ap imaged (add-is x .0)
+
+  remove-image-is : (name : List ℕ) → remove img name ≡ record { answer = removeM m name .answer; image = imageOf (render (removeM m name .model)) }
+  unfolding remove imaged disked
+  remove-image-is name =
+      cond-true _ _ img-right ∙ ap (λ (d : Disk). imaged (removeDisk d name)) img-disk ∙ ap imaged (remove-is name .0)
+
+  pub out-is : (c : Call) → imageOut img c ≡ outM m c
+  unfolding imageOut outM list read
+  out-is (toAdd x) = ap (λ (w : Written). kept [] (w .answer)) (add-image-is x)
+  out-is (toRemove name) = ap (λ (w : Written). kept [] (w .answer)) (remove-image-is name)
+  out-is (toList buf) = cond-true _ _ img-right ∙ ap (λ (d : Disk). listDisk d buf) img-disk ∙ list-is m v buf
+  out-is (toRead name buf) = cond-true _ _ img-right ∙ ap (λ (d : Disk). readDisk d name buf) img-disk ∙ read-is m v name buf
+
+  pub step-is : (c : Call) → imageStep img c ≡ imageOf (render (stepM m c))
+  unfolding imageStep stepM
+  step-is (toAdd x) = ap (λ (w : Written). w .image) (add-image-is x)
+  step-is (toRemove name) = ap (λ (w : Written). w .image) (remove-image-is name)
+  step-is (toList buf) = refl
+  step-is (toRead name buf) = refl
+
+  pub step-inv : (c : Call) → Inv (stepM m c)
+  unfolding stepM
+  step-inv (toAdd x) = add-is x .1
+  step-inv (toRemove name) = remove-is name .1
+  step-inv (toList buf) = v
+  step-inv (toRead name buf) = v
+
+-- ---- a history
+
+pub runs : (cs : List Call) (m : Inner) → Inv m
+    → (imageOuts (imageOf (render m)) cs ≡ outsM m cs) × (imageEnd (imageOf (render m)) cs ≡ imageOf (render (endM m cs)))
+unfolding imageOuts outsM imageEnd endM
+runs [] m v = (refl, refl)
+runs (c ∷ cs) m v =
+    let ih : (imageOuts (imageOf (render (stepM m c))) cs ≡ outsM (stepM m c) cs) × (imageEnd (imageOf (render (stepM m c))) cs ≡ imageOf (render (endM (stepM m c) cs))) =
+    runs cs (stepM m c) (step-inv m v c) in (
+      ap₂ (λ (o : Outcome) (os : List Outcome). o ∷ os) (out-is m v c) (ap (λ (l : List ℕ). imageOuts l cs) (step-is m v c) ∙ ih .0),
+      ap (λ (l : List ℕ). imageEnd l cs) (step-is m v c) ∙ ih .1,
+    )
+
+pub end-inv : (cs : List Call) (m : Inner) → Inv m → Inv (endM m cs)
+unfolding endM
+end-inv [] m v = v
+end-inv (c ∷ cs) m v = end-inv cs (stepM m c) (step-inv m v c)

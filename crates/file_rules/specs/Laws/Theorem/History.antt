@@ -1,0 +1,235 @@
+-- history: demand 3 holds.
+-- Assumes nothing.
+use mathlib.Core.Path.{_≡_, refl, sym, ap, ap₂, _∙_, subst}
+use mathlib.Core.Bool.{Bool, true, false, cond}
+use mathlib.Core.List.{List, []}
+use mathlib.Core.Option.{none, some}
+use Prim.Native.Nat.{ℕ, suc, _+_, _≤_, _<_, max}
+use native.Mathlib.Omega.{arith}
+use lib.Dec.{leb}
+use lib.ListN.{length}
+use Rattle.laws.specs.Count.{count}
+use Rattle.laws.specs.Numbers.{at16}
+use Rattle.laws.specs.Order.{by-order}
+use Rattle.laws.specs.Search.{lowest-low}
+use Rattle.laws.specs.Tests.{lt-true, lt-false, le-true, eq-true, true≢false, cond-true, cond-false, isSome}
+use Rattle.laws.specs.Truth.{by-test}
+use Rattle.sector_rules.specs.Geometry.{imageBytes}
+use Rattle.sector_rules.specs.Replies.{done, refusal}
+use Rattle.file_rules.specs.Calls.{Outcome, Written, kept, unless, imageRight, freshOwner, formatDisk, format, check, deliver, read, add}
+use Rattle.file_rules.specs.Check.{judged}
+use Rattle.file_rules.specs.Directory.{nameEq, nameRight, held, dirEnd}
+use Rattle.file_rules.specs.Disk.{Disk, diskOf, imageOf}
+use Rattle.file_rules.specs.Histories.{Call, imageOut, imageOuts, imageEnd, modelOuts, modelEnd, filesLeft, mostPresent, sizeOf, fileNamed, Present, toAdd, toRead}
+use Rattle.file_rules.specs.History.{dataFound, HasEntry, Belongs, Holds, formatted, History}
+use Rattle.file_rules.specs.Laws.InModel.Agree.{agree, fresh-listed, start-is}
+use Rattle.file_rules.specs.Laws.Base.Disk.{length-image}
+use Rattle.file_rules.specs.Laws.InnerModel.Facts.{dirEnd-is, word20, held-is, judged-none, found-slot}
+use Rattle.file_rules.specs.Laws.InnerModel.Inner.{Inner, present, fileBlocks, render, emptySlots, formatM, findM, readM, ChangedM, refusedM, peakAfter, roomFor, addM, outM, outsM, endM}
+use Rattle.file_rules.specs.Laws.InnerModel.Invariant.{partsOf, Inv}
+use Rattle.file_rules.specs.Laws.FilesLeft.Left.{count-is, left-is}
+use Rattle.file_rules.specs.Laws.InModel.Listed.{withOwner, Listed}
+use Rattle.file_rules.specs.Laws.FilesLeft.Present.{Fills, none-some, fills-size, fills-named, fills-not-named, fills-present, present-fills}
+use Rattle.file_rules.specs.Laws.Base.Names.{bounds-name}
+use Rattle.file_rules.specs.Laws.Base.Results.{result-is}
+use Rattle.file_rules.specs.Laws.OnImages.Run.{format-is, format-inv, img-right, img-disk, out-is, runs, end-inv}
+use Rattle.file_rules.specs.Laws.FilesLeft.Zero.{by-slot, filled-below, slot-entry, zero-outside}
+use Rattle.file_rules.specs.Model.{NamedFile, HeldFile, Model, dirBlocks, usable, freeWord, modelDisk, modelFormat, named, heldData}
+use Rattle.file_rules.specs.Sizes.{nameMost, titleMost}
+use Rattle.file_rules.specs.Written.{blocksFor}
+
+-- ---- the accepted format
+
+format-is-done : (old title : List ℕ) (number : ℕ) → length old ≡ imageBytes → length title ≤ titleMost
+    → format old title number ≡ record { answer = done; image = imageOf (formatDisk title number) }
+unfolding format imageRight
+format-is-done old title number long short = cond-true _ _ (eq-true long) ∙ cond-true _ _ (le-true short)
+
+fresh-fills : (title : List ℕ) (number : ℕ) → Fills (formatM title number .slots) []
+unfolding formatM emptySlots
+fresh-fills title number k = refl
+
+fresh-few : (title : List ℕ) (number : ℕ) → present (formatM title number) ≤ formatM title number .peak
+unfolding formatM emptySlots isSome present count
+fresh-few title number = omega arith
+
+fresh-peak : (title : List ℕ) (number : ℕ) → formatM title number .peak ≡ 0
+unfolding formatM
+fresh-peak title number = refl
+
+-- ---- what is read of the inner model at the end
+
+module _ (m : Inner) (v : Inv m) (fs : List NamedFile) (r : Fills (m .slots) fs) where
+  size-is : fileBlocks m ≡ sizeOf fs
+  unfolding fileBlocks
+  size-is = fills-size fs (m .slots) (suc (m .peak)) (λ k h. v .slot-past k h) r
+
+  -- a name that no slot has
+  no-slot : (name : List ℕ) → suc (m .peak) ≤ findM m name → (k : ℕ) (x : NamedFile) → m .slots k ≡ some x → nameEq (x .name) name ≡ false
+  unfolding findM named
+  no-slot name h k x e =
+      ap (named name) (sym e)
+      ∙ lowest-low (λ (j : ℕ). named name (m .slots j)) (suc (m .peak)) k (omega (arith, filled-below m v fs r k x e .1))
+
+  -- by whether a slot has it
+  by-name : {X : Type 0} (name : List ℕ)
+      → ((x : NamedFile) → findM m name < suc (m .peak) → m .slots (findM m name) ≡ some x → fileNamed name fs ≡ some x → X)
+      → (suc (m .peak) ≤ findM m name → fileNamed name fs ≡ none → X) → X
+  by-name name f g =
+      by-order (findM m name) (suc (m .peak))
+      (λ h.
+      let w : (x : NamedFile) × (m .slots (findM m name) ≡ some x) × (nameEq (x .name) name ≡ true) × (0 < findM m name) = found-slot m v name h in
+      f (w .0) h (w .1) (fills-named fs (m .slots) (λ i j y z a b n. v .slot-once i j y z a b n) (findM m name) (w .0) name (w .1) (w .2) r))
+      (λ h. g h (fills-not-named fs (m .slots) name (no-slot name h) r))
+
+  read-found : (name buf : List ℕ) → 1 ≤ length name → length name ≤ nameMost → readM m name buf ≡ dataFound (fileNamed name fs) buf
+  unfolding readM dataFound heldData kept
+  read-found name buf p q =
+      cond-true _ _ (bounds-name name p q)
+      ∙ by-name name
+      (λ x h e f. cond-true _ _ (lt-true h) ∙ ap (λ (l : HeldFile). deliver (heldData l) buf) e ∙ result-is (x .content) buf ∙ ap (λ (l : HeldFile). dataFound l buf) (sym f))
+      (λ h f. cond-false _ _ (lt-false h) ∙ ap (λ (l : HeldFile). dataFound l buf) (sym f))
+
+  add-found : (x : NamedFile) → 1 ≤ length (x .name) → length (x .name) ≤ nameMost → fileNamed (x .name) fs ≡ none → addM m x .answer ≡ cond (roomFor m x) done (refusal 15)
+  unfolding addM refusedM
+  add-found x p q n =
+      let t : nameRight (x .name) ≡ true = bounds-name (x .name) p q in
+      by-name (x .name)
+      (λ y h e f. absurd (none-some y (sym n ∙ f)))
+      (λ h f. by-test (roomFor m x)
+      (λ s. ap (λ (c : ChangedM). c .answer) (cond-true _ _ t ∙ cond-false _ _ (lt-false h) ∙ cond-true _ _ s) ∙ sym (cond-true _ _ s))
+      (λ s. ap (λ (c : ChangedM). c .answer) (cond-true _ _ t ∙ cond-false _ _ (lt-false h) ∙ cond-false _ _ s) ∙ sym (cond-false _ _ s)))
+
+  room-by : (x : NamedFile) → roomFor m x ≡ leb (dirBlocks (max (m .peak) (suc (length fs))) + (sizeOf fs + blocksFor (length (x .content)))) usable
+  unfolding roomFor peakAfter
+  room-by x =
+      ap₂ (λ (p s : ℕ). leb (dirBlocks (max (m .peak) (suc p)) + (s + blocksFor (length (x .content)))) usable) (count-is m v fs r) size-is
+
+  slot-of : (x : NamedFile) → Present x fs → (k : ℕ) × (0 < k) × (k < dirEnd (render m)) × HasEntry (render m) k x
+  slot-of x p =
+      let w : (k : ℕ) × (m .slots k ≡ some x) = present-fills fs (m .slots) x p r in
+      let b : (0 < w .0) × (w .0 ≤ m .peak) = filled-below m v fs r (w .0) x (w .1) in
+      (w .0, b .0, omega (arith, b .1, dirEnd-is m v), slot-entry m v fs r (w .0) x (w .1))
+
+  of-slot : (k : ℕ) → k < dirEnd (render m) → held (render m) k ≡ true → (x : NamedFile) × Present x fs × HasEntry (render m) k x
+  unfolding isSome
+  of-slot k l h =
+      let low : k ≤ m .peak = omega (arith, dirEnd-is m v) in
+      by-slot (m .slots k)
+      (λ e. true≢false (held (render m) k) h (held-is m v k low none e))
+      (λ x e. (x, fills-present fs (m .slots) k x e r, slot-entry m v fs r k x e))
+
+-- ---- the whole
+
+module _ (title : List ℕ) (number : ℕ) (calls : List Call) where
+  abbrev m₀ : Inner
+  m₀ = formatM title number
+
+  abbrev b₀ : Model
+  b₀ = modelFormat title number
+
+  abbrev m : Inner
+  m = endM m₀ calls
+
+  abbrev os : List Outcome
+  os = outsM m₀ calls
+
+  abbrev fs : List NamedFile
+  fs = filesLeft [] calls os
+
+  abbrev P : ℕ
+  P = mostPresent [] calls os
+
+  v : Inv m
+  v = end-inv calls m₀ (format-inv title number)
+
+  both : Fills (m .slots) fs × (m .peak ≡ max (m₀ .peak) P)
+  both = left-is calls m₀ [] (format-inv title number) (fresh-fills title number) (fresh-few title number)
+
+  peak-most-is : m .peak ≡ P
+  peak-most-is = omega (arith, both .1, fresh-peak title number)
+
+  with-model : (os ≡ modelOuts b₀ calls) × (render m ≡ modelDisk (modelEnd b₀ calls)) × (m .peak ≡ modelEnd b₀ calls .peak)
+  with-model =
+      let e : m₀ ≡ withOwner b₀ freshOwner = start-is title number in
+      let w : Inv (withOwner b₀ freshOwner) = subst Inv e (format-inv title number) in
+      let l : Listed (b₀ .slots) (b₀ .dir) freshOwner (partsOf (withOwner b₀ freshOwner)) =
+      subst (λ (z : Inner). Listed (b₀ .slots) (b₀ .dir) freshOwner (partsOf z)) e (fresh-listed title number) in
+      let h : (outsM (withOwner b₀ freshOwner) calls ≡ modelOuts b₀ calls)
+      × (render (endM (withOwner b₀ freshOwner) calls) ≡ modelDisk (modelEnd b₀ calls))
+      × (endM (withOwner b₀ freshOwner) calls .peak ≡ modelEnd b₀ calls .peak) = agree calls b₀ freshOwner w l in (
+        ap (λ (z : Inner). outsM z calls) e ∙ h .0,
+        ap (λ (z : Inner). render (endM z calls)) e ∙ h .1,
+        ap (λ (z : Inner). endM z calls .peak) e ∙ h .2,
+      )
+
+  abbrev img : List ℕ
+  img = imageOf (render m)
+
+  on-disk : diskOf img ≡ render m
+  on-disk = img-disk m v
+
+  holds : Holds title number calls img os fs P
+  holds =
+      record {
+        same-outs = with-model .0;
+        same-image = ap imageOf (with-model .1);
+        whole = length-image (render m);
+        read-gives = λ name buf p q. read-at name buf ∙ read-found m v fs (both .0) name buf p q;
+        has-slot = λ x p.
+            subst (λ (d : Disk). (k : ℕ) × (0 < k) × (k < dirEnd d) × HasEntry d k x) (sym on-disk) (slot-of m v fs (both .0) x p);
+        slot-has =
+            subst (λ (d : Disk). (k : ℕ) → k < dirEnd d → held d k ≡ true → (x : NamedFile) × Present x fs × HasEntry d k x) (sym on-disk)
+            (of-slot m v fs (both .0));
+        peak-is = sym (with-model .2) ∙ peak-most-is;
+        free-word =
+            ap (λ (d : Disk). at16 (d 0) 20) on-disk ∙ word20 m v ∙ ap₂ freeWord peak-most-is (size-is m v fs (both .0));
+        no-less = room-left;
+        add-gives = λ x p q n.
+            add-at x ∙ add-found m v fs (both .0) x p q n
+            ∙ ap (λ (b : Bool). cond b done (refusal 15)) (room-by m v fs (both .0) x ∙ ap (λ (p : ℕ). leb (dirBlocks (max p (suc (length fs))) + (sizeOf fs + blocksFor (length (x .content)))) usable) peak-most-is);
+        zero-else =
+            subst (λ (d : Disk). (b o : ℕ) → (Belongs d fs b o → ⊥) → d b o ≡ 0) (sym on-disk) (zero-outside m v fs (both .0));
+      }
+    where
+      read-at : (name buf : List ℕ) → read img name buf ≡ readM m name buf
+      read-at name buf = unfold imageOut outM in out-is m v (toRead name buf)
+
+      add-at : (x : NamedFile) → add img (x .name) (x .date) (x .content) .answer ≡ addM m x .answer
+      add-at x = unfold imageOut outM kept in ap (λ (o : Outcome). o .answer) (out-is m v (toAdd x))
+
+      room-left : dirBlocks P + sizeOf fs ≤ usable
+      room-left = omega (arith, v .free-sum, ap dirBlocks peak-most-is, size-is m v fs (both .0))
+
+pub history : History
+history old title number calls long short =
+    let f : format old title number ≡ record { answer = done; image = imageOf (formatDisk title number) } = format-is-done old title number long short in
+    let start : formatted old title number ≡ imageOf (render (formatM title number)) =
+    ap (λ (w : Written). w .image) f ∙ ap imageOf (format-is title number) in
+    let run : (imageOuts (imageOf (render (formatM title number))) calls ≡ outsM (formatM title number) calls)
+    × (imageEnd (imageOf (render (formatM title number))) calls ≡ imageOf (render (endM (formatM title number) calls))) =
+    runs calls (formatM title number) (format-inv title number) in
+    let e : imageEnd (formatted old title number) calls ≡ imageOf (render (endM (formatM title number) calls)) =
+    ap (λ (l : List ℕ). imageEnd l calls) start ∙ run .1 in
+    let o : imageOuts (formatted old title number) calls ≡ outsM (formatM title number) calls =
+    ap (λ (l : List ℕ). imageOuts l calls) start ∙ run .0 in (
+      ap (λ (w : Written). w .answer) f,
+      subst (λ (im : List ℕ). Holds title number calls im (imageOuts (formatted old title number) calls)
+          (filesLeft [] calls (imageOuts (formatted old title number) calls)) (mostPresent [] calls (imageOuts (formatted old title number) calls))) (sym e)
+          (subst (λ (xs : List Outcome). Holds title number calls (imageOf (render (endM (formatM title number) calls))) xs (filesLeft [] calls xs) (mostPresent [] calls xs)) (sym o)
+          (holds title number calls)),
+    )
+
+-- after every history the check passes
+pub history-check : (old title : List ℕ) (number : ℕ) (calls : List Call) → length old ≡ imageBytes → length title ≤ titleMost
+    → check (imageEnd (formatted old title number) calls) ≡ done
+unfolding check unless
+history-check old title number calls long short =
+    let n : Inner = endM (formatM title number) calls in
+    let w : Inv n = end-inv calls (formatM title number) (format-inv title number) in
+    let f : format old title number ≡ record { answer = done; image = imageOf (formatDisk title number) } = format-is-done old title number long short in
+    let e : imageEnd (formatted old title number) calls ≡ imageOf (render n) =
+    ap (λ (l : List ℕ). imageEnd l calls) (ap (λ (x : Written). x .image) f ∙ ap imageOf (format-is title number))
+    ∙ runs calls (formatM title number) (format-inv title number) .1 in
+    let none-found : judged (diskOf (imageOf (render n))) ≡ none = ap judged (img-disk n w) ∙ judged-none n w in
+    ap check e ∙ cond-true _ _ (img-right n w) ∙ rw none-found

@@ -1,0 +1,248 @@
+-- Laws of list and read: the parts of which the result is made, one after the other, and the calls by their cases.
+-- Assumes nothing.
+use mathlib.Core.Path.{_≡_, refl, sym, ap, ap₂, _∙_}
+use mathlib.Core.Logic.{_≢_}
+use mathlib.Core.Bool.{Bool, true, false, not, cond, _&&_}
+use mathlib.Core.List.{List, [], _++_}
+use mathlib.Core.Option.{Option, none, some}
+use Prim.Native.Nat.{ℕ, zero, suc, _+_, _-_, _*_, _/_, _%_, _≤_, _<_}
+use native.Mathlib.Nat.{zero-add, not-suc-le-zero}
+use native.Mathlib.Numerals.{add-one}
+use native.Mathlib.Omega.{arith}
+use lib.Dec.{leb, ltb, eqb}
+use lib.ListN.{length, getD, length-append, List·getD-append}
+use lib.Seq.{getD-append-add}
+use Rattle.laws.specs.Count.{count, count-yes, count-no}
+use Rattle.laws.specs.Overlay.{overlay, put, overlay-none, overlay-next, overlay-cong, overlay-length, put-tab}
+use Rattle.laws.specs.Tab.{tab, tab-length, elementAt}
+use Rattle.laws.specs.Tests.{by-equal, lt-true, lt-false, le-true, le-false, eq-true, eq-false, cond-true, cond-false}
+use Rattle.laws.specs.Truth.{by-test}
+use Rattle.sector_rules.specs.declared.Reply.{Reply}
+use Rattle.sector_rules.specs.Replies.{reply, refusal}
+use Rattle.sector_rules.specs.Geometry.{imageBytes}
+use Rattle.files.specs.declared.Verdict.{Verdict}
+use Rattle.files.specs.declared.Verdict.the-variants.{Passed, Refused}
+use Rattle.file_rules.specs.Sizes.{blockBytes, slotBytes, slotCount}
+use Rattle.file_rules.specs.Disk.{Disk, diskOf}
+use Rattle.file_rules.specs.Map.{partBlock, fileByte}
+use Rattle.file_rules.specs.Directory.{nameRight, slotByte, slotEntry, held, dirEnd, findName}
+use Rattle.file_rules.specs.Check.{judged}
+use Rattle.file_rules.specs.Calls.{Outcome, kept, unless, imageRight, wrongLength, deliver, entries, listDisk, list, dataOf, readDisk, read}
+use Rattle.files.specs.Laws.Loading.Slots.{Located, slotPlace, slot-row}
+use Rattle.files.specs.Laws.Judging.Verdict.{verdictOf, verdict-some, verdict-none}
+
+-- ---- put, one list after the other
+
+pub put-none : (d : List ℕ) (at : ℕ) → d ≡ put d at []
+unfolding put
+put-none d at = overlay-none d at (elementAt [] 0)
+
+pub put-append : (d out xs ys : List ℕ) → out ≡ put d 0 xs → put out (length xs) ys ≡ put d 0 (xs ++ ys)
+unfolding put elementAt
+put-append d out xs ys e =
+    let g : ℕ → ℕ = λ (k : ℕ). getD (xs ++ ys) (0 + k) 0 in
+    let low : out ≡ overlay d 0 (length xs) g =
+    e ∙ overlay-cong d 0 (length xs) (λ (k : ℕ). getD xs (0 + k) 0) g (λ k h. rw (zero-add k) (sym (List·getD-append xs ys 0 k h))) in
+    overlay-next d (length xs) (length ys) (λ (k : ℕ). getD ys (0 + k) 0) g out low
+    (λ k h. rw (zero-add k, zero-add (length xs + k)) (sym (getD-append-add xs ys k 0)))
+    ∙ ap (λ (n : ℕ). overlay d 0 n g) (sym (length-append xs ys))
+
+-- ---- the slots of a list
+
+-- what slot k adds to a list
+unfoldable pub slotPart : Disk → ℕ → List ℕ
+slotPart d k = cond (held d k) (tab (slotByte d k) slotBytes) []
+
+module _ (d : Disk) where
+  pub entries-more : (k : ℕ) → entries d (k + 1) ≡ entries d k ++ slotPart d k
+  unfolding entries slotPart
+  entries-more k = ap (entries d) (add-one k)
+
+  part-length-held : (k : ℕ) → held d k ≡ true → length (slotPart d k) ≡ slotBytes
+  unfolding slotPart
+  part-length-held k e = ap length (cond-true (tab (slotByte d k) slotBytes) [] e) ∙ tab-length (slotByte d k) slotBytes
+
+  pub part-vacant : (k : ℕ) → held d k ≡ false → slotPart d k ≡ []
+  unfolding slotPart
+  part-vacant k e = cond-false (tab (slotByte d k) slotBytes) [] e
+
+  pub part-held : (k : ℕ) → held d k ≡ true → slotBytes ≡ length (slotPart d k)
+  part-held k e = sym (part-length-held k e)
+
+  entries-step : (k : ℕ) → length (entries d (suc k)) ≡ length (entries d k) + length (slotPart d k)
+  unfolding entries slotPart
+  entries-step k = length-append (entries d k) (slotPart d k)
+
+  pub entries-length : (n : ℕ) → slotBytes * count n (held d) ≡ length (entries d n)
+  unfolding entries count
+  entries-length zero = refl
+  entries-length (suc n) =
+      by-test (held d n)
+      (λ t. omega (arith, entries-step n, entries-length n, count-yes n (held d) t, part-length-held n t))
+      (λ t. omega (arith, entries-step n, entries-length n, count-no n (held d) t, ap length (part-vacant n t)))
+
+  -- there is room for each slot where there is for all
+  pub entries-room : (n k : ℕ) → k < n → length (entries d k) + length (slotPart d k) ≤ length (entries d n)
+  entries-room zero k h = absurd (not-suc-le-zero h)
+  entries-room (suc n) k h =
+      by-equal k n
+      (λ q. rw q (omega (arith, entries-step n)))
+      (λ q. omega (arith, entries-step n, entries-room n k (omega arith)))
+
+-- a held slot copied from its row
+pub part-put : (image dir : List ℕ) (k : ℕ) → length image ≡ imageBytes → k < slotCount → Located dir (diskOf image) → held (diskOf image) k ≡ true
+    → (out : List ℕ) (c at : ℕ) → at ≡ slotPlace dir k → overlay out c slotBytes (elementAt image at) ≡ put out c (slotPart (diskOf image) k)
+unfolding slotPart
+part-put image dir k long hk l t out c at e =
+    overlay-cong out c slotBytes (elementAt image at) (slotByte (diskOf image) k)
+    (λ i h. ap (λ (x : ℕ). elementAt image x i) e ∙ sym (slot-row image dir k long hk l i h))
+    ∙ sym (put-tab out c (slotByte (diskOf image) k) slotBytes)
+    ∙ ap (put out c) (sym (cond-true (tab (slotByte (diskOf image) k) slotBytes) [] t))
+
+-- ---- delivery
+
+module _ (bytes buf : List ℕ) (n : ℕ) (e : n ≡ length bytes) where
+  fits : n ≤ length buf → deliver bytes buf ≡ record { answer = reply 0 (length bytes) 0 0; buffer = put buf 0 bytes }
+  unfolding deliver
+  fits h = cond-true _ _ (le-true {a = length bytes} {b = length buf} (omega arith))
+
+  misses : length buf < n → deliver bytes buf ≡ kept buf (reply 16 (length bytes) 0 0)
+  unfolding deliver
+  misses h = cond-false _ _ (le-false {a = length bytes} {b = length buf} (omega arith))
+
+  pub fits-answer : n ≤ length buf → reply 0 n 0 0 ≡ deliver bytes buf .answer
+  fits-answer h = ap (λ (x : ℕ). reply 0 x 0 0) e ∙ ap (λ (o : Outcome). o .answer) (sym (fits h))
+
+  pub fits-buffer : n ≤ length buf → put buf 0 bytes ≡ deliver bytes buf .buffer
+  fits-buffer h = ap (λ (o : Outcome). o .buffer) (sym (fits h))
+
+  pub misses-answer : length buf < n → reply 16 n 0 0 ≡ deliver bytes buf .answer
+  unfolding kept
+  misses-answer h = ap (λ (x : ℕ). reply 16 x 0 0) e ∙ ap (λ (o : Outcome). o .answer) (sym (misses h))
+
+  pub misses-buffer : length buf < n → buf ≡ deliver bytes buf .buffer
+  unfolding kept
+  misses-buffer h = ap (λ (o : Outcome). o .buffer) (sym (misses h))
+
+-- ---- a file's bytes
+
+pub file-run : (d : Disk) (k i j b : ℕ) → b ≡ partBlock d k ((slotBytes + i) / blockBytes) → (slotBytes + i) % blockBytes + j < blockBytes
+    → d b ((slotBytes + i) % blockBytes + j) ≡ fileByte d k (slotBytes + (i + j))
+unfolding fileByte
+file-run d k i j b e h =
+    let q : (slotBytes + (i + j)) / blockBytes ≡ (slotBytes + i) / blockBytes = omega arith in
+    let r : (slotBytes + (i + j)) % blockBytes ≡ (slotBytes + i) % blockBytes + j = omega arith in
+    ap (λ (x : ℕ). d x ((slotBytes + i) % blockBytes + j)) e
+    ∙ ap₂ (λ (x y : ℕ). d (partBlock d k x) y) (sym q) (sym r)
+
+module _ (d : Disk) (k : ℕ) where
+  pub data-length : (n : ℕ) → n ≡ slotEntry d k .length - slotBytes → n ≡ length (dataOf d k)
+  unfolding dataOf
+  data-length n e = e ∙ sym (tab-length (λ (i : ℕ). fileByte d k (slotBytes + i)) (slotEntry d k .length - slotBytes))
+
+  pub data-put : (buf : List ℕ) (n : ℕ) → n ≡ slotEntry d k .length - slotBytes
+      → overlay buf 0 n (λ (i : ℕ). fileByte d k (slotBytes + i)) ≡ put buf 0 (dataOf d k)
+  unfolding dataOf
+  data-put buf n e =
+      ap (λ (x : ℕ). overlay buf 0 x (λ (i : ℕ). fileByte d k (slotBytes + i))) e
+      ∙ sym (put-tab buf 0 (λ (i : ℕ). fileByte d k (slotBytes + i)) (slotEntry d k .length - slotBytes))
+
+-- ---- read of a sound disk
+
+unfoldable pub readSound : Disk → List ℕ → List ℕ → Outcome
+readSound d name buf =
+    cond (nameRight name)
+    (cond (ltb (findName d name) (dirEnd d)) (deliver (dataOf d (findName d name)) buf) (kept buf (refusal 14)))
+    (kept buf (refusal 12))
+
+module _ (d : Disk) (name buf : List ℕ) where
+  pub read-misnamed : nameRight name ≡ false → kept buf (refusal 12) ≡ readSound d name buf
+  unfolding readSound
+  read-misnamed t = sym (cond-false _ _ t)
+
+  module _ (t : nameRight name ≡ true) (k : ℕ) (e : k ≡ findName d name) (end : ℕ) (q : end ≡ dirEnd d) where
+    pub read-absent : end ≤ k → kept buf (refusal 14) ≡ readSound d name buf
+    unfolding readSound
+    read-absent h = sym (cond-true _ _ t ∙ cond-false _ _ (lt-false {a = findName d name} {b = dirEnd d} (omega arith)))
+
+    pub read-present : k < end → deliver (dataOf d k) buf ≡ readSound d name buf
+    unfolding readSound
+    read-present h =
+        ap (λ (x : ℕ). deliver (dataOf d x) buf) e
+        ∙ sym (cond-true _ _ t ∙ cond-true _ _ (lt-true {a = findName d name} {b = dirEnd d} (omega arith)))
+
+-- ---- the calls by their cases
+
+module _ (image buf : List ℕ) where
+  pub list-length : length image ≢ imageBytes → kept buf wrongLength ≡ list image buf
+  unfolding list imageRight
+  list-length h = sym (cond-false (listDisk (diskOf image) buf) (kept buf wrongLength) (eq-false h))
+
+  module _ (long : length image ≡ imageBytes) where
+    listed : list image buf ≡ unless (judged (diskOf image)) (kept buf) (deliver (entries (diskOf image) (dirEnd (diskOf image))) buf)
+    unfolding list listDisk imageRight
+    listed = cond-true (listDisk (diskOf image) buf) (kept buf wrongLength) (eq-true long)
+
+    pub list-refused : (r : Reply) → Refused r ≡ verdictOf (judged (diskOf image)) → kept buf r ≡ list image buf
+    unfolding unless
+    list-refused r e =
+        sym (listed ∙ ap (λ (v : Option Reply). unless v (kept buf) (deliver (entries (diskOf image) (dirEnd (diskOf image))) buf)) (verdict-some (judged (diskOf image)) r e))
+
+    pub list-passed : Passed ≡ verdictOf (judged (diskOf image)) → deliver (entries (diskOf image) (dirEnd (diskOf image))) buf ≡ list image buf
+    unfolding unless
+    list-passed e =
+        sym (listed ∙ ap (λ (v : Option Reply). unless v (kept buf) (deliver (entries (diskOf image) (dirEnd (diskOf image))) buf)) (verdict-none (judged (diskOf image)) e))
+
+module _ (image name buf : List ℕ) where
+  pub read-length : length image ≢ imageBytes → kept buf wrongLength ≡ read image name buf
+  unfolding read imageRight
+  read-length h = sym (cond-false (readDisk (diskOf image) name buf) (kept buf wrongLength) (eq-false h))
+
+  module _ (long : length image ≡ imageBytes) where
+    reads : read image name buf ≡ unless (judged (diskOf image)) (kept buf) (readSound (diskOf image) name buf)
+    unfolding read readDisk imageRight readSound
+    reads = cond-true (readDisk (diskOf image) name buf) (kept buf wrongLength) (eq-true long)
+
+    pub read-refused : (r : Reply) → Refused r ≡ verdictOf (judged (diskOf image)) → kept buf r ≡ read image name buf
+    unfolding unless
+    read-refused r e =
+        sym (reads ∙ ap (λ (v : Option Reply). unless v (kept buf) (readSound (diskOf image) name buf)) (verdict-some (judged (diskOf image)) r e))
+
+    pub read-passed : Passed ≡ verdictOf (judged (diskOf image)) → readSound (diskOf image) name buf ≡ read image name buf
+    unfolding unless
+    read-passed e =
+        sym (reads ∙ ap (λ (v : Option Reply). unless v (kept buf) (readSound (diskOf image) name buf)) (verdict-none (judged (diskOf image)) e))
+
+-- the parts of a call that leaves the buffer, and of one that is another
+pub kept-answer : (buf : List ℕ) (r : Reply) (o : Outcome) → kept buf r ≡ o → r ≡ o .answer
+unfolding kept
+kept-answer buf r o e = ap (λ (x : Outcome). x .answer) e
+
+pub kept-buffer : (buf : List ℕ) (r : Reply) (o : Outcome) → kept buf r ≡ o → buf ≡ o .buffer
+unfolding kept
+kept-buffer buf r o e = ap (λ (x : Outcome). x .buffer) e
+
+pub same-answer : (o o′ : Outcome) (r : Reply) → r ≡ o .answer → o ≡ o′ → r ≡ o′ .answer
+same-answer o o′ r e q = e ∙ ap (λ (x : Outcome). x .answer) q
+
+pub same-buffer : (o o′ : Outcome) (b : List ℕ) → b ≡ o .buffer → o ≡ o′ → b ≡ o′ .buffer
+same-buffer o o′ b e q = e ∙ ap (λ (x : Outcome). x .buffer) q
+
+-- ---- one slot more of a list
+
+module _ (d : Disk) (k c : ℕ) (e : c ≡ length (entries d k)) where
+  pub next-place : (r : ℕ) → r ≡ c + length (slotPart d k) → r ≡ length (entries d (k + 1))
+  next-place r q =
+      q ∙ ap (λ (x : ℕ). x + length (slotPart d k)) e ∙ sym (length-append (entries d k) (slotPart d k)) ∙ ap length (sym (entries-more d k))
+
+  pub next-put : (buf out out′ : List ℕ) → out ≡ put buf 0 (entries d k) → out′ ≡ put out c (slotPart d k) → out′ ≡ put buf 0 (entries d (k + 1))
+  next-put buf out out′ p q =
+      q ∙ ap (λ (x : ℕ). put out x (slotPart d k)) e ∙ put-append buf out (entries d k) (slotPart d k) p ∙ ap (put buf 0) (sym (entries-more d k))
+
+pub put-length : (d : List ℕ) (at : ℕ) (vs : List ℕ) → length (put d at vs) ≡ length d
+unfolding put
+put-length d at vs = overlay-length d at (length vs) (elementAt vs 0)
+
+pub entries-none : (d : Disk) (buf : List ℕ) → buf ≡ put buf 0 (entries d 0)
+unfolding entries
+entries-none d buf = put-none buf 0

@@ -1,0 +1,295 @@
+-- A fresh disk as it is written: zeros, then the header's 96 bytes, then the records from block 0 upwards.
+-- Assumes nothing.
+use mathlib.Core.Path.{_≡_, refl, sym, ap, ap₂, _∙_, subst}
+use mathlib.Core.Logic.{_≢_}
+use mathlib.Core.List.{List, [], _∷_}
+use Prim.Native.Nat.{ℕ, zero, suc, _+_, _-_, _*_, _/_, _%_, _≤_, _<_}
+use native.Mathlib.Nat.{zero-add, not-suc-le-zero, le-of-suc-le-suc}
+use native.Mathlib.Numerals.{add-one}
+use native.Mathlib.Omega.{arith}
+use lib.ListN.{length, getD, List·getD-eq-default}
+use Rattle.laws.specs.Change.{patch, upd₂-same, upd₂-other, patch-in, patch-below}
+use Rattle.laws.specs.Order.{by-order}
+use Rattle.laws.specs.Overlay.{overlay, overlay-length, overlay-in, overlay-before, overlay-after, overlay-is, overlay-all, put}
+use Rattle.laws.specs.Tab.{tab, elementAt}
+use Rattle.laws.specs.Tests.{by-equal, le-true, le-false, eq-true, eq-false, cond-true, cond-false}
+use Rattle.laws.specs.Words.{highByte}
+use Rattle.sector_rules.specs.Geometry.{tracks, sectors, blockSectors, turn, trackSectors, allSectors, blocks, imageBytes, sidePlace, backward}
+use Rattle.sector_rules.specs.Replies.{done, refusal}
+use Rattle.file_rules.specs.declared.Record.{Record}
+use Rattle.file_rules.specs.declared.Record.the-variants.{Free, System, File}
+use Rattle.file_rules.specs.Calls.{freshOwner, formatDisk, imageRight, unwritten, wrongLength, format}
+use Rattle.file_rules.specs.Check.{signature}
+use Rattle.file_rules.specs.Disk.{Disk, diskOf, imageOf}
+use Rattle.file_rules.specs.Laws.Base.Disk.{image-cong, image-disk}
+use Rattle.files.specs.Laws.Writing.Given.{near-set}
+use Rattle.files.specs.Laws.Writing.Steps.{Packs, overlay-tab, put-row, near-patched}
+use Rattle.files.specs.Laws.Writing.Stored.{Near, near-step, patched, patched-row}
+use Rattle.file_rules.specs.Laws.Base.Whole.{with-is}
+use Rattle.file_rules.specs.Map.{encode}
+use Rattle.file_rules.specs.Sizes.{slotBytes, mapStart, recordBytes, titleMost}
+use Rattle.file_rules.specs.Written.{fixedByte, headerByte, diskWith, setRecord}
+
+-- ---- the header, field by field
+
+-- signature, name padded with spaces, number
+unfoldable pub titled : List ℕ → List ℕ → ℕ → List ℕ
+titled h title number = overlay (overlay (put h 0 signature) 4 titleMost (λ (i : ℕ). getD title i 32)) 14 2 (highByte 2 number)
+
+-- the sizes of the disk kind and its turn
+unfoldable pub sized : List ℕ → List ℕ
+sized h =
+    overlay (overlay (overlay (overlay (overlay (overlay (overlay h
+    22 2 (highByte 2 allSectors))
+    24 2 (highByte 2 allSectors))
+    26 2 (highByte 2 sectors))
+    28 2 (highByte 2 trackSectors))
+    30 2 (highByte 2 tracks))
+    32 2 (highByte 2 blockSectors))
+    38 2 (highByte 2 turn)
+
+-- the two tables; no update yet, free sectors, and a directory of one slot
+unfoldable pub started : List ℕ → List ℕ
+started h =
+    overlay (overlay (overlay (overlay (put (put h 40 sidePlace) 58 backward)
+    16 4 (highByte 4 0))
+    20 2 (highByte 2 (blockSectors * (blocks - 2))))
+    34 2 (highByte 2 0))
+    36 2 (highByte 2 slotBytes)
+
+-- a header whole
+abbrev pub freshHeader : List ℕ → ℕ → ℕ → ℕ
+freshHeader title number = headerByte title number 0 (blockSectors * (blocks - 2)) 1
+
+pub header-row : (h₀ h₁ h₂ h₃ title : List ℕ) (number : ℕ) → h₀ ≡ tab (λ (i : ℕ). 0xFF) mapStart
+    → h₁ ≡ titled h₀ title number → h₂ ≡ sized h₁ → h₃ ≡ started h₂ → h₃ ≡ tab (freshHeader title number) mapStart
+unfolding headerByte fixedByte titled sized started signature sidePlace backward
+header-row h₀ h₁ h₂ h₃ title number e₀ e₁ e₂ e₃ =
+    let a₁ = put-row h₀ 0 signature 4 refl ∙ overlay-tab _ mapStart 0 4 _ _ e₀ in
+    let a₂ = overlay-tab _ mapStart 4 titleMost (λ (i : ℕ). getD title i 32) _ a₁ in
+    let a₃ = e₁ ∙ overlay-tab _ mapStart 14 2 (highByte 2 number) _ a₂ in
+    let b₁ = overlay-tab _ mapStart 22 2 (highByte 2 allSectors) _ a₃ in
+    let b₂ = overlay-tab _ mapStart 24 2 (highByte 2 allSectors) _ b₁ in
+    let b₃ = overlay-tab _ mapStart 26 2 (highByte 2 sectors) _ b₂ in
+    let b₄ = overlay-tab _ mapStart 28 2 (highByte 2 trackSectors) _ b₃ in
+    let b₅ = overlay-tab _ mapStart 30 2 (highByte 2 tracks) _ b₄ in
+    let b₆ = overlay-tab _ mapStart 32 2 (highByte 2 blockSectors) _ b₅ in
+    let b₇ = e₂ ∙ overlay-tab _ mapStart 38 2 (highByte 2 turn) _ b₆ in
+    let c₁ = put-row h₂ 40 sidePlace trackSectors refl ∙ overlay-tab _ mapStart 40 trackSectors (λ (i : ℕ). getD sidePlace i 0) _ b₇ in
+    let c₂ = put-row (put h₂ 40 sidePlace) 58 backward trackSectors refl ∙ overlay-tab _ mapStart 58 trackSectors (λ (i : ℕ). getD backward i 0) _ c₁ in
+    let c₃ = overlay-tab _ mapStart 16 4 (highByte 4 0) _ c₂ in
+    let c₄ = overlay-tab _ mapStart 20 2 (highByte 2 (blockSectors * (blocks - 2))) _ c₃ in
+    let c₅ = overlay-tab _ mapStart 34 2 (highByte 2 0) _ c₄ in
+    e₃ ∙ overlay-tab _ mapStart 36 2 (highByte 2 slotBytes) _ c₅
+
+-- inside a list the default does not matter
+getD-any : (l : List ℕ) (i a b : ℕ) → i < length l → getD l i a ≡ getD l i b
+getD-any [] i a b h = absurd (not-suc-le-zero h)
+getD-any (x ∷ l) zero a b h = refl
+getD-any (x ∷ l) (suc i) a b h = getD-any l i a b (le-of-suc-le-suc h)
+
+-- spaces, then the name over them
+module _ (h title : List ℕ) (short : length title ≤ titleMost) where
+  abbrev spaces : List ℕ
+  spaces = overlay h 4 titleMost (λ (i : ℕ). 32)
+
+  abbrev n : ℕ
+  n = length title
+
+  abbrev g : ℕ → ℕ
+  g = elementAt title 0
+
+  in-new : (k : ℕ) → 4 ≤ k → k < 4 + titleMost → k < length h → getD (overlay spaces 4 n g) k 0 ≡ getD title (k - 4) 32
+  unfolding elementAt
+  in-new k a b l =
+      by-order k (4 + n)
+      (λ m.
+      overlay-in spaces 4 n g k a m (omega (arith, overlay-length h 4 titleMost (λ (i : ℕ). 32)))
+      ∙ ap (λ (j : ℕ). getD title j 0) (zero-add (k - 4))
+      ∙ getD-any title (k - 4) 0 32 (omega arith))
+      (λ m.
+      overlay-after spaces 4 n g k m
+      ∙ overlay-in h 4 titleMost (λ (i : ℕ). 32) k a b l
+      ∙ sym (List·getD-eq-default title 32 (omega arith)))
+
+  pub padded : put spaces 4 title ≡ overlay h 4 titleMost (λ (i : ℕ). getD title i 32)
+  unfolding put
+  padded =
+      overlay-is h 4 titleMost (λ (i : ℕ). getD title i 32) (overlay spaces 4 n g) (overlay-length spaces 4 n g ∙ overlay-length h 4 titleMost (λ (i : ℕ). 32)) in-new
+      (λ k l. overlay-before spaces 4 n g k l ∙ overlay-before h 4 titleMost (λ (i : ℕ). 32) k l)
+      (λ k l. overlay-after spaces 4 n g k (omega arith) ∙ overlay-after h 4 titleMost (λ (i : ℕ). 32) k l)
+
+pub titled-is : (h title : List ℕ) (number : ℕ) (h₁ h₂ h₃ h₄ : List ℕ) → length title ≤ titleMost
+    → h₁ ≡ put h 0 signature → h₂ ≡ overlay h₁ 4 titleMost (λ (i : ℕ). 32) → h₃ ≡ put h₂ 4 title → h₄ ≡ overlay h₃ 14 2 (highByte 2 number)
+    → h₄ ≡ titled h title number
+unfolding titled
+titled-is h title number h₁ h₂ h₃ h₄ short e₁ e₂ e₃ e₄ =
+    e₄
+    ∙ ap (λ (l : List ℕ). overlay l 14 2 (highByte 2 number))
+    (e₃ ∙ ap (λ (l : List ℕ). put l 4 title) e₂ ∙ padded h₁ title short ∙ ap (λ (l : List ℕ). overlay l 4 titleMost (λ (i : ℕ). getD title i 32)) e₁)
+
+pub sized-is : (h h₁ h₂ h₃ h₄ h₅ h₆ h₇ : List ℕ)
+    → h₁ ≡ overlay h 22 2 (highByte 2 allSectors)
+    → h₂ ≡ overlay h₁ 24 2 (highByte 2 allSectors)
+    → h₃ ≡ overlay h₂ 26 2 (highByte 2 sectors)
+    → h₄ ≡ overlay h₃ 28 2 (highByte 2 trackSectors)
+    → h₅ ≡ overlay h₄ 30 2 (highByte 2 tracks)
+    → h₆ ≡ overlay h₅ 32 2 (highByte 2 blockSectors)
+    → h₇ ≡ overlay h₆ 38 2 (highByte 2 turn)
+    → h₇ ≡ sized h
+unfolding sized
+sized-is h h₁ h₂ h₃ h₄ h₅ h₆ h₇ e₁ e₂ e₃ e₄ e₅ e₆ e₇ =
+    e₇ ∙ ap (λ (l : List ℕ). overlay l 38 2 (highByte 2 turn)) (e₆ ∙ ap (λ (l : List ℕ). overlay l 32 2 (highByte 2 blockSectors)) (e₅ ∙ ap (λ (l : List ℕ). overlay l 30 2 (highByte 2 tracks)) (e₄ ∙ ap (λ (l : List ℕ). overlay l 28 2 (highByte 2 trackSectors)) (e₃ ∙ ap (λ (l : List ℕ). overlay l 26 2 (highByte 2 sectors)) (e₂ ∙ ap (λ (l : List ℕ). overlay l 24 2 (highByte 2 allSectors)) (e₁))))))
+
+pub started-is : (h h₁ h₂ h₃ h₄ h₅ h₆ : List ℕ)
+    → h₁ ≡ put h 40 sidePlace
+    → h₂ ≡ put h₁ 58 backward
+    → h₃ ≡ overlay h₂ 16 4 (highByte 4 0)
+    → h₄ ≡ overlay h₃ 20 2 (highByte 2 (blockSectors * (blocks - 2)))
+    → h₅ ≡ overlay h₄ 34 2 (highByte 2 0)
+    → h₆ ≡ overlay h₅ 36 2 (highByte 2 slotBytes)
+    → h₆ ≡ started h
+unfolding started
+started-is h h₁ h₂ h₃ h₄ h₅ h₆ e₁ e₂ e₃ e₄ e₅ e₆ =
+    e₆ ∙ ap (λ (l : List ℕ). overlay l 36 2 (highByte 2 slotBytes)) (e₅ ∙ ap (λ (l : List ℕ). overlay l 34 2 (highByte 2 0)) (e₄ ∙ ap (λ (l : List ℕ). overlay l 20 2 (highByte 2 (blockSectors * (blocks - 2)))) (e₃ ∙ ap (λ (l : List ℕ). overlay l 16 4 (highByte 4 0)) (e₂ ∙ ap (λ (l : List ℕ). put l 58 backward) (e₁)))))
+
+-- ---- the map, record by record
+
+unfoldable pub mapped : Disk → (ℕ → Record) → ℕ → Disk
+mapped d owner zero = d
+mapped d owner (suc n) = setRecord (mapped d owner n) n (owner n)
+
+pub near-mapped : (d e : Disk) → Near d e → (owner : ℕ → Record) (n : ℕ) → Near (mapped d owner n) (mapped e owner n)
+unfolding mapped
+near-mapped d e near owner zero = near
+near-mapped d e near owner (suc n) = near-set (mapped d owner n) (mapped e owner n) (near-mapped d e near owner n) n (owner n)
+
+pub mapped-none : (l : List ℕ) (owner : ℕ → Record) → length l ≡ imageBytes → l ≡ imageOf (mapped (diskOf l) owner 0)
+unfolding mapped
+mapped-none l owner e = sym (image-disk l e)
+
+pub mapped-more : (d : Disk) (owner : ℕ → Record) (n : ℕ) (l m : List ℕ) (r : Record)
+    → l ≡ imageOf (mapped d owner n) → m ≡ imageOf (setRecord (diskOf l) n r) → r ≡ owner n → m ≡ imageOf (mapped d owner (n + 1))
+unfolding mapped
+mapped-more d owner n l m r e q w =
+    near-step (λ (x : Disk). setRecord x n r) (λ x y z. near-set x y z n r) l m (mapped d owner n) e q
+    ∙ ap (λ (x : Record). imageOf (setRecord (mapped d owner n) n x)) w
+    ∙ ap (λ (k : ℕ). imageOf (mapped d owner k)) (sym (add-one n))
+
+module _ (d : Disk) (owner : ℕ → Record) where
+  mapped-other : (n b o : ℕ) → b ≢ 0 → mapped d owner n b o ≡ d b o
+  unfolding mapped setRecord
+  mapped-other zero b o z = refl
+  mapped-other (suc n) b o z =
+      upd₂-other (mapped d owner n) 0 (patch (mapped d owner n 0) (mapStart + recordBytes * n) recordBytes (encode (owner n))) b o z ∙ mapped-other n b o z
+
+  mapped-head : (n o : ℕ) → o < mapStart → mapped d owner n 0 o ≡ d 0 o
+  unfolding mapped setRecord
+  mapped-head zero o h = refl
+  mapped-head (suc n) o h =
+      upd₂-same (mapped d owner n) 0 (patch (mapped d owner n 0) (mapStart + recordBytes * n) recordBytes (encode (owner n))) 0 o refl
+      ∙ patch-below (mapped d owner n 0) (mapStart + recordBytes * n) recordBytes (encode (owner n)) o (omega arith)
+      ∙ mapped-head n o h
+
+  mapped-at : (n b i : ℕ) → b < n → i < 3 → mapped d owner n 0 (mapStart + recordBytes * b + i) ≡ encode (owner b) i
+  unfolding mapped setRecord
+  mapped-at zero b i h k = absurd (not-suc-le-zero h)
+  mapped-at (suc n) b i h k =
+      upd₂-same (mapped d owner n) 0 (patch (mapped d owner n 0) (mapStart + recordBytes * n) recordBytes (encode (owner n))) 0 (mapStart + recordBytes * b + i) refl
+      ∙ by-equal b n
+      (λ e.
+      let q : mapStart + recordBytes * b + i - (mapStart + recordBytes * n) ≡ i = omega arith in
+      patch-in (mapped d owner n 0) (mapStart + recordBytes * n) recordBytes (encode (owner n)) (mapStart + recordBytes * b + i) (omega arith) (omega arith)
+      ∙ ap₂ (λ (x j : ℕ). encode (owner x) j) (sym e) q)
+      (λ e.
+      patch-below (mapped d owner n 0) (mapStart + recordBytes * n) recordBytes (encode (owner n)) (mapStart + recordBytes * b + i) (omega arith)
+      ∙ mapped-at n b i (omega arith) k)
+
+pub fresh-zero : (b : ℕ) → b ≡ 0 → System ≡ freshOwner b
+unfolding freshOwner
+fresh-zero b e = ap freshOwner (sym e)
+
+pub fresh-one : (b : ℕ) → b ≡ 1 → File 0 0 ≡ freshOwner b
+unfolding freshOwner
+fresh-one b e = ap freshOwner (sym e)
+
+pub fresh-free : (b : ℕ) → b ≢ 0 → b ≢ 1 → Free ≡ freshOwner b
+unfolding freshOwner
+fresh-free zero p q = absurd (p refl)
+fresh-free (suc zero) p q = absurd (q refl)
+fresh-free (suc (suc b)) p q = refl
+
+pub fresh-packs : (b : ℕ) → Packs (freshOwner b)
+unfolding freshOwner
+fresh-packs zero = tt
+fresh-packs (suc zero) = (omega arith, omega arith)
+fresh-packs (suc (suc b)) = tt
+
+-- ---- the whole disk
+
+abbrev nothing : Disk
+nothing b o = 0
+
+zero-image : tab (λ (i : ℕ). 0) imageBytes ≡ imageOf nothing
+unfolding imageOf
+zero-image = refl
+
+module _ (title : List ℕ) (number : ℕ) where
+  abbrev H : ℕ → ℕ
+  H = freshHeader title number
+
+  abbrev headed : Disk
+  headed = patched nothing 0 0 mapStart H
+
+  fresh-near : Near (mapped headed freshOwner blocks) (formatDisk title number)
+  unfolding formatDisk
+  fresh-near b o hb ho =
+      let whole = with-is H freshOwner (λ (r : Record) (o : ℕ). 0) in
+      by-equal b 0
+      (λ z. subst (λ (x : ℕ). mapped headed freshOwner blocks x o ≡ diskWith H freshOwner (λ (r : Record) (o : ℕ). 0) x o) (sym z)
+      (by-order o mapStart
+      (λ h.
+      let k : o - 0 ≡ o = omega arith in
+      mapped-head headed freshOwner blocks o h
+      ∙ upd₂-same nothing 0 (patch (nothing 0) 0 mapStart H) 0 o refl
+      ∙ patch-in (nothing 0) 0 mapStart H o (omega arith) (omega arith)
+      ∙ ap H k
+      ∙ sym (whole .head o h))
+      (λ h.
+      let e : mapStart + recordBytes * ((o - mapStart) / 3) + (o - mapStart) % 3 ≡ o = omega arith in
+      subst (λ (x : ℕ). mapped headed freshOwner blocks 0 x ≡ diskWith H freshOwner (λ (r : Record) (o : ℕ). 0) 0 x) e
+      (mapped-at headed freshOwner blocks ((o - mapStart) / 3) ((o - mapStart) % 3) (omega arith) (omega arith)
+      ∙ sym (whole .map ((o - mapStart) / 3) ((o - mapStart) % 3) (omega arith) (omega arith))))))
+      (λ z.
+      mapped-other headed freshOwner blocks b o z
+      ∙ upd₂-other nothing 0 (patch (nothing 0) 0 mapStart H) b o z
+      ∙ sym (whole .block b o (omega arith) hb ho))
+
+  pub fresh-written : (l₀ l₁ l₂ l₃ h : List ℕ) → length l₀ ≡ imageBytes → l₁ ≡ overlay l₀ 0 imageBytes (λ (i : ℕ). 0)
+      → h ≡ tab H mapStart
+      → l₂ ≡ imageOf (patched (diskOf l₁) 0 0 (length h) (λ (i : ℕ). getD h i 0))
+      → l₃ ≡ imageOf (mapped (diskOf l₂) freshOwner blocks)
+      → l₃ ≡ imageOf (formatDisk title number)
+  fresh-written l₀ l₁ l₂ l₃ h e e₁ eh e₂ e₃ =
+      let q₁ : l₁ ≡ imageOf nothing = e₁ ∙ overlay-all l₀ imageBytes (λ (i : ℕ). 0) e ∙ zero-image in
+      let q₂ : l₂ ≡ imageOf headed =
+      near-step (λ (d : Disk). patched d 0 0 mapStart H) (λ d x n. near-patched d x n 0 0 mapStart H) l₁ l₂ nothing q₁
+      (e₂ ∙ patched-row (diskOf l₁) 0 0 h mapStart H eh) in
+      near-step (λ (d : Disk). mapped d freshOwner blocks) (λ d x n. near-mapped d x n freshOwner blocks) l₂ l₃ headed q₂ e₃
+      ∙ image-cong (mapped headed freshOwner blocks) (formatDisk title number) fresh-near
+
+-- ---- the call
+
+module _ (image title : List ℕ) (number : ℕ) where
+  pub format-length : length image ≢ imageBytes → format image title number ≡ unwritten image wrongLength
+  unfolding format imageRight
+  format-length h = cond-false _ _ (eq-false h)
+
+  module _ (e : length image ≡ imageBytes) where
+    pub format-name : titleMost < length title → format image title number ≡ unwritten image (refusal 12)
+    unfolding format imageRight
+    format-name h = cond-true _ _ (eq-true e) ∙ cond-false _ _ (le-false h)
+
+    pub format-done : length title ≤ titleMost → format image title number ≡ record { answer = done; image = imageOf (formatDisk title number) }
+    unfolding format imageRight
+    format-done h = cond-true _ _ (eq-true e) ∙ cond-true _ _ (le-true h)

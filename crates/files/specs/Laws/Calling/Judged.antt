@@ -1,0 +1,275 @@
+-- A disk that passed the judgement has a vacant slot that fits a record. Whether there is room; add and remove case by case.
+-- Assumes nothing.
+use mathlib.Core.Path.{_≡_, refl, sym, ap, ap₂, _∙_}
+use mathlib.Core.Logic.{_≢_}
+use mathlib.Core.Bool.{Bool, true, false, not, cond, _&&_}
+use mathlib.Core.List.{List}
+use mathlib.Core.Option.{none, some}
+use Prim.Native.Nat.{ℕ, suc, _+_, _-_, _*_, _/_, _%_, _≤_, _<_}
+use native.Mathlib.Numerals.{add-one}
+use native.Mathlib.Omega.{arith}
+use lib.Dec.{leb, ltb, eqb}
+use lib.ListN.{length, getD}
+use borrow.Author.Tests.{not-false}
+use Rattle.laws.specs.Below.{all, all-at}
+use Rattle.laws.specs.Change.{patch, patch-in, patch-above}
+use Rattle.laws.specs.Count.{count, count-none, count-le}
+use Rattle.laws.specs.Lowest.{lowest, lowest-all}
+use Rattle.laws.specs.Numbers.{up}
+use Rattle.laws.specs.Order.{by-order}
+use Rattle.laws.specs.Overlay.{put}
+use Rattle.laws.specs.Search.{lowest-le, lowest-low}
+use Rattle.laws.specs.Tab.{tab, tab-ext, getD-past}
+use Rattle.laws.specs.Tests.{lt-true, lt-false, le-false, true-le, eq-true, eq-false, true-eq, true≢false, cond-true, cond-false, and-true, orElse}
+use Rattle.laws.specs.Truth.{and-left, and-right, by-test}
+use Rattle.sector_rules.specs.Geometry.{blocks, imageBytes}
+use Rattle.sector_rules.specs.Replies.{reply, done, refusal}
+use Rattle.sector_rules.specs.declared.Reply.{Reply}
+use Rattle.file_rules.specs.Calls.{Changed, Written, refused, unwritten, unless, imageRight, wrongLength, opensBlock, needed, addAt, addDisk, add, removeAt, removeDisk, remove, imaged}
+use Rattle.file_rules.specs.Check.{partsRight, entryRight, fileRight, fileFault, newName, refusal8, refusal9, refusal10, refusal11, judged}
+use Rattle.file_rules.specs.Directory.{nameRight, entryFor, slotEntry, held, dirEnd, findName, vacantSlot}
+use Rattle.file_rules.specs.Disk.{Disk, byteOf, diskOf, imageOf}
+use Rattle.file_rules.specs.Laws.Base.Disk.{image-disk}
+use Rattle.files.specs.Laws.Judging.Ends.{or-none-left, or-none-right, files-right, end-within}
+use Rattle.files.specs.Laws.Writing.Steps.{overlay-tab, put-row}
+use Rattle.file_rules.specs.Map.{decode, recordAt, isPart, within, freeAt, freeCount}
+use Rattle.file_rules.specs.Sizes.{blockBytes, slotBytes, blockSlots, slotCount, nameMost}
+use Rattle.file_rules.specs.Written.{blocksFor}
+
+-- ---- what was passed
+
+-- every file number is sound
+pub file-sound : (d : Disk) → judged d ≡ none → (f : ℕ) → f < slotCount → fileRight d f ≡ true
+unfolding judged fileFault
+file-sound d passed f h =
+    let e : refusal10 d ≡ none = or-none-left (refusal10 d) (refusal11 d) (or-none-right (refusal9 d) (orElse (refusal10 d) (refusal11 d)) (or-none-right (refusal8 d) (orElse (refusal9 d) (orElse (refusal10 d) (refusal11 d))) passed)) in
+    not-false (fileRight d f) (lowest-all (λ (k : ℕ). not (fileRight d k)) slotCount (files-right d e) f h)
+
+-- a sequence of a sound file has one block
+parts-one : (d : Disk) (f n : ℕ) → partsRight d f n ≡ true → (s : ℕ) → s < n → count blocks (λ (b : ℕ). isPart f s (recordAt d b)) ≡ 1
+unfolding partsRight
+parts-one d f n right s h =
+    let inside : Bool = all (λ (b : ℕ). within f n (recordAt d b)) blocks in
+    let once : Bool = all (λ (s : ℕ). eqb (count blocks (λ (b : ℕ). isPart f s (recordAt d b))) 1) n in
+    true-eq (all-at (λ (s : ℕ). eqb (count blocks (λ (b : ℕ). isPart f s (recordAt d b))) 1) n (and-right inside once right) s h)
+
+-- ---- the vacant slot
+
+-- no record of bytes bears file 3968 or a higher one
+no-part : (x y z k s : ℕ) → y < 256 → 3968 ≤ k → isPart k s (decode x y z) ≡ false
+unfolding decode isPart
+no-part x y z k s hy hk =
+    by-order x 0xF8
+    (λ h.
+    let q : eqb (x * 16 + y / 16) k ≡ false = eq-false {a = x * 16 + y / 16} {b = k} (λ e. absurd (omega arith)) in
+    ap (isPart k s) (cond-true _ _ (lt-true h)) ∙ ap (λ (t : Bool). t && eqb (y % 16 * 256 + z) s) q)
+    (λ h.
+    ap (isPart k s) (cond-false _ _ (lt-false h))
+    ∙ by-test (eqb x 0xFD && (eqb y 0xFF && eqb z 0xFF))
+    (λ t. ap (isPart k s) (cond-true _ _ t))
+    (λ t. ap (isPart k s) (cond-false _ _ t)
+    ∙ by-test (eqb x 0xF8 && (eqb y 0x00 && eqb z 0x00))
+    (λ u. ap (isPart k s) (cond-true _ _ u))
+    (λ u. ap (isPart k s) (cond-false _ _ u))))
+
+pub disk-byte : (l : List ℕ) → ((i : ℕ) → getD l i 0 < 256) → (b o : ℕ) → diskOf l b o < 256
+unfolding diskOf
+disk-byte l low b o =
+    by-test (ltb b blocks && ltb o blockBytes)
+    (λ t. rw (cond-true (getD l (byteOf b o) 0) 0 t) (low (byteOf b o)))
+    (λ t. rw (cond-false (getD l (byteOf b o) 0) 0 t) (omega arith))
+
+-- a held slot that is sound has a block
+entry-one : (d : Disk) (k : ℕ) → entryRight d k ≡ true → count blocks (λ (b : ℕ). isPart k 0 (recordAt d b)) ≡ 1
+unfolding entryRight up
+entry-one d k e =
+    let size : ℕ = slotEntry d k .length in
+    let long : Bool = leb slotBytes size in
+    let first : Bool = leb 1 (slotEntry d k .named) in
+    let last : Bool = leb (slotEntry d k .named) nameMost in
+    let parts : Bool = partsRight d k (up size blockBytes) in
+    let whole : parts ≡ true = and-right (newName d k) parts (and-right last (newName d k && parts) (and-right first (last && (newName d k && parts)) (and-right long (first && (last && (newName d k && parts))) e))) in
+    let most : slotBytes ≤ size = true-le (and-left long (first && (last && (newName d k && parts))) e) in
+    parts-one d k (up size blockBytes) whole 0 (omega arith)
+
+listed-right : (d : Disk) (k : ℕ) → 0 < k → k < dirEnd d → held d k ≡ true → fileRight d k ≡ true → entryRight d k ≡ true
+unfolding fileRight
+listed-right d k pos h t e = sym (cond-false _ _ (eq-false {a = k} {b = 0} (omega arith)) ∙ cond-true _ _ (and-true (lt-true h) t)) ∙ e
+
+far-none : (d : Disk) → ((b o : ℕ) → d b o < 256) → (k : ℕ) → 3968 ≤ k → count blocks (λ (b : ℕ). isPart k 0 (recordAt d b)) ≡ 0
+unfolding recordAt
+far-none d low k hk = count-none blocks (λ (b : ℕ). isPart k 0 (recordAt d b)) (λ b h. no-part _ _ _ k 0 (low 0 _) hk)
+
+module _ (d : Disk) (passed : judged d ≡ none) (low : (b o : ℕ) → d b o < 256) where
+  -- a held slot from 3968 on could have no block
+  far-vacant : (k : ℕ) → 3968 ≤ k → k < dirEnd d → held d k ≡ false
+  far-vacant k hk hd =
+      by-test (held d k)
+      (λ t.
+      let right : fileRight d k ≡ true = file-sound d passed k (omega (arith, end-within d passed)) in
+      let one : count blocks (λ (b : ℕ). isPart k 0 (recordAt d b)) ≡ 1 = entry-one d k (listed-right d k (omega arith) hd t right) in
+      absurd (omega (arith, far-none d low k hk)))
+      (λ t. t)
+
+  -- so the lowest vacant slot fits a record
+  pub vacant-most : vacantSlot d < 4096
+  unfolding vacantSlot
+  vacant-most =
+      let asked : ℕ → Bool = λ (k : ℕ). ltb 0 k && not (held d k) in
+      by-order 3968 (lowest asked (dirEnd d))
+      (λ h.
+      let e : held d 3968 ≡ false = far-vacant 3968 (omega arith) (omega (arith, lowest-le asked (dirEnd d))) in
+      true≢false (asked 3968) (and-true {a = ltb 0 3968} (lt-true {a = 0} {b = 3968} (omega arith)) (ap not e)) (lowest-low asked (dirEnd d) 3968 h))
+      (λ h. omega arith)
+
+-- ---- whether there is room
+
+-- the blocks that a file of so many bytes takes in slot k
+unfoldable pub taken : Disk → ℕ → ℕ → ℕ
+taken d k size = cond (opensBlock d k) (suc (blocksFor size)) (blocksFor size)
+
+pub needed-taken : (d : Disk) (k : ℕ) (content : List ℕ) → taken d k (length content) ≡ needed d k content
+unfolding taken needed
+needed-taken d k content = refl
+
+taken-least : (d : Disk) (k size : ℕ) → blocksFor size ≤ taken d k size
+unfolding taken
+taken-least d k size =
+    by-test (opensBlock d k)
+    (λ t. omega (arith, cond-true {b = opensBlock d k} (suc (blocksFor size)) (blocksFor size) t))
+    (λ t. omega (arith, cond-false {b = opensBlock d k} (suc (blocksFor size)) (blocksFor size) t))
+
+free-most : (d : Disk) → freeCount d ≤ blocks
+unfolding freeCount
+free-most d = count-le blocks (freeAt d)
+
+pub room-size : (d : Disk) (k size : ℕ) → leb (taken d k size) (freeCount d) ≡ true → size ≤ imageBytes
+unfolding blocksFor up
+room-size d k size e = omega (arith, true-le {a = taken d k size} {b = freeCount d} e, taken-least d k size, free-most d)
+
+pub room-none : (d : Disk) (k size : ℕ) → imageBytes < size → false ≡ leb (taken d k size) (freeCount d)
+unfolding blocksFor up
+room-none d k size h = sym (le-false {a = taken d k size} {b = freeCount d} (omega (arith, taken-least d k size, free-most d)))
+
+pub room-opens : (d : Disk) (k size n free : ℕ) → opensBlock d k ≡ true → n ≡ blocksFor size → free ≡ freeCount d → leb (n + 1) free ≡ leb (taken d k size) (freeCount d)
+unfolding taken
+room-opens d k size n free t e q = ap₂ leb (add-one n ∙ ap suc e ∙ sym (cond-true _ _ t)) q
+
+pub room-keeps : (d : Disk) (k size n free : ℕ) → opensBlock d k ≡ false → n ≡ blocksFor size → free ≡ freeCount d → leb n free ≡ leb (taken d k size) (freeCount d)
+unfolding taken
+room-keeps d k size n free t e q = ap₂ leb (e ∙ sym (cond-false _ _ t)) q
+
+pub opens-is : (d : Disk) (k end : ℕ) → end ≡ dirEnd d → (eqb k end && eqb (k % blockSlots) 0) ≡ opensBlock d k
+unfolding opensBlock
+opens-is d k end e = ap (λ (x : ℕ). eqb k x && eqb (k % blockSlots) 0) e
+
+-- ---- an entry for a new file
+
+pub name-filled : (row₀ row₁ name : List ℕ) → row₀ ≡ tab (λ (i : ℕ). 0) nameMost → row₁ ≡ put row₀ 0 name → row₁ ≡ tab (λ (i : ℕ). getD name i 0) nameMost
+name-filled row₀ row₁ name e₀ e₁ =
+    let g : ℕ → ℕ = λ (i : ℕ). getD name i 0 in
+    e₁
+    ∙ put-row row₀ 0 name (length name) refl
+    ∙ overlay-tab (λ (i : ℕ). 0) nameMost 0 (length name) g row₀ e₀
+    ∙ tab-ext (patch (λ (i : ℕ). 0) 0 (length name) g) g nameMost
+    (λ k h. by-order k (length name)
+    (λ l. let q : k - 0 ≡ k = omega arith in patch-in (λ (i : ℕ). 0) 0 (length name) g k (omega arith) (omega arith) ∙ ap g q)
+    (λ l. patch-above (λ (i : ℕ). 0) 0 (length name) g k (omega arith) ∙ sym (getD-past name k l)))
+
+pub entry-filled : (row name : List ℕ) (date size : ℕ) → row ≡ tab (λ (i : ℕ). getD name i 0) nameMost
+    → record { name = row; length = slotBytes + size; named = length name; date = date } ≡ entryFor name date size
+unfolding entryFor
+entry-filled row name date size e = ap (λ (r : List ℕ). record { name = r; length = slotBytes + size; named = length name; date = date }) e
+
+-- ---- remove, case by case
+
+-- what a call that writes gave: its reply and the image
+pub record Gave (c : Changed) (r : Reply) (l : List ℕ) : Type 0 where
+  pub answer : r ≡ c .answer
+  pub image : l ≡ imageOf (c .disk)
+
+pub gave-refused : (l : List ℕ) (c : Changed) (r q : Reply) → length l ≡ imageBytes → c ≡ refused (diskOf l) q → r ≡ q → Gave c r l
+unfolding refused
+gave-refused l c r q long e h = record { answer = h ∙ sym (ap (λ (x : Changed). x .answer) e); image = sym (image-disk l long) ∙ sym (ap (λ (x : Changed). imageOf (x .disk)) e) }
+
+pub gave-done : (l : List ℕ) (c : Changed) (r : Reply) (d : Disk) → c ≡ record { answer = done; disk = d } → r ≡ done → l ≡ imageOf d → Gave c r l
+gave-done l c r d e h q = record { answer = h ∙ sym (ap (λ (x : Changed). x .answer) e); image = q ∙ sym (ap (λ (x : Changed). imageOf (x .disk)) e) }
+
+module _ (d : Disk) (name : List ℕ) where
+  pub remove-refused : (r : Reply) → judged d ≡ some r → removeDisk d name ≡ refused d r
+  unfolding removeDisk unless
+  remove-refused r e = rw e
+
+  module _ (passed : judged d ≡ none) where
+    pub remove-name : nameRight name ≡ false → removeDisk d name ≡ refused d (refusal 12)
+    unfolding removeDisk unless
+    remove-name t = rw (passed, t)
+
+    module _ (right : nameRight name ≡ true) (k end : ℕ) (ek : k ≡ findName d name) (ee : end ≡ dirEnd d) where
+      pub remove-none : end ≤ k → removeDisk d name ≡ refused d (refusal 14)
+      unfolding removeDisk unless
+      remove-none h = rw (passed, right, ← ek, ← ee, lt-false h)
+
+      pub remove-done : k < end → removeDisk d name ≡ record { answer = done; disk = removeAt d k }
+      unfolding removeDisk unless
+      remove-done h = rw (passed, right, ← ek, ← ee, lt-true h)
+
+-- ---- add, case by case
+
+module _ (d : Disk) (name : List ℕ) (date : ℕ) (content : List ℕ) where
+  pub add-refused : (r : Reply) → judged d ≡ some r → addDisk d name date content ≡ refused d r
+  unfolding addDisk unless
+  add-refused r e = rw e
+
+  module _ (passed : judged d ≡ none) where
+    pub add-name : nameRight name ≡ false → addDisk d name date content ≡ refused d (refusal 12)
+    unfolding addDisk unless
+    add-name t = rw (passed, t)
+
+    module _ (right : nameRight name ≡ true) (f end : ℕ) (ef : f ≡ findName d name) (ee : end ≡ dirEnd d) where
+      pub add-present : f < end → addDisk d name date content ≡ refused d (reply 13 f 0 0)
+      unfolding addDisk unless
+      add-present h = rw (passed, right, ← ef, ← ee, lt-true h)
+
+      module _ (h : end ≤ f) (k : ℕ) (ek : k ≡ vacantSlot d) where
+        pub add-full : leb (taken d k (length content)) (freeCount d) ≡ false → addDisk d name date content ≡ refused d (refusal 15)
+        unfolding addDisk unless taken needed
+        add-full t = rw (passed, right, ← ef, ← ee, lt-false h, ← ek, t)
+
+        pub add-done : leb (taken d k (length content)) (freeCount d) ≡ true
+            → addDisk d name date content ≡ record { answer = done; disk = addAt d k (entryFor name date (length content)) content }
+        unfolding addDisk unless taken needed
+        add-done t = rw (passed, right, ← ef, ← ee, lt-false h, ← ek, t)
+
+-- ---- the calls
+
+module _ (image name : List ℕ) where
+  pub remove-length : length image ≢ imageBytes → remove image name ≡ unwritten image wrongLength
+  unfolding remove imageRight
+  remove-length h = cond-false _ _ (eq-false h)
+
+  pub remove-whole : length image ≡ imageBytes → remove image name ≡ imaged (removeDisk (diskOf image) name)
+  unfolding remove imageRight
+  remove-whole e = cond-true _ _ (eq-true e)
+
+module _ (image name : List ℕ) (date : ℕ) (content : List ℕ) where
+  pub add-length : length image ≢ imageBytes → add image name date content ≡ unwritten image wrongLength
+  unfolding add imageRight
+  add-length h = cond-false _ _ (eq-false h)
+
+  pub add-whole : length image ≡ imageBytes → add image name date content ≡ imaged (addDisk (diskOf image) name date content)
+  unfolding add imageRight
+  add-whole e = cond-true _ _ (eq-true e)
+
+-- what a call wrote, by what it gave or by its refusal
+pub wrote-refused : (image : List ℕ) (w : Written) (r q : Reply) → w ≡ unwritten image q → r ≡ q → (r ≡ w .answer) × (image ≡ w .image)
+unfolding unwritten
+wrote-refused image w r q e h = (h ∙ sym (ap (λ (x : Written). x .answer) e), sym (ap (λ (x : Written). x .image) e))
+
+pub wrote-gave : (w : Written) (c : Changed) (r : Reply) (l : List ℕ) → w ≡ imaged c → Gave c r l → (r ≡ w .answer) × (l ≡ w .image)
+unfolding imaged
+wrote-gave w c r l e g = (g .answer ∙ sym (ap (λ (x : Written). x .answer) e), g .image ∙ sym (ap (λ (x : Written). x .image) e))
+
+pub name-most : (name : List ℕ) → nameRight name ≡ true → length name ≤ nameMost
+unfolding nameRight
+name-most name e = true-le (and-right (leb 1 (length name)) (leb (length name) nameMost) e)

@@ -1,0 +1,61 @@
+-- A sound disk's directory ends within the disk: each of its blocks stands once in the map, so it has no more blocks than the disk.
+-- Assumes nothing.
+use mathlib.Core.Path.{_≡_, refl, sym, ap, _∙_}
+use mathlib.Core.Bool.{true, not}
+use mathlib.Core.Option.{Option, none, some}
+use Prim.Native.Nat.{ℕ, _≤_}
+use native.Mathlib.Omega.{arith}
+use borrow.Author.Tests.{not-false}
+use Rattle.laws.specs.Below.{all}
+use Rattle.laws.specs.Lowest.{lowest-all}
+use Rattle.laws.specs.Numbers.{up}
+use Rattle.laws.specs.Order.{by-order}
+use Rattle.laws.specs.Tests.{orElse, lt-true, cond-true}
+use Rattle.laws.specs.Truth.{and-right}
+use Rattle.sector_rules.specs.Replies.{reply}
+use Rattle.sector_rules.specs.declared.Fault.the-variants.{At, Sound}
+use Rattle.sector_rules.specs.Faults.{faultBelow, refusalAt}
+use Rattle.sector_rules.specs.Geometry.{blocks}
+use Rattle.file_rules.specs.Sizes.{blockBytes, slotCount}
+use Rattle.file_rules.specs.Disk.{Disk}
+use Rattle.file_rules.specs.Map.{recordAt, within}
+use Rattle.file_rules.specs.Directory.{dirBytes, dirEnd}
+use Rattle.files.specs.Laws.Loading.Parts.{once-most}
+use Rattle.file_rules.specs.Check.{partsRight, fileRight, fileFault, refusal8, refusal9, refusal10, refusal11, judged}
+
+parts-most : (d : Disk) (f n : ℕ) → partsRight d f n ≡ true → n ≤ blocks
+unfolding partsRight
+parts-most d f n t = once-most (recordAt d) f n (and-right (all (λ (b : ℕ). within f n (recordAt d b)) blocks) _ t)
+
+-- ---- what a disk without a refusal has
+
+pub or-none-left : {A : Type 0} (a b : Option A) → orElse a b ≡ none → a ≡ none
+unfolding orElse
+or-none-left none b e = refl
+or-none-left (some x) b e = e
+
+pub or-none-right : {A : Type 0} (a b : Option A) → orElse a b ≡ none → b ≡ none
+unfolding orElse
+or-none-right none b e = e
+or-none-right (some x) b e = let z : _≡_ {A = ℕ} 0 1 = cc in absurd (omega arith)
+
+pub files-right : (d : Disk) → refusal10 d ≡ none → slotCount ≤ fileFault d
+unfolding refusal10 faultBelow
+files-right d e =
+    by-order (fileFault d) slotCount
+    (λ h.
+    let q : some (reply 10 (fileFault d) 0 0) ≡ none = sym (ap (refusalAt 10) (cond-true (At (fileFault d)) Sound (lt-true h))) ∙ e in
+    let z : _≡_ {A = ℕ} 0 1 = cc in absurd (omega arith))
+    (λ h. h)
+
+dir-right : (d : Disk) → slotCount ≤ fileFault d → partsRight d 0 (up (dirBytes d) blockBytes) ≡ true
+unfolding fileFault fileRight
+dir-right d h = not-false (fileRight d 0) (lowest-all (λ (f : ℕ). not (fileRight d f)) slotCount h 0 (omega arith))
+
+pub end-within : (d : Disk) → judged d ≡ none → dirEnd d ≤ slotCount
+unfolding judged dirEnd up
+end-within d e =
+    let a : orElse (refusal9 d) (orElse (refusal10 d) (refusal11 d)) ≡ none = or-none-right (refusal8 d) _ e in
+    let b : orElse (refusal10 d) (refusal11 d) ≡ none = or-none-right (refusal9 d) _ a in
+    let c : refusal10 d ≡ none = or-none-left (refusal10 d) (refusal11 d) b in
+    omega (arith, parts-most d 0 (up (dirBytes d) blockBytes) (dir-right d (files-right d c)))

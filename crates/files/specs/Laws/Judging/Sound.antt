@@ -1,0 +1,316 @@
+-- The soundness of the directory as the code judges it, on a loaded map.
+-- Assumes nothing.
+use mathlib.Core.Path.{_≡_, refl, sym, ap, ap₂, _∙_}
+use mathlib.Core.Bool.{Bool, true, false, not, cond, _&&_}
+use mathlib.Core.List.{List}
+use mathlib.Core.Logic.{_≢_}
+use mathlib.Core.Option.{Option, none, some}
+use Prim.Native.Nat.{ℕ, _+_, _*_, _/_, _%_, _≤_, _<_}
+use native.Mathlib.Numerals.{add-one}
+use native.Mathlib.Omega.{arith}
+use lib.Dec.{leb, ltb, eqb}
+use lib.ListN.{length, getD, set, take, replicate, length-set, length-replicate, getD-replicate}
+use lib.Seq.{getD-set-same, getD-set-other}
+use Rattle.laws.specs.Below.{all, all-is}
+use Rattle.laws.specs.Count.{count, count-cong}
+use Rattle.laws.specs.Lowest.{lowest-some, lowest-none}
+use Rattle.laws.specs.Numbers.{up, at16}
+use Rattle.laws.specs.Order.{by-order}
+use Rattle.laws.specs.Tests.{by-equal, true-le, lt-true, lt-false, eq-true, eq-false, cond-true, cond-false, and-false-left, and-false-right}
+use Rattle.laws.specs.Tab.{tab-length}
+use Rattle.laws.specs.Truth.{by-test, and-right}
+use Rattle.sector_rules.specs.declared.Fault.{Fault}
+use Rattle.sector_rules.specs.declared.Fault.the-variants.{At, Sound}
+use Rattle.sector_rules.specs.Faults.{faultBelow, refusalAt}
+use Rattle.sector_rules.specs.Geometry.{blocks, blockSectors, imageBytes}
+use Rattle.sector_rules.specs.Replies.{reply, refusal, done}
+use Rattle.sector_rules.specs.declared.Reply.{Reply}
+use Rattle.file_rules.specs.declared.Record.{Record}
+use Rattle.file_rules.specs.declared.Record.the-variants.{Free, System, File, Other}
+use Rattle.file_rules.specs.declared.Entry.{Entry}
+use Rattle.files.specs.declared.Verdict.{Verdict}
+use Rattle.files.specs.declared.Verdict.the-variants.{Passed, Refused}
+use Rattle.file_rules.specs.Sizes.{blockBytes, slotBytes, slotCount, nameMost}
+use Rattle.file_rules.specs.Disk.{Disk, diskOf}
+use Rattle.file_rules.specs.Calls.{imageRight, unless, wrongLength, check}
+use Rattle.file_rules.specs.Map.{freeCount, recordAt, bears, isPart, within}
+use Rattle.file_rules.specs.Directory.{nameEq, nameOf, entryOf, slotEntry, slotName, held, dirBytes, dirEnd}
+use Rattle.file_rules.specs.Check.{partsRight, unborne, newName, entryRight, fileRight, fileFault, freeRight, mapFault, refusal8, refusal9, refusal10, refusal11, judged}
+use Rattle.files.specs.Laws.Loading.Loaded.{recordOf, recordIn, Mapped}
+use Rattle.files.specs.Laws.Loading.Parts.{partsIn}
+use Rattle.files.specs.Laws.Loading.Loops.{all-cong}
+use Rattle.files.specs.Laws.Judging.Verdict.{verdictOf, verdict-or-some, verdict-or-none, verdict-some, verdict-none}
+
+-- ---- a file's parts
+
+unfoldable pub unborneIn : List ℕ → ℕ → Bool
+unborneIn map f = all (λ (b : ℕ). not (bears f (recordIn map b))) blocks
+
+module _ (map : List ℕ) (d : Disk) (m : Mapped map d) where
+  pub parts-mapped : (f n : ℕ) → partsIn map f n ≡ partsRight d f n
+  unfolding partsIn partsRight
+  parts-mapped f n =
+      ap₂ (λ (x y : Bool). x && y)
+      (all-cong (λ (b : ℕ). within f n (recordIn map b)) (λ (b : ℕ). within f n (recordAt d b)) blocks (λ b h. ap (within f n) (m .records b h)))
+      (all-cong
+      (λ (s : ℕ). eqb (count blocks (λ (b : ℕ). isPart f s (recordIn map b))) 1)
+      (λ (s : ℕ). eqb (count blocks (λ (b : ℕ). isPart f s (recordAt d b))) 1)
+      n
+      (λ s l. ap (λ (c : ℕ). eqb c 1)
+      (count-cong blocks (λ (b : ℕ). isPart f s (recordIn map b)) (λ (b : ℕ). isPart f s (recordAt d b)) (λ b h. ap (isPart f s) (m .records b h)))))
+
+  pub unborne-mapped : (f : ℕ) → unborneIn map f ≡ unborne d f
+  unfolding unborneIn unborne
+  unborne-mapped f =
+      all-cong (λ (b : ℕ). not (bears f (recordIn map b))) (λ (b : ℕ). not (bears f (recordAt d b))) blocks
+      (λ b h. ap (λ (r : Record). not (bears f r)) (m .records b h))
+
+-- ---- the files that are borne, marked
+
+-- g is the file below 4096 that a record bears, 4096 where it bears none
+pub record Bearer (g : ℕ) (r : Record) : Type 0 where
+  pub low : g < 4097
+  pub bears-it : (f : ℕ) → f < 4096 → bears f r ≡ eqb g f
+
+pub bearer-none : (r : Record) → ((f : ℕ) → bears f r ≡ false) → Bearer 4096 r
+bearer-none r h = record { low = omega arith; bears-it = λ f l. h f ∙ sym (eq-false {a = 4096} {b = f} (λ e. omega arith)) }
+
+pub bearer-free : Bearer 4096 Free
+unfolding bears
+bearer-free = bearer-none Free (λ f. refl)
+
+pub bearer-system : Bearer 4096 System
+unfolding bears
+bearer-system = bearer-none System (λ f. refl)
+
+pub bearer-other : Bearer 4096 Other
+unfolding bears
+bearer-other = bearer-none Other (λ f. refl)
+
+pub bearer-file : (g s : ℕ) → g < 4096 → Bearer g (File g s)
+unfolding bears
+bearer-file g s h = record { low = omega arith; bears-it = λ f l. refl }
+
+pub bearer-far : (g s : ℕ) → 4096 ≤ g → Bearer 4096 (File g s)
+unfolding bears
+bearer-far g s h =
+    record {
+      low = omega arith;
+      bears-it = λ f l. eq-false {a = g} {b = f} (λ e. omega arith) ∙ sym (eq-false {a = 4096} {b = f} (λ e. omega arith));
+    }
+
+-- a file below 4096 is marked exactly if a record below k bears it
+pub record Marked (marks map : List ℕ) (k : ℕ) : Type 0 where
+  pub long : length marks ≡ 4097
+  pub mark : (f : ℕ) → f < 4096 → eqb (getD marks f 0) 0 ≡ all (λ (b : ℕ). not (bears f (recordIn map b))) k
+
+pub mark-none : (n : ℕ) → n ≡ 4097 → (map : List ℕ) → Marked (replicate n 0) map 0
+unfolding all
+mark-none n e map =
+    record {
+      long = length-replicate n 0 ∙ e;
+      mark = λ f l. eq-true (getD-replicate n f 0 0 (omega arith));
+    }
+
+all-more : (p : ℕ → Bool) (k : ℕ) → all p (k + 1) ≡ (p k && all p k)
+unfolding all
+all-more p k = rw add-one
+
+pub mark-more : (marks map : List ℕ) (k g : ℕ) → Bearer g (recordIn map k) → Marked marks map k → Marked (set marks g 1) map (k + 1)
+mark-more marks map k g b m =
+    record {
+      long = length-set marks g 1 ∙ m .long;
+      mark = λ f l.
+          let p : ℕ → Bool = λ (j : ℕ). not (bears f (recordIn map j)) in
+          let e : all p (k + 1) ≡ (p k && all p k) = all-more p k in
+          by-equal f g
+          (λ q.
+          let t : bears f (recordIn map k) ≡ true = b .bears-it f l ∙ eq-true (sym q) in
+          let s : getD (set marks g 1) f 0 ≡ 1 = ap (λ (x : ℕ). getD (set marks g 1) x 0) q ∙ getD-set-same marks g 1 0 (omega (arith, m .long, b .low)) in
+          eq-false {a = getD (set marks g 1) f 0} {b = 0} (λ z. omega arith) ∙ sym (e ∙ and-false-left (all p k) (ap not t)))
+          (λ q.
+          let t : bears f (recordIn map k) ≡ false = b .bears-it f l ∙ eq-false (λ z. q (sym z)) in
+          ap (λ (x : ℕ). eqb x 0) (getD-set-other marks g f 1 0 q) ∙ m .mark f l ∙ sym (e ∙ ap (λ (x : Bool). not x && all p k) t));
+    }
+
+-- a record of a loaded map bears a file below 4096
+low-file : (n f : ℕ) → 4096 ≤ f → bears f (recordOf n) ≡ false
+unfolding recordOf bears
+low-file n f h =
+    by-order n 0xF80000
+    (λ l.
+    ap (bears f) (cond-true (File (n / 4096) (n % 4096)) (cond (eqb n 0xFDFFFF) Free (cond (eqb n 0xF80000) System Other)) (lt-true l))
+    ∙ eq-false {a = n / 4096} {b = f} (λ e. omega arith))
+    (λ l.
+    ap (bears f) (cond-false (File (n / 4096) (n % 4096)) (cond (eqb n 0xFDFFFF) Free (cond (eqb n 0xF80000) System Other)) (lt-false l))
+    ∙ by-test (eqb n 0xFDFFFF) (λ e. rw e) (λ e. by-test (eqb n 0xF80000) (λ g. rw (e, g)) (λ g. rw (e, g))))
+
+far-unborne : (map : List ℕ) (f : ℕ) → 4096 ≤ f → unborneIn map f ≡ true
+unfolding unborneIn recordIn
+far-unborne map f h = all-is (λ (b : ℕ). not (bears f (recordIn map b))) blocks (λ b l. ap not (low-file (getD map b 0) f h))
+
+-- whether file f has no mark
+unfoldable pub unmarked : List ℕ → ℕ → Bool
+unmarked marks f = cond (ltb f 4096) (eqb (getD marks f 0) 0) true
+
+pub unmarked-unborne : (marks map : List ℕ) (f : ℕ) → Marked marks map blocks → unmarked marks f ≡ unborneIn map f
+unfolding unmarked unborneIn
+unmarked-unborne marks map f m =
+    by-order f 4096
+    (λ h. cond-true (eqb (getD marks f 0) 0) true (lt-true h) ∙ m .mark f h)
+    (λ h. cond-false (eqb (getD marks f 0) 0) true (lt-false h) ∙ sym (far-unborne map f h))
+
+-- ---- a held slot
+
+-- its name has the bytes that its length says
+name-room : (f : ℕ → ℕ) → length (entryOf f .name) ≡ nameMost
+unfolding entryOf
+name-room f = tab-length (λ (i : ℕ). f (16 + i)) nameMost
+
+pub sizes-name : (e : Entry) (f : ℕ → ℕ) → e ≡ entryOf f
+    → (leb slotBytes (e .length) && (leb 1 (e .named) && leb (e .named) nameMost)) ≡ true → e .named ≤ length (e .name)
+sizes-name e f q t =
+    let n : length (e .name) ≡ nameMost = ap (λ (x : Entry). length (x .name)) q ∙ name-room f in
+    let h : e .named ≤ nameMost = true-le (and-right (leb 1 (e .named)) (leb (e .named) nameMost) (and-right (leb slotBytes (e .length)) _ t)) in
+    omega arith
+
+module _ (d : Disk) (k : ℕ) (e : Entry) (q : e ≡ slotEntry d k) where
+  pub entry-name : take (e .named) (e .name) ≡ slotName d k
+  unfolding slotName nameOf
+  entry-name = ap (λ (x : Entry). take (x .named) (x .name)) q
+
+  abbrev sizes : Bool
+  sizes = leb slotBytes (e .length) && (leb 1 (e .named) && leb (e .named) nameMost)
+
+  abbrev names : Bool
+  names = all (λ (j : ℕ). not (held d j && nameEq (slotName d j) (take (e .named) (e .name)))) k
+
+  three : (a b c n p : Bool) → (a && (b && (c && (n && p)))) ≡ ((a && (b && c)) && (n && p))
+  three true true c n p = refl
+  three true false c n p = refl
+  three false b c n p = refl
+
+  entry-tests : entryRight d k ≡ (sizes && (names && partsRight d k (up (e .length) blockBytes)))
+  unfolding entryRight newName slotName nameOf
+  entry-tests =
+      rw q
+      (three (leb slotBytes (slotEntry d k .length)) (leb 1 (slotEntry d k .named)) (leb (slotEntry d k .named) nameMost) (newName d k)
+      (partsRight d k (up (slotEntry d k .length) blockBytes)))
+
+  pub entry-sizes-wrong : sizes ≡ false → false ≡ entryRight d k
+  entry-sizes-wrong t = sym (entry-tests ∙ and-false-left (names && partsRight d k (up (e .length) blockBytes)) t)
+
+  pub entry-name-wrong : sizes ≡ true → names ≡ false → false ≡ entryRight d k
+  entry-name-wrong t u =
+      sym (entry-tests ∙ and-false-right sizes (and-false-left (partsRight d k (up (e .length) blockBytes)) u))
+
+  pub entry-parts : sizes ≡ true → names ≡ true → (p : Bool) → p ≡ partsRight d k (up (e .length) blockBytes) → p ≡ entryRight d k
+  entry-parts t u p v =
+      v ∙ sym (entry-tests ∙ ap₂ (λ (x y : Bool). x && (y && partsRight d k (up (e .length) blockBytes))) t u)
+
+-- ---- a file
+
+module _ (d : Disk) where
+  pub file-zero : (n : ℕ) → n ≡ dirBytes d → partsRight d 0 (up n blockBytes) ≡ fileRight d 0
+  unfolding fileRight
+  file-zero n e = ap (λ (x : ℕ). partsRight d 0 (up x blockBytes)) e
+
+  module _ (f : ℕ) (n : f ≢ 0) where
+    by-slot : fileRight d f ≡ cond (ltb f (dirEnd d) && held d f) (entryRight d f) (unborne d f)
+    unfolding fileRight
+    by-slot = cond-false (partsRight d 0 (up (dirBytes d) blockBytes)) (cond (ltb f (dirEnd d) && held d f) (entryRight d f) (unborne d f)) (eq-false n)
+
+    pub file-listed : (ltb f (dirEnd d) && held d f) ≡ true → entryRight d f ≡ fileRight d f
+    file-listed t = sym (by-slot ∙ cond-true (entryRight d f) (unborne d f) t)
+
+    pub file-unlisted : (ltb f (dirEnd d) && held d f) ≡ false → unborne d f ≡ fileRight d f
+    file-unlisted t = sym (by-slot ∙ cond-false (entryRight d f) (unborne d f) t)
+
+  pub fault-here : (f : ℕ) → f < slotCount → ((j : ℕ) → j < f → not (fileRight d j) ≡ false) → not (fileRight d f) ≡ true → f ≡ fileFault d
+  unfolding fileFault
+  fault-here f h l t = sym (lowest-some (λ (j : ℕ). not (fileRight d j)) slotCount f h l t)
+
+  pub fault-none : ((j : ℕ) → j < slotCount → not (fileRight d j) ≡ false) → slotCount ≡ fileFault d
+  unfolding fileFault
+  fault-none l = sym (lowest-none (λ (j : ℕ). not (fileRight d j)) slotCount l)
+
+-- ---- the refusals
+
+lowest-refused : (b n k : ℕ) → b < n → Refused (reply k b 0 0) ≡ verdictOf (refusalAt k (faultBelow n b))
+unfolding verdictOf faultBelow
+lowest-refused b n k h = ap (λ (f : Fault). verdictOf (refusalAt k f)) (sym (cond-true (At b) Sound (lt-true h)))
+
+lowest-passed : (b n k : ℕ) → n ≤ b → Passed ≡ verdictOf (refusalAt k (faultBelow n b))
+unfolding verdictOf faultBelow
+lowest-passed b n k h = ap (λ (f : Fault). verdictOf (refusalAt k f)) (sym (cond-false (At b) Sound (lt-false h)))
+
+module _ (d : Disk) (b : ℕ) where
+  pub refused-map : b ≡ mapFault d → b < blocks → Refused (reply 9 b 0 0) ≡ verdictOf (refusal9 d)
+  unfolding refusal9
+  refused-map e h = rw (← e) (lowest-refused b blocks 9 h)
+
+  pub passed-map : b ≡ mapFault d → blocks ≤ b → Passed ≡ verdictOf (refusal9 d)
+  unfolding refusal9
+  passed-map e h = rw (← e) (lowest-passed b blocks 9 h)
+
+  pub refused-files : b ≡ fileFault d → b < slotCount → Refused (reply 10 b 0 0) ≡ verdictOf (refusal10 d)
+  unfolding refusal10
+  refused-files e h = rw (← e) (lowest-refused b slotCount 10 h)
+
+  pub passed-files : b ≡ fileFault d → slotCount ≤ b → Passed ≡ verdictOf (refusal10 d)
+  unfolding refusal10
+  passed-files e h = rw (← e) (lowest-passed b slotCount 10 h)
+
+module _ (d : Disk) (w c : ℕ) (ew : w ≡ at16 (d 0) 20) (ec : c ≡ freeCount d) where
+  free-is : eqb w (blockSectors * c) ≡ freeRight d
+  unfolding freeRight
+  free-is = rw (ew, ec)
+
+  pub passed-free : w ≡ blockSectors * c → Passed ≡ verdictOf (refusal11 d)
+  unfolding refusal11 verdictOf
+  passed-free h = ap verdictOf (sym (cond-true none (some (refusal 11)) (sym free-is ∙ eq-true h)))
+
+  pub refused-free : w ≢ blockSectors * c → Refused (refusal 11) ≡ verdictOf (refusal11 d)
+  unfolding refusal11 verdictOf
+  refused-free h = ap verdictOf (sym (cond-false none (some (refusal 11)) (sym free-is ∙ eq-false h)))
+
+-- ---- the judgements in order
+
+module _ (d : Disk) where
+  pub judged-header : (r : Reply) → Refused r ≡ verdictOf (refusal8 d) → Refused r ≡ verdictOf (judged d)
+  unfolding judged
+  judged-header r e = verdict-or-some (refusal8 d) _ r e
+
+  module _ (a : Passed ≡ verdictOf (refusal8 d)) where
+    pub judged-map : (r : Reply) → Refused r ≡ verdictOf (refusal9 d) → Refused r ≡ verdictOf (judged d)
+    unfolding judged
+    judged-map r e = verdict-or-some (refusal9 d) _ r e ∙ sym (verdict-or-none (refusal8 d) _ a)
+
+    module _ (b : Passed ≡ verdictOf (refusal9 d)) where
+      pub judged-files : (r : Reply) → Refused r ≡ verdictOf (refusal10 d) → Refused r ≡ verdictOf (judged d)
+      unfolding judged
+      judged-files r e = verdict-or-some (refusal10 d) _ r e ∙ sym (verdict-or-none (refusal9 d) _ b) ∙ sym (verdict-or-none (refusal8 d) _ a)
+
+      pub judged-free : (v : Verdict) → v ≡ verdictOf (refusal11 d) → Passed ≡ verdictOf (refusal10 d) → v ≡ verdictOf (judged d)
+      unfolding judged
+      judged-free v e c = e ∙ sym (verdict-or-none (refusal10 d) _ c) ∙ sym (verdict-or-none (refusal9 d) _ b) ∙ sym (verdict-or-none (refusal8 d) _ a)
+
+-- ---- check
+
+module _ (image : List ℕ) where
+  pub check-length : length image ≢ imageBytes → wrongLength ≡ check image
+  unfolding check imageRight
+  check-length h = sym (cond-false (unless (judged (diskOf image)) (λ (r : Reply). r) done) wrongLength (eq-false h))
+
+  module _ (long : length image ≡ imageBytes) where
+    checked : check image ≡ unless (judged (diskOf image)) (λ (r : Reply). r) done
+    unfolding check imageRight
+    checked = cond-true (unless (judged (diskOf image)) (λ (r : Reply). r) done) wrongLength (eq-true long)
+
+    pub check-refused : (r : Reply) → Refused r ≡ verdictOf (judged (diskOf image)) → r ≡ check image
+    unfolding unless
+    check-refused r e = sym (checked ∙ ap (λ (v : Option Reply). unless v (λ (r : Reply). r) done) (verdict-some (judged (diskOf image)) r e))
+
+    pub check-passed : Passed ≡ verdictOf (judged (diskOf image)) → done ≡ check image
+    unfolding unless
+    check-passed e = sym (checked ∙ ap (λ (v : Option Reply). unless v (λ (r : Reply). r) done) (verdict-none (judged (diskOf image)) e))

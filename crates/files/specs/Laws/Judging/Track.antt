@@ -1,0 +1,83 @@
+-- Laws of the judgement of track 0.
+-- Assumes nothing.
+use mathlib.Core.Path.{_≡_, refl, sym, ap, ap₂, _∙_}
+use mathlib.Core.Logic.{_≢_}
+use mathlib.Core.Bool.{Bool, true, false, not, cond}
+use mathlib.Core.List.{List}
+use mathlib.Core.Option.{Option, none, some}
+use Prim.Native.Nat.{ℕ, zero, suc, _+_, _-_}
+use native.Mathlib.Omega.{arith}
+use lib.ListN.{length}
+use Rattle.laws.specs.Count.{count, count-yes, count-no}
+use Rattle.laws.specs.Numbers.{at16}
+use Rattle.laws.specs.Tests.{orElse, eq-true, eq-false, cond-true, cond-false}
+use Rattle.laws.specs.Truth.{by-test}
+use Rattle.sector_rules.specs.declared.Reply.{Reply}
+use Rattle.sector_rules.specs.Replies.{done}
+use Rattle.sector_rules.specs.Geometry.{blocks}
+use Rattle.file_rules.specs.declared.FirstTrack.{FirstTrack}
+use Rattle.files.specs.declared.Verdict.{Verdict}
+use Rattle.files.specs.declared.Verdict.the-variants.{Passed, Refused}
+use Rattle.file_rules.specs.Sizes.{trackBytes}
+use Rattle.file_rules.specs.Disk.{Disk, diskOf}
+use Rattle.file_rules.specs.Map.{freeAt, freeCount}
+use Rattle.file_rules.specs.Check.{refusal8, refusal9, refusal11}
+use Rattle.file_rules.specs.Calls.{unless, wrongLength}
+use Rattle.file_rules.specs.FirstTrack.{refusedTrack, counted, firstTrack}
+use Rattle.files.specs.Laws.Judging.Verdict.{verdictOf, verdict-or-some, verdict-or-none, verdict-some, verdict-none}
+
+-- those that pass a test and those that do not are all
+count-both : (n : ℕ) (p : ℕ → Bool) → count n p + count n (λ (i : ℕ). not (p i)) ≡ n
+unfolding count
+count-both zero p = refl
+count-both (suc n) p =
+    by-test (p n)
+    (λ t. omega (arith, count-yes n p t, count-no n (λ (i : ℕ). not (p i)) (ap not t), count-both n p))
+    (λ t. omega (arith, count-no n p t, count-yes n (λ (i : ℕ). not (p i)) (ap not t), count-both n p))
+
+pub counted-is : (d : Disk) (r : Reply) (c f g : ℕ) → r ≡ done → c ≡ freeCount d → f ≡ at16 (d 0) 20 → g ≡ at16 (d 0) 22
+    → _≡_ {A = FirstTrack} (record { reply = r; free = f; good = g; held = blocks - c }) (counted d)
+unfolding counted freeCount
+counted-is d r c f g er ec ef eg =
+    let h : blocks - c ≡ count blocks (λ (b : ℕ). not (freeAt d b)) = omega (arith, count-both blocks (freeAt d)) in
+    rw (er, ef, eg, h)
+
+-- ---- the judgements in order
+
+module _ (d : Disk) where
+  abbrev judgedTrack : Option Reply
+  judgedTrack = orElse (refusal8 d) (orElse (refusal9 d) (refusal11 d))
+
+  pub track-header : (r : Reply) → Refused r ≡ verdictOf (refusal8 d) → Refused r ≡ verdictOf judgedTrack
+  track-header r e = verdict-or-some (refusal8 d) (orElse (refusal9 d) (refusal11 d)) r e
+
+  module _ (a : Passed ≡ verdictOf (refusal8 d)) where
+    pub track-map : (r : Reply) → Refused r ≡ verdictOf (refusal9 d) → Refused r ≡ verdictOf judgedTrack
+    track-map r e =
+        verdict-or-some (refusal9 d) (refusal11 d) r e ∙ sym (verdict-or-none (refusal8 d) (orElse (refusal9 d) (refusal11 d)) a)
+
+    pub track-free : (v : Verdict) → v ≡ verdictOf (refusal11 d) → Passed ≡ verdictOf (refusal9 d) → v ≡ verdictOf judgedTrack
+    track-free v e b =
+        e ∙ sym (verdict-or-none (refusal9 d) (refusal11 d) b) ∙ sym (verdict-or-none (refusal8 d) (orElse (refusal9 d) (refusal11 d)) a)
+
+-- ---- the call
+
+module _ (l : List ℕ) where
+  pub track-length : length l ≢ trackBytes → refusedTrack wrongLength ≡ firstTrack l
+  unfolding firstTrack
+  track-length h = sym (cond-false (unless (judgedTrack (diskOf l)) refusedTrack (counted (diskOf l))) (refusedTrack wrongLength) (eq-false h))
+
+  module _ (long : length l ≡ trackBytes) where
+    judged-track : firstTrack l ≡ unless (judgedTrack (diskOf l)) refusedTrack (counted (diskOf l))
+    unfolding firstTrack
+    judged-track = cond-true (unless (judgedTrack (diskOf l)) refusedTrack (counted (diskOf l))) (refusedTrack wrongLength) (eq-true long)
+
+    pub track-refused : (r : Reply) → Refused r ≡ verdictOf (judgedTrack (diskOf l)) → refusedTrack r ≡ firstTrack l
+    unfolding unless
+    track-refused r e =
+        sym (judged-track ∙ ap (λ (v : Option Reply). unless v refusedTrack (counted (diskOf l))) (verdict-some (judgedTrack (diskOf l)) r e))
+
+    pub track-passed : Passed ≡ verdictOf (judgedTrack (diskOf l)) → counted (diskOf l) ≡ firstTrack l
+    unfolding unless
+    track-passed e =
+        sym (judged-track ∙ ap (λ (v : Option Reply). unless v refusedTrack (counted (diskOf l))) (verdict-none (judgedTrack (diskOf l)) e))

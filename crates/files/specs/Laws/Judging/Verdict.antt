@@ -1,0 +1,80 @@
+-- The verdict of a judgement as the code has it, against the definitions' options; and the header's fields.
+-- Assumes nothing.
+use mathlib.Core.Path.{_≡_, refl, sym, ap, ap₂, _∙_}
+use mathlib.Core.Bool.{Bool, _&&_}
+use mathlib.Core.List.{List}
+use mathlib.Core.Option.{Option, none, some}
+use Prim.Native.Nat.{ℕ, _+_, _*_, _/_, _%_, _≤_, _<_}
+use native.Mathlib.Nat.{zero-add}
+use native.Mathlib.Omega.{arith}
+use lib.ListN.{length, getD}
+use Rattle.laws.specs.Same.{same, bytesAre, standsAt}
+use Rattle.laws.specs.Tab.{tab-ext}
+use Rattle.laws.specs.Tests.{orElse, le-true}
+use Rattle.sector_rules.specs.declared.Fault.{Fault}
+use Rattle.sector_rules.specs.declared.Fault.the-variants.{At, Sound}
+use Rattle.sector_rules.specs.declared.Reply.{Reply}
+use Rattle.sector_rules.specs.Replies.{reply}
+use Rattle.sector_rules.specs.Faults.{refusalAt}
+use Rattle.sector_rules.specs.Geometry.{sectorBytes, running, imageSector}
+use Rattle.sector_rules.specs.Laws.Base.Geometry.{image-first}
+use Rattle.files.specs.declared.Verdict.{Verdict}
+use Rattle.files.specs.declared.Verdict.the-variants.{Passed, Refused}
+use Rattle.file_rules.specs.Disk.{Disk, byteOf, diskOf}
+use Rattle.file_rules.specs.Check.{headerFault, refusal8}
+use Rattle.files.specs.Laws.Loading.Blocks.{disk-in}
+
+-- ---- a verdict
+
+unfoldable pub verdictOf : Option Reply → Verdict
+verdictOf none = Passed
+verdictOf (some r) = Refused r
+
+pub verdict-or-some : (a b : Option Reply) (r : Reply) → Refused r ≡ verdictOf a → Refused r ≡ verdictOf (orElse a b)
+unfolding verdictOf orElse
+verdict-or-some none b r e = let z : _≡_ {A = ℕ} 0 1 = cc in absurd (omega arith)
+verdict-or-some (some x) b r e = e
+
+pub verdict-or-none : (a b : Option Reply) → Passed ≡ verdictOf a → verdictOf (orElse a b) ≡ verdictOf b
+unfolding verdictOf orElse
+verdict-or-none none b e = refl
+verdict-or-none (some x) b e = let z : _≡_ {A = ℕ} 0 1 = cc in absurd (omega arith)
+
+pub verdict-none : (a : Option Reply) → Passed ≡ verdictOf a → a ≡ none
+unfolding verdictOf
+verdict-none none e = refl
+verdict-none (some x) e = let z : _≡_ {A = ℕ} 0 1 = cc in absurd (omega arith)
+
+pub verdict-some : (a : Option Reply) (r : Reply) → Refused r ≡ verdictOf a → a ≡ some r
+unfolding verdictOf
+verdict-some none r e = let z : _≡_ {A = ℕ} 0 1 = cc in absurd (omega arith)
+verdict-some (some x) r e = ap some (let z : x ≡ r = cc in z)
+
+-- ---- the header
+
+first-place : (o : ℕ) → o < 512 → byteOf 0 o ≡ o
+unfolding byteOf
+first-place o h =
+    let e : running 0 (o / sectorBytes) ≡ 0 = omega arith in
+    ap (λ (n : ℕ). imageSector n * sectorBytes + o % sectorBytes) e ∙ ap (λ (n : ℕ). n * sectorBytes + o % sectorBytes) image-first ∙ omega arith
+
+-- the first sector of block 0 is the image's first
+pub first-byte : (l : List ℕ) (o : ℕ) → o < 512 → diskOf l 0 o ≡ getD l o 0
+first-byte l o h = disk-in l 0 o (omega arith) (omega arith) ∙ ap (λ (i : ℕ). getD l i 0) (first-place o h)
+
+pub bytes-stand : (l : List ℕ) (o : ℕ) (xs : List ℕ) → 512 ≤ length l → o + length xs ≤ 512 → standsAt l o xs ≡ bytesAre (diskOf l 0) o xs
+unfolding standsAt bytesAre
+bytes-stand l o xs h k =
+    ap₂ (λ (x : Bool) (y : List ℕ). x && same y xs)
+    (le-true {a = o + length xs} {b = length l} (omega arith))
+    (tab-ext (λ (i : ℕ). getD l (o + i) 0) (λ (i : ℕ). diskOf l 0 (o + i)) (length xs) (λ i b. sym (first-byte l (o + i) (omega arith))))
+
+-- ---- refusal 8
+
+pub refused-header : (d : Disk) (o : ℕ) → At o ≡ headerFault d → Refused (reply 8 o 0 0) ≡ verdictOf (refusal8 d)
+unfolding refusal8 verdictOf
+refused-header d o e = ap (λ (f : Fault). verdictOf (refusalAt 8 f)) e
+
+pub passed-header : (d : Disk) → Sound ≡ headerFault d → Passed ≡ verdictOf (refusal8 d)
+unfolding refusal8 verdictOf
+passed-header d e = ap (λ (f : Fault). verdictOf (refusalAt 8 f)) e

@@ -1,0 +1,291 @@
+-- The parts of a file as the code counts and places them, on a loaded map.
+-- Assumes nothing.
+use mathlib.Core.Path.{_≡_, refl, sym, ap, _∙_}
+use mathlib.Core.Logic.{_≢_}
+use mathlib.Core.Bool.{Bool, true, false, not, cond, _&&_, false≢true}
+use mathlib.Core.List.{List}
+use Prim.Native.Nat.{ℕ, zero, suc, _+_, _/_, _%_, _≤_, _<_}
+use native.Mathlib.Omega.{arith}
+use lib.Dec.{ltb, eqb}
+use lib.ListN.{length, getD, set, replicate, length-set, length-replicate, getD-replicate}
+use lib.Seq.{getD-set-same, getD-set-other}
+use Rattle.laws.specs.Below.{all, all-at}
+use Rattle.laws.specs.Count.{count, count-cong, count-yes, count-no, sum, sum-cong, sum-change, sum-none}
+use Rattle.laws.specs.Lowest.{lowest, lowest-some, lowest-none}
+use Rattle.laws.specs.Order.{by-order}
+use Rattle.laws.specs.Tests.{by-equal, lt-true, lt-false, eq-true, eq-false, true-eq, true-lt, false-lt, cond-true, cond-false, and-false-left, and-false-right}
+use Rattle.laws.specs.Truth.{by-test}
+use Rattle.sector_rules.specs.Geometry.{blocks}
+use Rattle.file_rules.specs.declared.Record.{Record}
+use Rattle.file_rules.specs.declared.Record.the-variants.{Free, System, File, Other}
+use Rattle.file_rules.specs.Map.{isPart, within, bears}
+use Rattle.files.specs.Laws.Loading.Loaded.{recordOf, recordIn}
+use Rattle.files.specs.Laws.Loading.Loops.{all-cong}
+use Rattle.files.specs.Laws.Loading.Tally.{Tallied, tally-one, tally-zero}
+
+-- ---- at most as many parts as blocks
+
+seqOf : Record → ℕ
+seqOf Free = 0
+seqOf System = 0
+seqOf (File g t) = t
+seqOf Other = 0
+
+-- a record is a part by one sequence alone
+other-seq : (f s : ℕ) (r : Record) → s ≢ seqOf r → isPart f s r ≡ false
+unfolding isPart seqOf
+other-seq f s Free h = refl
+other-seq f s System h = refl
+other-seq f s (File g t) h = and-false-right (eqb g f) (eq-false {a = t} {b = s} (λ e. h (sym e)))
+other-seq f s Other h = refl
+
+one-more : (n t : ℕ) (f g : ℕ → ℕ) → ((s : ℕ) → s ≢ t → f s ≡ g s) → f t ≤ g t + 1 → sum n f ≤ sum n g + 1
+one-more n t f g e h =
+    by-order t n
+    (λ l. omega (arith, sum-change n t f g l (λ j b q. e j q)))
+    (λ l. omega (arith, sum-cong n f g (λ j b. e j (omega arith))))
+
+ones : (n : ℕ) → sum n (λ (s : ℕ). 1) ≡ n
+unfolding sum
+ones zero = refl
+ones (suc n) = omega (arith, ones n)
+
+module _ (rec : ℕ → Record) (f n : ℕ) where
+  count-step : (m s : ℕ) → count (suc m) (λ (b : ℕ). isPart f s (rec b)) ≤ count m (λ (b : ℕ). isPart f s (rec b)) + 1
+  count-step m s =
+      by-test (isPart f s (rec m))
+      (λ t. omega (arith, count-yes m (λ (b : ℕ). isPart f s (rec b)) t))
+      (λ t. omega (arith, count-no m (λ (b : ℕ). isPart f s (rec b)) t))
+
+  parts-below : (m : ℕ) → sum n (λ (s : ℕ). count m (λ (b : ℕ). isPart f s (rec b))) ≤ m
+  unfolding count
+  parts-below zero = omega (arith, sum-none n (λ (s : ℕ). 0) (λ i h. refl))
+  parts-below (suc m) =
+      let F : ℕ → ℕ = λ (s : ℕ). count (suc m) (λ (b : ℕ). isPart f s (rec b)) in
+      let G : ℕ → ℕ = λ (s : ℕ). count m (λ (b : ℕ). isPart f s (rec b)) in
+      omega (arith, one-more n (seqOf (rec m)) F G (λ s q. count-no m (λ (b : ℕ). isPart f s (rec b)) (other-seq f s (rec m) q)) (count-step m (seqOf (rec m))), parts-below m)
+
+  -- sequences that stand once each are no more than the blocks
+  pub once-most : all (λ (s : ℕ). eqb (count blocks (λ (b : ℕ). isPart f s (rec b))) 1) n ≡ true → n ≤ blocks
+  once-most t =
+      let c : ℕ → ℕ = λ (s : ℕ). count blocks (λ (b : ℕ). isPart f s (rec b)) in
+      let e : sum n c ≡ sum n (λ (s : ℕ). 1) = sum-cong n c (λ (s : ℕ). 1) (λ s h. true-eq (all-at (λ (s : ℕ). eqb (c s) 1) n t s h)) in
+      omega (arith, ones n, parts-below blocks)
+
+-- ---- the key of a record among the first n parts of file f
+
+-- its sequence below n, `blocks` for a later one, and one more where it is no part of f
+unfoldable pub partOf : ℕ → ℕ → Record → ℕ
+partOf f n Free = suc blocks
+partOf f n System = suc blocks
+partOf f n (File g t) = cond (eqb g f) (cond (ltb t n) t blocks) (suc blocks)
+partOf f n Other = suc blocks
+
+module _ (number f n : ℕ) where
+  module _ (h : number < 0xF80000) where
+    file-here : recordOf number ≡ File (number / 4096) (number % 4096)
+    unfolding recordOf
+    file-here = cond-true (File (number / 4096) (number % 4096)) (cond (eqb number 0xFDFFFF) Free (cond (eqb number 0xF80000) System Other)) (lt-true h)
+
+    pub part-other : (number / 4096 ≡ f → ⊥) → suc blocks ≡ partOf f n (recordOf number)
+    unfolding partOf
+    part-other q =
+        sym (ap (partOf f n) file-here ∙ cond-false (cond (ltb (number % 4096) n) (number % 4096) blocks) (suc blocks) (eq-false {a = number / 4096} {b = f} q))
+
+    module _ (q : number / 4096 ≡ f) where
+      of-file : partOf f n (recordOf number) ≡ cond (ltb (number % 4096) n) (number % 4096) blocks
+      unfolding partOf
+      of-file = ap (partOf f n) file-here ∙ cond-true (cond (ltb (number % 4096) n) (number % 4096) blocks) (suc blocks) (eq-true q)
+
+      pub part-low : number % 4096 < n → number % 4096 ≡ partOf f n (recordOf number)
+      part-low l = sym (of-file ∙ cond-true (number % 4096) blocks (lt-true l))
+
+      pub part-later : n ≤ number % 4096 → blocks ≡ partOf f n (recordOf number)
+      part-later l = sym (of-file ∙ cond-false (number % 4096) blocks (lt-false l))
+
+  pub part-none : 0xF80000 ≤ number → suc blocks ≡ partOf f n (recordOf number)
+  unfolding recordOf partOf
+  part-none h =
+      sym
+      (ap (partOf f n) (cond-false (File (number / 4096) (number % 4096)) (cond (eqb number 0xFDFFFF) Free (cond (eqb number 0xF80000) System Other)) (lt-false h))
+      ∙ by-test (eqb number 0xFDFFFF) (λ e. rw e) (λ e. by-test (eqb number 0xF80000) (λ g. rw (e, g)) (λ g. rw (e, g))))
+
+-- a number's file, and whether its record bears one
+pub bears-number : (number f : ℕ) → (eqb (number / 4096) f && ltb number 0xF80000) ≡ bears f (recordOf number)
+unfolding recordOf bears
+bears-number number f =
+    by-order number 0xF80000
+    (λ h.
+    let t : ltb number 0xF80000 ≡ true = lt-true h in
+    by-test (eqb (number / 4096) f) (λ e. rw (t, e)) (λ e. rw (t, e)))
+    (λ h.
+    let t : ltb number 0xF80000 ≡ false = lt-false h in
+    and-false-right (eqb (number / 4096) f) t
+    ∙ sym
+    (ap (bears f) (cond-false (File (number / 4096) (number % 4096)) (cond (eqb number 0xFDFFFF) Free (cond (eqb number 0xF80000) System Other)) t)
+    ∙ by-test (eqb number 0xFDFFFF) (λ e. rw e) (λ e. by-test (eqb number 0xF80000) (λ g. rw (e, g)) (λ g. rw (e, g)))))
+
+module _ (f n : ℕ) (h : n ≤ blocks) where
+  -- a record that bears the file is a part of it, and no other is
+  pub part-borne : (r : Record) → bears f r ≡ true → partOf f n r < suc blocks
+  unfolding partOf bears
+  part-borne Free t = absurd (false≢true t)
+  part-borne System t = absurd (false≢true t)
+  part-borne (File g s) t =
+      by-test (ltb s n) (λ q. rw (t, q) (omega (arith, true-lt {a = s} {b = n} q))) (λ q. rw (t, q) (omega arith))
+  part-borne Other t = absurd (false≢true t)
+
+  pub part-unborne : (r : Record) → bears f r ≡ false → suc blocks ≡ partOf f n r
+  unfolding partOf bears
+  part-unborne Free t = refl
+  part-unborne System t = refl
+  part-unborne (File g s) t = rw t
+  part-unborne Other t = refl
+
+  no-part : (s : ℕ) → s < n → eqb (suc blocks) s ≡ false
+  no-part s l = eq-false {a = suc blocks} {b = s} (λ e. omega arith)
+
+  -- the key is s exactly for part s
+  pub part-is : (s : ℕ) → s < n → (r : Record) → eqb (partOf f n r) s ≡ isPart f s r
+  unfolding partOf isPart
+  part-is s l Free = no-part s l
+  part-is s l System = no-part s l
+  part-is s l (File g t) =
+      by-test (eqb g f)
+      (λ e. by-test (ltb t n)
+      (λ q. rw (e, q))
+      (λ q.
+      let a : eqb t s ≡ false = eq-false {a = t} {b = s} (λ z. omega (arith, false-lt {a = t} {b = n} q)) in
+      let b : eqb blocks s ≡ false = eq-false {a = blocks} {b = s} (λ z. omega arith) in
+      rw (e, q, a) b))
+      (λ e. rw e (no-part s l))
+  part-is s l Other = no-part s l
+
+  -- it is `blocks` exactly for a part that is not within
+  pub part-within : (r : Record) → not (eqb (partOf f n r) blocks) ≡ within f n r
+  unfolding partOf within
+  part-within Free = refl
+  part-within System = refl
+  part-within (File g t) =
+      by-test (eqb g f)
+      (λ e. by-test (ltb t n)
+      (λ q.
+      let a : eqb t blocks ≡ false = eq-false {a = t} {b = blocks} (λ z. omega (arith, true-lt {a = t} {b = n} q)) in
+      rw (e, q, a))
+      (λ q. rw (e, q)))
+      (λ e. rw e)
+  part-within Other = refl
+
+-- ---- whether each part stands once, by a tally
+
+unfoldable pub partsIn : List ℕ → ℕ → ℕ → Bool
+partsIn map f n =
+    all (λ (b : ℕ). within f n (recordIn map b)) blocks
+    && all (λ (s : ℕ). eqb (count blocks (λ (b : ℕ). isPart f s (recordIn map b))) 1) n
+
+module _ (map : List ℕ) (f n : ℕ) where
+  pub parts-many : blocks < n → false ≡ partsIn map f n
+  unfolding partsIn
+  parts-many h =
+      let once : Bool = all (λ (s : ℕ). eqb (count blocks (λ (b : ℕ). isPart f s (recordIn map b))) 1) n in
+      by-test once (λ t. absurd (omega (arith, once-most (recordIn map) f n t)))
+      (λ t. sym (and-false-right (all (λ (b : ℕ). within f n (recordIn map b)) blocks) t))
+
+  module _ (h : n ≤ blocks) (t : List ℕ) (m : Tallied t (suc blocks) (λ (b : ℕ). partOf f n (recordIn map b)) blocks) where
+    later : eqb (getD t blocks 0) 0 ≡ all (λ (b : ℕ). within f n (recordIn map b)) blocks
+    later =
+        tally-zero t (suc blocks) (λ (b : ℕ). partOf f n (recordIn map b)) blocks m blocks (omega arith)
+        ∙ all-cong (λ (b : ℕ). not (eqb (partOf f n (recordIn map b)) blocks)) (λ (b : ℕ). within f n (recordIn map b)) blocks
+        (λ b l. part-within f n h (recordIn map b))
+
+    once : all (λ (s : ℕ). eqb (getD t s 0) 1) n ≡ all (λ (s : ℕ). eqb (count blocks (λ (b : ℕ). isPart f s (recordIn map b))) 1) n
+    once =
+        all-cong (λ (s : ℕ). eqb (getD t s 0) 1) (λ (s : ℕ). eqb (count blocks (λ (b : ℕ). isPart f s (recordIn map b))) 1) n
+        (λ s l.
+        tally-one t (suc blocks) (λ (b : ℕ). partOf f n (recordIn map b)) blocks m s (omega arith)
+        ∙ ap (λ (c : ℕ). eqb c 1)
+        (count-cong blocks (λ (b : ℕ). eqb (partOf f n (recordIn map b)) s) (λ (b : ℕ). isPart f s (recordIn map b)) (λ b q. part-is f n h s l (recordIn map b))))
+
+    pub parts-later : (getD t blocks 0 ≡ 0 → ⊥) → false ≡ partsIn map f n
+    unfolding partsIn
+    parts-later q =
+        sym (and-false-left (all (λ (s : ℕ). eqb (count blocks (λ (b : ℕ). isPart f s (recordIn map b))) 1) n) (sym later ∙ eq-false q))
+
+    pub parts-once : (r : Bool) → getD t blocks 0 ≡ 0 → r ≡ all (λ (s : ℕ). eqb (getD t s 0) 1) n → r ≡ partsIn map f n
+    unfolding partsIn
+    parts-once r q e =
+        e ∙ once ∙ sym (ap (λ (x : Bool). x && all (λ (s : ℕ). eqb (count blocks (λ (b : ℕ). isPart f s (recordIn map b))) 1) n) (sym later ∙ eq-true q))
+
+-- ---- the blocks of a file in sequence, scanned from the last block down
+
+-- the lowest block from k on that is the part, `blocks` where there is none
+pub record PartsFrom (row map : List ℕ) (f k : ℕ) : Type 0 where
+  pub long : length row ≡ blocks
+  pub most : (s : ℕ) → s < blocks → getD row s 0 ≤ blocks
+  pub none-below : (s : ℕ) → s < blocks → (b : ℕ) → k ≤ b → b < getD row s 0 → isPart f s (recordIn map b) ≡ false
+  pub hit : (s : ℕ) → s < blocks → getD row s 0 < blocks → isPart f s (recordIn map (getD row s 0)) ≡ true
+
+-- all of them
+pub record PartsAt (row map : List ℕ) (f : ℕ) : Type 0 where
+  pub long : length row ≡ blocks
+  pub parts : (s : ℕ) → s < blocks → getD row s 0 ≡ lowest (λ (b : ℕ). isPart f s (recordIn map b)) blocks
+
+pub from-none : (map : List ℕ) (f : ℕ) → PartsFrom (replicate blocks blocks) map f blocks
+from-none map f =
+    record {
+      long = length-replicate blocks blocks;
+      most = λ s h. omega (arith, at s h);
+      none-below = λ s h b l m. absurd (omega (arith, at s h));
+      hit = λ s h l. absurd (omega (arith, at s h));
+    }
+  where
+    at : (s : ℕ) → s < blocks → getD (replicate blocks blocks) s 0 ≡ blocks
+    at s h = getD-replicate blocks s blocks 0 h
+
+module _ (row map : List ℕ) (f k j b : ℕ) (d : j ≡ b) (e : b + 1 ≡ k) (l : k ≤ blocks) (p : PartsFrom row map f k) where
+  -- the record of b is part s
+  pub from-part : (s : ℕ) → s ≡ partOf f blocks (recordIn map b) → s < blocks → PartsFrom (set row s b) map f j
+  from-part s q h =
+      record {
+        long = length-set row s b ∙ p .long;
+        most = λ t g. by-equal t s (λ z. omega (arith, same t z)) (λ z. omega (arith, other t z, p .most t g));
+        none-below = λ t g c u v. by-equal t s (λ z. absurd (omega (arith, same t z)))
+            (λ z. by-equal c b
+            (λ y. ap (λ (x : ℕ). isPart f t (recordIn map x)) y ∙ sym (part-is f blocks (omega arith) t g (recordIn map b)) ∙ eq-false (λ w. z (sym w ∙ sym q)))
+            (λ y. p .none-below t g c (omega arith) (omega (arith, other t z))));
+        hit = λ t g u. by-equal t s
+            (λ z.
+            ap (λ (x : ℕ). isPart f t (recordIn map x)) (same t z)
+            ∙ sym (part-is f blocks (omega arith) t g (recordIn map b)) ∙ eq-true (sym q ∙ sym z))
+            (λ z. ap (λ (x : ℕ). isPart f t (recordIn map x)) (other t z) ∙ p .hit t g (omega (arith, other t z)));
+      }
+    where
+      same : (t : ℕ) → t ≡ s → getD (set row s b) t 0 ≡ b
+      same t z = ap (λ (x : ℕ). getD (set row s b) x 0) z ∙ getD-set-same row s b 0 (omega (arith, p .long))
+
+      other : (t : ℕ) → t ≢ s → getD (set row s b) t 0 ≡ getD row t 0
+      other t z = getD-set-other row s t b 0 z
+
+  -- it is none of the file's
+  pub from-other : (s : ℕ) → s ≡ partOf f blocks (recordIn map b) → blocks ≤ s → PartsFrom row map f j
+  from-other s q h =
+      record {
+        long = p .long;
+        most = p .most;
+        none-below = λ t g c u v. by-equal c b
+            (λ y. ap (λ (x : ℕ). isPart f t (recordIn map x)) y ∙ sym (part-is f blocks (omega arith) t g (recordIn map b)) ∙ eq-false {a = partOf f blocks (recordIn map b)} {b = t} (λ w. omega arith))
+            (λ y. p .none-below t g c (omega arith) v);
+        hit = p .hit;
+      }
+
+pub from-all : (row map : List ℕ) (f : ℕ) → PartsFrom row map f 0 → PartsAt row map f
+from-all row map f p =
+    record {
+      long = p .long;
+      parts = λ s h.
+          by-order (getD row s 0) blocks
+          (λ l. sym (lowest-some (λ (b : ℕ). isPart f s (recordIn map b)) blocks (getD row s 0) l (λ b q. p .none-below s h b (omega arith) q) (p .hit s h l)))
+          (λ l.
+          let e : getD row s 0 ≡ blocks = omega (arith, p .most s h) in
+          e ∙ sym (lowest-none (λ (b : ℕ). isPart f s (recordIn map b)) blocks (λ b q. p .none-below s h b (omega arith) (omega arith))));
+    }

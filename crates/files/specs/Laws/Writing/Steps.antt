@@ -1,0 +1,143 @@
+-- What the single steps write, as rows of bytes; and what the steps on block 0 leave of two disks that agree inside their blocks.
+-- Assumes nothing.
+use mathlib.Core.Path.{_≡_, refl, sym, ap, _∙_, fun-ext}
+use mathlib.Core.Bool.{cond, _&&_}
+use mathlib.Core.List.{List}
+use Prim.Native.Nat.{ℕ, _+_, _-_, _*_, _/_, _%_, _≤_, _<_}
+use native.Mathlib.Nat.{zero-add, add-zero}
+use native.Mathlib.Omega.{arith}
+use lib.Dec.{leb, ltb}
+use lib.ListN.{length, getD}
+use Rattle.laws.specs.Change.{upd, patch, upd₂-same, upd₂-other, patch-cong}
+use Rattle.laws.specs.Count.{count, count-cong}
+use Rattle.laws.specs.Numbers.{at32}
+use Rattle.laws.specs.Words.{bigEndian, highByte}
+use Rattle.laws.specs.Order.{by-order}
+use Rattle.laws.specs.Overlay.{overlay, overlay-cong, put}
+use Rattle.laws.specs.Tab.{tab, tab-length, tab-in, tab-ext, elementAt}
+use Rattle.laws.specs.Tests.{lt-true, lt-false, by-equal, cond-true, cond-false}
+use Rattle.sector_rules.specs.Geometry.{blockSectors, blocks}
+use Rattle.file_rules.specs.declared.Record.{Record}
+use Rattle.file_rules.specs.declared.Record.the-variants.{Free, System, File, Other}
+use Rattle.file_rules.specs.declared.Entry.{Entry}
+use Rattle.file_rules.specs.Directory.{entryByte}
+use Rattle.file_rules.specs.Disk.{Disk, diskOf, imageOf}
+use Rattle.files.specs.Laws.Writing.Stored.{Near, near-step, patched, patched-block}
+use Rattle.file_rules.specs.Map.{recordAt, isFree, freeAt, freeCount}
+use Rattle.file_rules.specs.Sizes.{blockBytes, slotBytes, nameMost, mapStart, recordBytes}
+use Rattle.file_rules.specs.Written.{storedByte, part, zeros, setBlock, setWord, setFree, setEnd, stepUpdate}
+
+-- the record fits its three bytes
+abbrev pub Packs : Record → Type 0
+Packs Free = Unit {0}
+Packs System = Unit {0}
+Packs (File f s) = (f < 4096) × (s < 4096)
+Packs Other = Unit {0}
+
+-- ---- a row that is written field by field
+
+pub overlay-tab : (f : ℕ → ℕ) (m at n : ℕ) (g : ℕ → ℕ) (l : List ℕ) → l ≡ tab f m → overlay l at n g ≡ tab (patch f at n g) m
+unfolding overlay patch
+overlay-tab f m at n g l e =
+    ap (λ (r : List ℕ). overlay r at n g) e
+    ∙ ap (tab (patch (λ (i : ℕ). getD (tab f m) i 0) at n g)) (tab-length f m)
+    ∙ tab-ext (patch (λ (i : ℕ). getD (tab f m) i 0) at n g) (patch f at n g) m (λ k h. ap (λ (x : ℕ). cond (leb at k && ltb k (at + n)) (g (k - at)) x) (tab-in f m k h))
+
+-- a list of n elements, as a row
+pub put-row : (l : List ℕ) (at : ℕ) (vs : List ℕ) (n : ℕ) → length vs ≡ n → put l at vs ≡ overlay l at n (λ (i : ℕ). getD vs i 0)
+unfolding put elementAt
+put-row l at vs n e = ap (λ (k : ℕ). overlay l at k (elementAt vs 0)) e ∙ overlay-cong l at n (elementAt vs 0) (λ (i : ℕ). getD vs i 0) (λ i h. ap (λ (k : ℕ). getD vs k 0) (zero-add i))
+
+-- an entry's fields, written one after another into 64 zeros
+pub entry-row : (e : Entry) → length (e .name) ≡ nameMost → (r₀ r₁ r₂ r₃ r₄ : List ℕ) → r₀ ≡ tab (λ (i : ℕ). 0) slotBytes
+    → r₁ ≡ overlay r₀ 0 4 (highByte 4 (e .length))
+    → r₂ ≡ overlay r₁ 14 2 (highByte 2 (e .named))
+    → r₃ ≡ put r₂ 16 (e .name)
+    → r₄ ≡ overlay r₃ 52 4 (highByte 4 (e .date))
+    → r₄ ≡ tab (entryByte e) slotBytes
+unfolding entryByte
+entry-row e long r₀ r₁ r₂ r₃ r₄ e₀ e₁ e₂ e₃ e₄ =
+    let t₁ = e₁ ∙ overlay-tab _ slotBytes 0 4 (highByte 4 (e .length)) r₀ e₀ in
+    let t₂ = e₂ ∙ overlay-tab _ slotBytes 14 2 (highByte 2 (e .named)) r₁ t₁ in
+    let t₃ = e₃ ∙ put-row r₂ 16 (e .name) nameMost long ∙ overlay-tab _ slotBytes 16 nameMost (λ (i : ℕ). getD (e .name) i 0) r₂ t₂ in
+    e₄ ∙ overlay-tab _ slotBytes 52 4 (highByte 4 (e .date)) r₃ t₃
+
+-- ---- a block of a file
+
+-- byte i of a file with these 64 bytes at its beginning
+unfoldable pub storedRow : List ℕ → List ℕ → ℕ → ℕ
+storedRow head content i = cond (ltb i slotBytes) (getD head i 0) (getD content (i - slotBytes) 0)
+
+pub stored-row : (e : Entry) (head content : List ℕ) → head ≡ tab (entryByte e) slotBytes → storedRow head content ≡ storedByte e content
+unfolding storedRow storedByte
+stored-row e head content q =
+    fun-ext (λ (i : ℕ).
+    by-order i slotBytes
+    (λ h. cond-true _ _ (lt-true h) ∙ ap (λ (l : List ℕ). getD l i 0) q ∙ tab-in (entryByte e) slotBytes i h ∙ sym (cond-true _ _ (lt-true h)))
+    (λ h. cond-false _ _ (lt-false h) ∙ sym (cond-false _ _ (lt-false h))))
+
+pub stored-head : (head content : List ℕ) (i : ℕ) → i < slotBytes → getD head (i + 0) 0 ≡ storedRow head content i
+unfolding storedRow
+stored-head head content i h = ap (λ (k : ℕ). getD head k 0) (add-zero i) ∙ sym (cond-true _ _ (lt-true h))
+
+pub stored-rest : (head content : List ℕ) (i : ℕ) → slotBytes ≤ i → getD content (i - slotBytes + 0) 0 ≡ storedRow head content i
+unfolding storedRow
+stored-rest head content i h = ap (λ (k : ℕ). getD content k 0) (add-zero (i - slotBytes)) ∙ sym (cond-false _ _ (lt-false h))
+
+pub part-written : (d : Disk) (b s : ℕ) (c : ℕ → ℕ) → imageOf (patched d b 0 blockBytes (λ (o : ℕ). c (s * blockBytes + o))) ≡ imageOf (setBlock d b (part c s))
+unfolding setBlock part
+part-written d b s c = patched-block d b (λ (o : ℕ). c (s * blockBytes + o)) (part c s) (λ o h. sym (cond-true _ _ (lt-true h)))
+
+pub zeros-written : (d : Disk) (b : ℕ) → imageOf (patched d b 0 blockBytes (λ (o : ℕ). 0)) ≡ imageOf (setBlock d b zeros)
+unfolding setBlock zeros
+zeros-written d b = patched-block d b (λ (o : ℕ). 0) zeros (λ o h. refl)
+
+-- ---- the steps on block 0, of disks that agree
+
+module _ (d e : Disk) (near : Near d e) where
+  pub near-patched : (b o n : ℕ) (g : ℕ → ℕ) → Near (patched d b o n g) (patched e b o n g)
+  near-patched b o n g b′ i hb hi =
+      by-equal b′ b
+      (λ z.
+      upd₂-same d b (patch (d b) o n g) b′ i z ∙ patch-cong (d b) (e b) o n g i (near b i (omega arith) hi) ∙ sym (upd₂-same e b (patch (e b) o n g) b′ i z))
+      (λ z. upd₂-other d b (patch (d b) o n g) b′ i z ∙ near b′ i hb hi ∙ sym (upd₂-other e b (patch (e b) o n g) b′ i z))
+
+  pub near-record : (b : ℕ) → b < blocks → recordAt d b ≡ recordAt e b
+  unfolding recordAt
+  near-record b h =
+      let e₀ : d 0 (mapStart + recordBytes * b) ≡ e 0 (mapStart + recordBytes * b) = near 0 _ (omega arith) (omega arith) in
+      let e₁ : d 0 (mapStart + recordBytes * b + 1) ≡ e 0 (mapStart + recordBytes * b + 1) = near 0 _ (omega arith) (omega arith) in
+      let e₂ : d 0 (mapStart + recordBytes * b + 2) ≡ e 0 (mapStart + recordBytes * b + 2) = near 0 _ (omega arith) (omega arith) in
+      rw (e₀, e₁, e₂)
+
+  pub near-word : (o v : ℕ) → Near (setWord d o v) (setWord e o v)
+  unfolding setWord
+  near-word o v = near-patched 0 o 2 (highByte 2 v)
+
+  pub near-count : freeCount d ≡ freeCount e
+  unfolding freeCount freeAt
+  near-count = count-cong blocks (freeAt d) (freeAt e) (λ b h. ap isFree (near-record b h))
+
+  pub near-free : Near (setFree d) (setFree e)
+  unfolding setFree
+  near-free b o hb ho = near-word 20 (blockSectors * freeCount d) b o hb ho ∙ ap (λ (n : ℕ). setWord e 20 (blockSectors * n) b o) near-count
+
+  pub near-update : Near (stepUpdate d) (stepUpdate e)
+  unfolding stepUpdate at32 bigEndian
+  near-update b o hb ho =
+      let count : at32 (d 0) 16 ≡ at32 (e 0) 16 =
+      rw (near 0 16 (omega arith) (omega arith), near 0 17 (omega arith) (omega arith), near 0 18 (omega arith) (omega arith), near 0 19 (omega arith) (omega arith)) in
+      near-patched 0 16 4 (highByte 4 (at32 (d 0) 16 + 1)) b o hb ho ∙ ap (λ (n : ℕ). upd e 0 (patch (e 0) 16 4 (highByte 4 (n + 1))) b o) count
+
+pub near-end : (d e : Disk) → Near d e → (k : ℕ) → Near (setEnd d k) (setEnd e k)
+unfolding setEnd
+near-end d e near k =
+    near-word (setWord d 34 (k * slotBytes / blockBytes)) (setWord e 34 (k * slotBytes / blockBytes)) (near-word d e near 34 (k * slotBytes / blockBytes)) 36 (k * slotBytes % blockBytes)
+
+-- two words, one after the other
+pub end-written : (l₀ l₁ l₂ : List ℕ) (k : ℕ) → l₁ ≡ imageOf (setWord (diskOf l₀) 34 (k * slotBytes / blockBytes))
+    → l₂ ≡ imageOf (setWord (diskOf l₁) 36 (k * slotBytes % blockBytes)) → l₂ ≡ imageOf (setEnd (diskOf l₀) k)
+unfolding setEnd
+end-written l₀ l₁ l₂ k p q =
+    near-step (λ (d : Disk). setWord d 36 (k * slotBytes % blockBytes)) (λ d e n. near-word d e n 36 (k * slotBytes % blockBytes)) l₁ l₂
+    (setWord (diskOf l₀) 34 (k * slotBytes / blockBytes)) p q

@@ -1,0 +1,128 @@
+-- Bytes stored into an image, one by one: what is written is a row of bytes of a block. Disks that agree inside their blocks.
+-- Assumes nothing.
+use mathlib.Core.Path.{_≡_, refl, sym, ap, ap₂, _∙_}
+use mathlib.Core.Logic.{_≢_}
+use mathlib.Core.List.{List}
+use Prim.Native.Nat.{ℕ, _+_, _-_, _≤_, _<_}
+use native.Mathlib.Omega.{arith}
+use lib.ListN.{length, getD, set}
+use Rattle.laws.specs.Change.{upd, patch, upd-same, upd-other, upd₂-same, upd₂-other, patch-in, patch-below, patch-above, by-place}
+use Rattle.laws.specs.Tab.{tab, tab-length, tab-in}
+use Rattle.laws.specs.Tests.{lt-true, by-equal, cond-true, and-true}
+use Rattle.sector_rules.specs.Geometry.{blocks, imageBytes}
+use Rattle.file_rules.specs.Disk.{Disk, byteOf, blockOf, offsetOf, diskOf, imageOf, setByte}
+use Rattle.file_rules.specs.Laws.Base.Disk.{byte-lt, block-byte, offset-byte, image-disk, image-cong, image-set}
+use Rattle.file_rules.specs.Sizes.{blockBytes}
+
+-- ---- disks that agree inside their blocks
+
+abbrev pub Near : Disk → Disk → Type 0
+Near d e = (b o : ℕ) → b < blocks → o < blockBytes → d b o ≡ e b o
+
+pub near-disk : (d : Disk) → Near (diskOf (imageOf d)) d
+unfolding diskOf imageOf
+near-disk d b o hb ho =
+    cond-true _ _ (and-true (lt-true hb) (lt-true ho))
+    ∙ tab-in (λ (i : ℕ). d (blockOf i) (offsetOf i)) imageBytes (byteOf b o) (byte-lt b o hb ho)
+    ∙ ap₂ d (block-byte b o hb ho) (offset-byte b o hb ho)
+
+pub near-image : (l : List ℕ) (d : Disk) → l ≡ imageOf d → Near (diskOf l) d
+near-image l d e b o hb ho = ap (λ (x : List ℕ). diskOf x b o) e ∙ near-disk d b o hb ho
+
+-- a step that keeps the agreement may be taken on the image's disk
+pub near-step : (s : Disk → Disk) → ((d e : Disk) → Near d e → Near (s d) (s e)) → (l m : List ℕ) (d : Disk)
+    → l ≡ imageOf d → m ≡ imageOf (s (diskOf l)) → m ≡ imageOf (s d)
+near-step s keep l m d e q = q ∙ image-cong (s (diskOf l)) (s d) (keep (diskOf l) d (near-image l d e))
+
+-- ---- one byte
+
+module _ (l : List ℕ) (b o v : ℕ) (e : length l ≡ imageBytes) where
+  pub set-inside : b < blocks → o < blockBytes → set l (byteOf b o) v ≡ imageOf (setByte (diskOf l) b o v)
+  set-inside hb ho = ap (λ (x : List ℕ). set x (byteOf b o) v) (sym (image-disk l e)) ∙ image-set (diskOf l) b o v hb ho
+
+  pub set-no-block : blocks ≤ b → l ≡ imageOf (setByte (diskOf l) b o v)
+  unfolding setByte
+  set-no-block h =
+      sym (image-disk l e)
+      ∙ image-cong (diskOf l) (setByte (diskOf l) b o v) (λ b′ i hb ho. sym (upd₂-other (diskOf l) b (upd (diskOf l b) o v) b′ i (omega arith)))
+
+-- ---- a row of bytes of a block
+
+-- n bytes of g from offset o of block b on
+abbrev pub patched : Disk → ℕ → ℕ → ℕ → (ℕ → ℕ) → Disk
+patched d b o n g = upd d b (patch (d b) o n g)
+
+pub patched-none : (l : List ℕ) (b o : ℕ) (g : ℕ → ℕ) → length l ≡ imageBytes → l ≡ imageOf (patched (diskOf l) b o 0 g)
+patched-none l b o g e =
+    sym (image-disk l e)
+    ∙ image-cong (diskOf l) (patched (diskOf l) b o 0 g)
+    (λ b′ i hb ho. by-equal b′ b
+    (λ q. ap (λ (x : ℕ). diskOf l x i) q
+    ∙ sym (upd₂-same (diskOf l) b (patch (diskOf l b) o 0 g) b′ i q
+    ∙ by-place (diskOf l b) o 0 g i (λ h k. absurd (omega arith)) (patch-below (diskOf l b) o 0 g i) (patch-above (diskOf l b) o 0 g i)))
+    (λ q. sym (upd₂-other (diskOf l) b (patch (diskOf l b) o 0 g) b′ i q)))
+
+-- the last byte is the new one, the others are as they were
+patch-last : (f : ℕ → ℕ) (o n : ℕ) (g : ℕ → ℕ) (i : ℕ) → i ≢ o + n → patch f o n g i ≡ patch f o (n + 1) g i
+patch-last f o n g i q =
+    by-place f o n g i
+    (λ h k. patch-in f o n g i h k ∙ sym (patch-in f o (n + 1) g i h (omega arith)))
+    (λ h. patch-below f o n g i h ∙ sym (patch-below f o (n + 1) g i h))
+    (λ h. patch-above f o n g i h ∙ sym (patch-above f o (n + 1) g i (omega arith)))
+
+module _ (d : Disk) (b o n : ℕ) (g : ℕ → ℕ) (l m : List ℕ) (v : ℕ) where
+  pub patched-more : l ≡ imageOf (patched d b o n g) → m ≡ imageOf (setByte (diskOf l) b (o + n) v) → v ≡ g n → m ≡ imageOf (patched d b o (n + 1) g)
+  unfolding setByte
+  patched-more e q w =
+      q
+      ∙ image-cong (setByte (diskOf l) b (o + n) v) (patched d b o (n + 1) g)
+      (λ b′ i hb ho. by-equal b′ b
+      (λ z.
+      upd₂-same (diskOf l) b (upd (diskOf l b) (o + n) v) b′ i z
+      ∙ by-equal i (o + n)
+      (λ y.
+      let k : i - o ≡ n = omega arith in
+      upd-same (diskOf l b) (o + n) v i y ∙ w ∙ ap g (sym k) ∙ sym (patch-in (d b) o (n + 1) g i (omega arith) (omega arith)))
+      (λ y.
+      upd-other (diskOf l b) (o + n) v i y
+      ∙ near-image l (patched d b o n g) e b i (omega arith) ho
+      ∙ upd₂-same d b (patch (d b) o n g) b i refl
+      ∙ patch-last (d b) o n g i y)
+      ∙ sym (upd₂-same d b (patch (d b) o (n + 1) g) b′ i z))
+      (λ z.
+      upd₂-other (diskOf l) b (upd (diskOf l b) (o + n) v) b′ i z
+      ∙ near-image l (patched d b o n g) e b′ i hb ho
+      ∙ upd₂-other d b (patch (d b) o n g) b′ i z
+      ∙ sym (upd₂-other d b (patch (d b) o (n + 1) g) b′ i z)))
+
+-- the same bytes
+pub patched-cong : (d : Disk) (b o n : ℕ) (f g : ℕ → ℕ) → ((i : ℕ) → i < n → f i ≡ g i) → imageOf (patched d b o n f) ≡ imageOf (patched d b o n g)
+patched-cong d b o n f g e =
+    image-cong (patched d b o n f) (patched d b o n g)
+    (λ b′ i hb ho. by-equal b′ b
+    (λ z.
+    upd₂-same d b (patch (d b) o n f) b′ i z
+    ∙ by-place (d b) o n f i
+    (λ h k. patch-in (d b) o n f i h k ∙ e (i - o) (omega arith) ∙ sym (patch-in (d b) o n g i h k))
+    (λ h. patch-below (d b) o n f i h ∙ sym (patch-below (d b) o n g i h))
+    (λ h. patch-above (d b) o n f i h ∙ sym (patch-above (d b) o n g i h))
+    ∙ sym (upd₂-same d b (patch (d b) o n g) b′ i z))
+    (λ z. upd₂-other d b (patch (d b) o n f) b′ i z ∙ sym (upd₂-other d b (patch (d b) o n g) b′ i z)))
+
+-- a block that is written whole
+pub patched-block : (d : Disk) (b : ℕ) (f g : ℕ → ℕ) → ((i : ℕ) → i < blockBytes → f i ≡ g i) → imageOf (patched d b 0 blockBytes f) ≡ imageOf (upd d b g)
+patched-block d b f g e =
+    image-cong (patched d b 0 blockBytes f) (upd d b g)
+    (λ b′ i hb ho. by-equal b′ b
+    (λ z.
+    let k : i - 0 ≡ i = omega arith in
+    upd₂-same d b (patch (d b) 0 blockBytes f) b′ i z ∙ patch-in (d b) 0 blockBytes f i (omega arith) (omega arith) ∙ ap f k ∙ e i ho ∙ sym (upd₂-same d b g b′ i z))
+    (λ z. upd₂-other d b (patch (d b) 0 blockBytes f) b′ i z ∙ sym (upd₂-other d b g b′ i z)))
+
+-- a row that is given by a rule
+pub patched-row : (d : Disk) (b o : ℕ) (s : List ℕ) (n : ℕ) (g : ℕ → ℕ) → s ≡ tab g n
+    → imageOf (patched d b o (length s) (λ (i : ℕ). getD s i 0)) ≡ imageOf (patched d b o n g)
+patched-row d b o s n g e =
+    ap (λ (r : List ℕ). imageOf (patched d b o (length r) (λ (i : ℕ). getD r i 0))) e
+    ∙ ap (λ (k : ℕ). imageOf (patched d b o k (λ (i : ℕ). getD (tab g n) i 0))) (tab-length g n)
+    ∙ patched-cong d b o n (λ (i : ℕ). getD (tab g n) i 0) g (λ i h. tab-in g n i h)
