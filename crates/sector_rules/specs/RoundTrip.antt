@@ -1,5 +1,5 @@
 -- round-trip: demand 2 over whole images. For every block image, what packing gives is accepted by unpacking, and gives the image back.
--- Assumes nothing: these are definitions. The proof is `round-trip` in Laws/RoundTrip.antt.
+-- Assumes nothing: these are definitions. The proof is `round-trip` in Laws/Trip/RoundTrip.antt.
 use mathlib.Core.List.{List}
 use mathlib.Core.Path.{_≡_}
 use Prim.Native.Nat.{ℕ, _<_}
