@@ -5,6 +5,7 @@ ghost use lib.ListN.{length};
 ghost use Rattle.sector_rules.specs.Geometry.{placed};
 ghost use Rattle.sector_rules.specs.Packed.{packReply, packHfe};
 ghost use Rattle.sector_rules.specs.Unpacked.{unpackReply, unpackImage};
+ghost use Rattle.file_rules.specs.Arguments.{argumentsOf};
 ghost use Rattle.file_rules.specs.Calls as Calls;
 ghost use Rattle.file_rules.specs.FirstTrack.{firstTrack};
 use file_rules::FirstTrack;
@@ -33,7 +34,7 @@ pub extern "C" fn dheg_place(block: usize, sector: usize) -> Reply
 
 #[no_mangle]
 pub extern "C" fn dheg_format(image: &mut [u8], name: &[u8], number: u16) -> Reply
-    ensures { λ r. ⌜ (r ≡ Calls.format (now (image .entry)) (now (name .entry)) number .answer) × (now (image .exit) ≡ Calls.format (now (image .entry)) (now (name .entry)) number .image) ⌝ }
+    ensures { λ r. ⌜ (r ≡ Calls.format (now (image .entry)) (argumentsOf (now (name .entry)) number) .answer) × (now (image .exit) ≡ Calls.format (now (image .entry)) (argumentsOf (now (name .entry)) number) .image) ⌝ }
 {
     files::format(image, name, number)
 }

@@ -17,6 +17,7 @@ use Rattle.sector_rules.specs.Geometry.{blockSectors, blocks, imageBytes}
 use Rattle.file_rules.specs.declared.Record.{Record}
 use Rattle.file_rules.specs.declared.Record.the-variants.{Free, System, File, Other}
 use Rattle.file_rules.specs.declared.Entry.{Entry}
+use Rattle.file_rules.specs.Arguments.{FormatArguments}
 use Rattle.file_rules.specs.Sizes.{slotBytes, blockSlots, titleMost}
 use Rattle.file_rules.specs.Disk.{Disk, diskOf, imageOf}
 use Rattle.file_rules.specs.Map.{freeAt, freeCount, fileByte}
@@ -62,15 +63,19 @@ freshOwner zero = System
 freshOwner (suc zero) = File 0 0
 freshOwner (suc (suc b)) = Free
 
--- update count 0, free word 3 x (480 - 2), one slot of directory, all else zero
-unfoldable pub formatDisk : List ℕ → ℕ → Disk
-formatDisk title number = diskWith (headerByte title number 0 (blockSectors * (blocks - 2)) 1) freshOwner (λ (r : Record) (o : ℕ). 0)
+-- its header: update count 0, free word 3 x (480 - 2), one slot of directory
+abbrev pub freshHeader : FormatArguments → ℕ → ℕ
+freshHeader args = headerByte args 0 (blockSectors * (blocks - 2)) 1
+
+-- all else is zero
+unfoldable pub formatDisk : FormatArguments → Disk
+formatDisk args = diskWith (freshHeader args) freshOwner (λ (r : Record) (o : ℕ). 0)
 
 -- judges 1 and 12 alone
-unfoldable pub format : List ℕ → List ℕ → ℕ → Written
-format image title number =
+unfoldable pub format : List ℕ → FormatArguments → Written
+format image args =
     cond (imageRight image)
-    (cond (leb (length title) titleMost) (record { answer = done; image = imageOf (formatDisk title number) }) (unwritten image (refusal 12)))
+    (cond (leb (length (args .title)) titleMost) (record { answer = done; image = imageOf (formatDisk args) }) (unwritten image (refusal 12)))
     (unwritten image wrongLength)
 
 -- ---- check

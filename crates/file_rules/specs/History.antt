@@ -11,6 +11,7 @@ use Rattle.laws.specs.Numbers.{at16}
 use Rattle.sector_rules.specs.Geometry.{imageBytes}
 use Rattle.sector_rules.specs.Replies.{done, refusal}
 use Rattle.file_rules.specs.declared.Record.the-variants.{File}
+use Rattle.file_rules.specs.Arguments.{FormatArguments}
 use Rattle.file_rules.specs.Calls.{Outcome, format, read, add}
 use Rattle.file_rules.specs.Directory.{entryByte, slotByte, held, dirEnd}
 use Rattle.file_rules.specs.Disk.{Disk, diskOf, imageOf}
@@ -39,11 +40,11 @@ pub data Belongs (d : Disk) (files : List NamedFile) : ℕ → ℕ → Type 0 wh
 
 -- `image` is the image at the end, `outs` the replies and result buffers in order, `files` those that the accepted calls leave,
 -- `most` the greatest number of them present at once
-pub record Holds (title : List ℕ) (number : ℕ) (calls : List Call)
+pub record Holds (args : FormatArguments) (calls : List Call)
     (image : List ℕ) (outs : List Outcome) (files : List NamedFile) (most : ℕ) : Type 0 where
   -- each reply, the whole result buffer after each list and read, and the whole image at the end are the model's
-  pub same-outs : outs ≡ modelOuts (modelFormat title number) calls
-  pub same-image : image ≡ imageOf (modelDisk (modelEnd (modelFormat title number) calls))
+  pub same-outs : outs ≡ modelOuts (modelFormat args) calls
+  pub same-image : image ≡ imageOf (modelDisk (modelEnd (modelFormat args) calls))
   pub whole : length image ≡ imageBytes
   -- the files present are those that the accepted calls leave, with their bytes: a read of any name of 1 to 36 bytes gives theirs or 14,
   -- each has its entry in a slot, and each held slot has the entry of one
@@ -52,7 +53,7 @@ pub record Holds (title : List ℕ) (number : ℕ) (calls : List Call)
   pub slot-has : (k : ℕ) → k < dirEnd (diskOf image) → held (diskOf image) k ≡ true
       → (x : NamedFile) × Present x files × HasEntry (diskOf image) k x
   -- P, which the model counts as its peak, is the greatest number of them present at once
-  pub peak-is : modelEnd (modelFormat title number) calls .peak ≡ most
+  pub peak-is : modelEnd (modelFormat args) calls .peak ≡ most
   -- the free word is 3 x (479 - D - S), and D + S is at most 479
   pub free-word : at16 (diskOf image 0) 20 ≡ freeWord most (sizeOf files)
   pub no-less : dirBlocks most + sizeOf files ≤ usable
@@ -64,16 +65,16 @@ pub record Holds (title : List ℕ) (number : ℕ) (calls : List Call)
   pub zero-else : (b o : ℕ) → (Belongs (diskOf image) files b o → ⊥) → diskOf image b o ≡ 0
 
 -- the image after the format
-abbrev pub formatted : List ℕ → List ℕ → ℕ → List ℕ
-formatted old title number = format old title number .image
+abbrev pub formatted : List ℕ → FormatArguments → List ℕ
+formatted old args = format old args .image
 
 -- a history: an accepted format of an image that held anything, then the calls, each on the image that the last left
 abbrev pub History : Type 0
 History =
-    (old title : List ℕ) (number : ℕ) (calls : List Call) → length old ≡ imageBytes → length title ≤ titleMost
-    → (format old title number .answer ≡ done)
-    × Holds title number calls
-    (imageEnd (formatted old title number) calls)
-    (imageOuts (formatted old title number) calls)
-    (filesLeft [] calls (imageOuts (formatted old title number) calls))
-    (mostPresent [] calls (imageOuts (formatted old title number) calls))
+    (old : List ℕ) (args : FormatArguments) (calls : List Call) → length old ≡ imageBytes → length (args .title) ≤ titleMost
+    → (format old args .answer ≡ done)
+    × Holds args calls
+    (imageEnd (formatted old args) calls)
+    (imageOuts (formatted old args) calls)
+    (filesLeft [] calls (imageOuts (formatted old args) calls))
+    (mostPresent [] calls (imageOuts (formatted old args) calls))

@@ -4,6 +4,7 @@ pub mod Disk
 pub mod Map
 pub mod Directory
 pub mod Check
+pub mod Arguments
 pub mod Written
 pub mod Calls
 pub mod FirstTrack

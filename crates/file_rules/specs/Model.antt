@@ -20,6 +20,7 @@ use Rattle.sector_rules.specs.declared.Reply.{Reply}
 use Rattle.file_rules.specs.declared.Entry.{Entry}
 use Rattle.file_rules.specs.declared.Record.{Record}
 use Rattle.file_rules.specs.declared.Record.the-variants.{Free, System, File, Other}
+use Rattle.file_rules.specs.Arguments.{FormatArguments}
 use Rattle.file_rules.specs.Calls.{Outcome}
 use Rattle.file_rules.specs.Directory.{nameEq, entryByte, entryFor}
 use Rattle.file_rules.specs.Disk.{Disk}
@@ -47,8 +48,7 @@ pub record Filled : Type 0 where
 -- the model's state
 pub record Model : Type 0 where
   -- given at format
-  pub title : List ℕ
-  pub number : ℕ
+  pub arguments : FormatArguments
   -- accepted adds and removes, wrapping at 32 bits
   pub updates : ℕ
   -- P: the greatest number of files present at once
@@ -142,7 +142,7 @@ recordIn slots dir peak b = cond (eqb b 0) System (orRecord 0 (position b 0 dir)
 
 -- the header, with the free word by demand 3
 unfoldable pub modelHeader : Model → ℕ → ℕ
-modelHeader m = headerByte (m .title) (m .number) (m .updates) (freeWord (m .peak) (sizeIn m)) (suc (m .peak))
+modelHeader m = headerByte (m .arguments) (m .updates) (freeWord (m .peak) (sizeIn m)) (suc (m .peak))
 
 -- the formatted disk with map and header, entries in their slots, files in their blocks
 unfoldable pub modelDisk : Model → Disk
@@ -153,8 +153,8 @@ modelDisk m =
 -- ---- format
 
 -- no file, and block 1 for the directory
-unfoldable pub modelFormat : List ℕ → ℕ → Model
-modelFormat title number = record { title = title; number = number; updates = 0; peak = 0; slots = λ (k : ℕ). none; dir = 1 ∷ [] }
+unfoldable pub modelFormat : FormatArguments → Model
+modelFormat args = record { arguments = args; updates = 0; peak = 0; slots = λ (k : ℕ). none; dir = 1 ∷ [] }
 
 -- ---- names and result buffers
 
@@ -241,8 +241,7 @@ dirThen m =
 unfoldable pub fill : Model → ℕ → NamedFile → Model
 fill m k x =
     record {
-      title = m .title;
-      number = m .number;
+      arguments = m .arguments;
       updates = wrap (m .updates + 1);
       peak = peakThen m;
       slots =
@@ -255,8 +254,7 @@ fill m k x =
 unfoldable pub clear : Model → ℕ → Model
 clear m k =
     record {
-      title = m .title;
-      number = m .number;
+      arguments = m .arguments;
       updates = wrap (m .updates + 1);
       peak = m .peak;
       slots = upd (m .slots) k none;

@@ -12,6 +12,7 @@ use Rattle.sector_rules.specs.Geometry.{tracks, sectors, blockSectors, turn, tr
 use Rattle.file_rules.specs.declared.Record.{Record}
 use Rattle.file_rules.specs.declared.Record.the-variants.{Free, System, File, Other}
 use Rattle.file_rules.specs.declared.Entry.{Entry}
+use Rattle.file_rules.specs.Arguments.{FormatArguments}
 use Rattle.file_rules.specs.Sizes.{blockBytes, slotBytes, blockSlots, mapStart, recordBytes, titleMost}
 use Rattle.file_rules.specs.Disk.{Disk}
 use Rattle.file_rules.specs.Map.{encode, recordAt, bears, freeCount, partBlock}
@@ -21,10 +22,10 @@ use Rattle.file_rules.specs.Check.{signature}
 -- ---- the header
 
 -- byte o of the header but for update count, free word and directory length: the disk's name padded with spaces, its number, and what is fixed
-unfoldable pub fixedByte : List ℕ → ℕ → ℕ → ℕ
-fixedByte title number =
+unfoldable pub fixedByte : FormatArguments → ℕ → ℕ
+fixedByte args =
     let f₀ : ℕ → ℕ = patch (λ (o : ℕ). 0xFF) 0 4 (λ (i : ℕ). getD signature i 0) in
-    let f₁ : ℕ → ℕ = patch (patch f₀ 4 titleMost (λ (i : ℕ). getD title i 32)) 14 2 (highByte 2 number) in
+    let f₁ : ℕ → ℕ = patch (patch f₀ 4 titleMost (λ (i : ℕ). getD (args .title) i 32)) 14 2 (highByte 2 (args .number)) in
     let f₂ : ℕ → ℕ = patch (patch f₁ 22 2 (highByte 2 allSectors)) 24 2 (highByte 2 allSectors) in
     let f₃ : ℕ → ℕ = patch (patch f₂ 26 2 (highByte 2 sectors)) 28 2 (highByte 2 trackSectors) in
     let f₄ : ℕ → ℕ = patch (patch f₃ 30 2 (highByte 2 tracks)) 32 2 (highByte 2 blockSectors) in
@@ -32,9 +33,9 @@ fixedByte title number =
     patch (patch f₅ 40 trackSectors (λ (i : ℕ). getD sidePlace i 0)) 58 trackSectors (λ (i : ℕ). getD backward i 0)
 
 -- byte o of the header, with the directory's end in slots
-unfoldable pub headerByte : List ℕ → ℕ → ℕ → ℕ → ℕ → ℕ → ℕ
-headerByte title number updates word end =
-    patch (patch (patch (patch (fixedByte title number)
+unfoldable pub headerByte : FormatArguments → ℕ → ℕ → ℕ → ℕ → ℕ
+headerByte args updates word end =
+    patch (patch (patch (patch (fixedByte args)
     16 4 (highByte 4 updates))
     20 2 (highByte 2 word))
     34 2 (highByte 2 (end * slotBytes / blockBytes)))

@@ -6,9 +6,10 @@ ghost use Rattle.laws.specs.Tab.{tab};
 ghost use Rattle.sector_rules.specs.Geometry.{blocks, imageBytes};
 ghost use Rattle.file_rules.specs.Sizes.{mapStart, titleMost};
 ghost use Rattle.file_rules.specs.Disk.{diskOf, imageOf};
+ghost use Rattle.file_rules.specs.Arguments.{argumentsOf};
 ghost use Rattle.file_rules.specs.Calls as Calls;
-ghost use Rattle.file_rules.specs.Calls.{freshOwner, formatDisk};
-ghost use Rattle.files.specs.Laws.Calling.Fresh.{titled, sized, started, freshHeader, mapped};
+ghost use Rattle.file_rules.specs.Calls.{freshOwner, freshHeader, formatDisk};
+ghost use Rattle.files.specs.Laws.Calling.Fresh.{titled, sized, started, mapped};
 use crate::sizes::SLOT_BYTES;
 use crate::sizes::TITLE_MOST;
 use crate::steps::set_record;
@@ -27,7 +28,7 @@ const SPACE: u8 = 32;
 // The signature, the name padded with spaces, and the number.
 fn put_title(head: &mut [u8], name: &[u8], number: u16)
     requires { ⌜ length (now name) ≤ titleMost ⌝ }
-    ensures { λ _. ⌜ now (head .exit) ≡ titled (now (head .entry)) (now (name .entry)) number ⌝ }
+    ensures { λ _. ⌜ now (head .exit) ≡ titled (now (head .entry)) (argumentsOf (now (name .entry)) number) ⌝ }
 {
     fields::copy_into(head, 0, b"QL5A");
     fields::fill(head, 4, TITLE_MOST, SPACE);
@@ -67,7 +68,7 @@ fn put_start(head: &mut [u8])
 // The header of a fresh disk.
 fn header_bytes(name: &[u8], number: u16) -> [u8; 96]
     requires { ⌜ length (now name) ≤ titleMost ⌝ }
-    ensures { λ r. ⌜ r ≡ tab (freshHeader (now (name .entry)) number) mapStart ⌝ }
+    ensures { λ r. ⌜ r ≡ tab (freshHeader (argumentsOf (now (name .entry)) number)) mapStart ⌝ }
 {
     let mut head = [0xFFu8; 96];
     put_title(&mut head, name, number);
@@ -102,7 +103,7 @@ fn write_map(image: &mut [u8])
 // All zero but the header and the map.
 fn write_fresh(image: &mut [u8], name: &[u8], number: u16)
     requires { ⌜ (length (now image) ≡ imageBytes) × (length (now name) ≤ titleMost) ⌝ }
-    ensures { λ _. ⌜ now (image .exit) ≡ imageOf (formatDisk (now (name .entry)) number) ⌝ }
+    ensures { λ _. ⌜ now (image .exit) ≡ imageOf (formatDisk (argumentsOf (now (name .entry)) number)) ⌝ }
 {
     let head = header_bytes(name, number);
     fields::fill(image, 0, Geometry::IMAGE_BYTES, 0);
@@ -112,7 +113,7 @@ fn write_fresh(image: &mut [u8], name: &[u8], number: u16)
 
 // Formats an image. A refusal leaves it as it was.
 pub fn format(image: &mut [u8], name: &[u8], number: u16) -> Reply
-    ensures { λ r. ⌜ (r ≡ Calls.format (now (image .entry)) (now (name .entry)) number .answer) × (now (image .exit) ≡ Calls.format (now (image .entry)) (now (name .entry)) number .image) ⌝ }
+    ensures { λ r. ⌜ (r ≡ Calls.format (now (image .entry)) (argumentsOf (now (name .entry)) number) .answer) × (now (image .exit) ≡ Calls.format (now (image .entry)) (argumentsOf (now (name .entry)) number) .image) ⌝ }
 {
     if image.len() != Geometry::IMAGE_BYTES {
         return refused(1, 2);

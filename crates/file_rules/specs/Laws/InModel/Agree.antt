@@ -18,6 +18,7 @@ use Rattle.sector_rules.specs.Geometry.{blocks}
 use Rattle.sector_rules.specs.Replies.{refusal}
 use Rattle.file_rules.specs.declared.Record.{Record}
 use Rattle.file_rules.specs.declared.Record.the-variants.{File}
+use Rattle.file_rules.specs.Arguments.{FormatArguments}
 use Rattle.file_rules.specs.Calls.{Outcome, kept, freshOwner}
 use Rattle.file_rules.specs.Directory.{nameEq, nameRight}
 use Rattle.file_rules.specs.Histories.{Call, modelOut, modelStep, modelOuts, modelEnd, toAdd, toRemove, toList, toRead}
@@ -125,8 +126,7 @@ module _ (b : Model) (o : ℕ → Record) (v : Inv (withOwner b o)) (r : Listed 
   remove-next k h l = (
     (λ (x : ℕ). unowned k (o x)),
     ap (λ (ls : ℕ → HeldFile). record {
-      title = b .title;
-      number = b .number;
+      arguments = b .arguments;
       updates = wrap (b .updates + 1);
       peak = b .peak;
       slots = ls;
@@ -202,8 +202,7 @@ module _ (b : Model) (o : ℕ → Record) (v : Inv (withOwner b o)) (r : Listed 
         let empty : b .slots k ≡ none = file-none (b .slots k) (k-none m v) in (
           o′,
           ap (λ (ls : ℕ → HeldFile). record {
-            title = b .title;
-            number = b .number;
+            arguments = b .arguments;
             updates = wrap (b .updates + 1);
             peak = peakAfter m;
             slots = ls;
@@ -285,22 +284,22 @@ agree (c ∷ cs) b o v r =
       ap (λ (z : Inner). endM z cs .peak) (w .1) ∙ ih .2,
     )
 
-pub fresh-listed : (title : List ℕ) (number : ℕ)
-    → Listed (modelFormat title number .slots) (modelFormat title number .dir) freshOwner (partsOf (formatM title number))
+pub fresh-listed : (args : FormatArguments)
+    → Listed (modelFormat args .slots) (modelFormat args .dir) freshOwner (partsOf (formatM args))
 unfolding modelFormat formatM partsOf dirBlocks heldBlocks emptySlots blocksOf takenBy freshOwner
-fresh-listed title number = record { sizes = sizes; each = each }
+fresh-listed args = record { sizes = sizes; each = each }
   where
-    sizes : (k : ℕ) → length (blocksOf (modelFormat title number .slots) (modelFormat title number .dir) k) ≡ partsOf (formatM title number) k
+    sizes : (k : ℕ) → length (blocksOf (modelFormat args .slots) (modelFormat args .dir) k) ≡ partsOf (formatM args) k
     sizes zero = refl
     sizes (suc k) = refl
 
-    each : (k s : ℕ) → s < partsOf (formatM title number) k
-        → (getD (blocksOf (modelFormat title number .slots) (modelFormat title number .dir) k) s 0 < blocks)
-        × (freshOwner (getD (blocksOf (modelFormat title number .slots) (modelFormat title number .dir) k) s 0) ≡ File k s)
+    each : (k s : ℕ) → s < partsOf (formatM args) k
+        → (getD (blocksOf (modelFormat args .slots) (modelFormat args .dir) k) s 0 < blocks)
+        × (freshOwner (getD (blocksOf (modelFormat args .slots) (modelFormat args .dir) k) s 0) ≡ File k s)
     each zero zero h = (omega arith, refl)
     each zero (suc s) h = absurd (omega arith)
     each (suc k) s h = absurd (omega arith)
 
-pub start-is : (title : List ℕ) (number : ℕ) → formatM title number ≡ withOwner (modelFormat title number) freshOwner
+pub start-is : (args : FormatArguments) → formatM args ≡ withOwner (modelFormat args) freshOwner
 unfolding formatM modelFormat withOwner emptySlots fileOf
-start-is title number = refl
+start-is args = refl

@@ -68,7 +68,7 @@ blocksOf slots dir (suc k) = takenBy (slots (suc k))
 -- the inner model with the slots of a model, and these owners
 unfoldable pub withOwner : Model → (ℕ → Record) → Inner
 withOwner b owner =
-    record { title = b .title; number = b .number; updates = b .updates; peak = b .peak; slots = λ (k : ℕ). fileOf (b .slots k); owner = owner }
+    record { arguments = b .arguments; updates = b .updates; peak = b .peak; slots = λ (k : ℕ). fileOf (b .slots k); owner = owner }
 
 pub record Listed (slots : ℕ → Option Filled) (dir : List ℕ) (owner : ℕ → Record) (parts : ℕ → ℕ) : Type 0 where
   pub sizes : (k : ℕ) → length (blocksOf slots dir k) ≡ parts k

@@ -18,6 +18,7 @@ use Rattle.file_rules.specs.declared.Record.{Record}
 use Rattle.file_rules.specs.declared.Record.the-variants.{File}
 use Rattle.file_rules.specs.Calls.{Outcome, kept, freshOwner, deliver}
 use Rattle.file_rules.specs.Directory.{nameRight}
+use Rattle.file_rules.specs.Arguments.{FormatArguments}
 use Rattle.file_rules.specs.Disk.{Disk}
 use Rattle.file_rules.specs.Histories.{Call, toAdd, toRemove, toList, toRead}
 use Rattle.file_rules.specs.Laws.Base.Whole.{unowned}
@@ -27,8 +28,7 @@ use Rattle.file_rules.specs.Written.{headerByte, diskWith, blocksFor}
 
 pub record Inner : Type 0 where
   -- given at format
-  pub title : List ℕ
-  pub number : ℕ
+  pub arguments : FormatArguments
   -- accepted adds and removes
   pub updates : ℕ
   -- the greatest number of files present at once since the format
@@ -50,7 +50,7 @@ fileBlocks m = sum (suc (m .peak)) (λ (k : ℕ). heldBlocks (m .slots k))
 -- ---- the image of a model
 
 unfoldable pub header : Inner → ℕ → ℕ
-header m = headerByte (m .title) (m .number) (m .updates) (freeWord (m .peak) (fileBlocks m)) (suc (m .peak))
+header m = headerByte (m .arguments) (m .updates) (freeWord (m .peak) (fileBlocks m)) (suc (m .peak))
 
 unfoldable pub render : Inner → Disk
 render m = diskWith (header m) (m .owner) (content (m .slots) (m .slots))
@@ -60,9 +60,8 @@ render m = diskWith (header m) (m .owner) (content (m .slots) (m .slots))
 unfoldable pub emptySlots : ℕ → HeldFile
 emptySlots k = none
 
-unfoldable pub formatM : List ℕ → ℕ → Inner
-formatM title number =
-    record { title = title; number = number; updates = 0; peak = 0; slots = emptySlots; owner = freshOwner }
+unfoldable pub formatM : FormatArguments → Inner
+formatM args = record { arguments = args; updates = 0; peak = 0; slots = emptySlots; owner = freshOwner }
 
 -- the slot of that name, or the first past the peak
 unfoldable pub findM : Inner → List ℕ → ℕ
@@ -99,8 +98,7 @@ refusedM m r = record { answer = r; model = m }
 unfoldable pub removeAtM : Inner → ℕ → Inner
 removeAtM m k =
     record {
-      title = m .title;
-      number = m .number;
+      arguments = m .arguments;
       updates = wrap (m .updates + 1);
       peak = m .peak;
       slots = upd (m .slots) k none;
@@ -126,8 +124,7 @@ unfoldable pub addAtM : Inner → ℕ → NamedFile → Inner
 addAtM m k x =
     let owner₁ : ℕ → Record = growOwner m (peakAfter m) in
     record {
-      title = m .title;
-      number = m .number;
+      arguments = m .arguments;
       updates = wrap (m .updates + 1);
       peak = peakAfter m;
       slots = upd (m .slots) k (some x);

@@ -463,7 +463,7 @@ module _ (m : Inner) (v : Inv m) (x : NamedFile) (right : (1 ≤ length (x .name
   abbrev d₄ : Disk
   d₄ = endAfter kk (dirEnd d₀) d₃
 
-  ended : With d₄ (headerByte (m .title) (m .number) (m .updates) (freeWord (m .peak) (fileBlocks m)) (suc (peakAfter m))) (m′ .owner) (content L′ L′)
+  ended : With d₄ (headerByte (m .arguments) (m .updates) (freeWord (m .peak) (fileBlocks m)) (suc (peakAfter m))) (m′ .owner) (content L′ L′)
   unfolding endAfter header
   ended =
       let w : ℕ = freeWord (m .peak) (fileBlocks m) in
@@ -471,24 +471,24 @@ module _ (m : Inner) (v : Inv m) (x : NamedFile) (right : (1 ≤ length (x .name
       (λ h.
       let e : suc (m .peak) ≡ suc (peakAfter m) = ap suc (sym (peak-same m v (omega arith))) in
       let dd : d₄ ≡ d₃ = cond-false _ _ (eq-false {a = kk} {b = dirEnd d₀} (omega (arith, dirEnd-is m v))) in
-      subst (λ (z : Disk). With z (headerByte (m .title) (m .number) (m .updates) w (suc (peakAfter m))) (m′ .owner) (content L′ L′)) (sym dd)
-      (subst (λ (z : ℕ). With d₃ (headerByte (m .title) (m .number) (m .updates) w z) (m′ .owner) (content L′ L′)) e slotted))
+      subst (λ (z : Disk). With z (headerByte (m .arguments) (m .updates) w (suc (peakAfter m))) (m′ .owner) (content L′ L′)) (sym dd)
+      (subst (λ (z : ℕ). With d₃ (headerByte (m .arguments) (m .updates) w z) (m′ .owner) (content L′ L′)) e slotted))
       (λ h.
       let k₁ : kk ≡ suc (m .peak) = omega (arith, k-le m v) in
       let e : suc kk ≡ suc (peakAfter m) = ap suc (k₁ ∙ sym (peak-more m v k₁)) in
       let dd : d₄ ≡ setEnd d₃ (suc kk) = cond-true _ _ (eq-true {a = kk} {b = dirEnd d₀} (omega (arith, dirEnd-is m v))) in
-      subst (λ (z : Disk). With z (headerByte (m .title) (m .number) (m .updates) w (suc (peakAfter m))) (m′ .owner) (content L′ L′)) (sym dd)
-      (subst (λ (z : ℕ). With (setEnd d₃ (suc kk)) (headerByte (m .title) (m .number) (m .updates) w z) (m′ .owner) (content L′ L′)) e
-      (end-step (m .title) (m .number) (m .updates) w (suc (m .peak)) (m′ .owner) (content L′ L′) d₃ slotted (suc kk))))
+      subst (λ (z : Disk). With z (headerByte (m .arguments) (m .updates) w (suc (peakAfter m))) (m′ .owner) (content L′ L′)) (sym dd)
+      (subst (λ (z : ℕ). With (setEnd d₃ (suc kk)) (headerByte (m .arguments) (m .updates) w z) (m′ .owner) (content L′ L′)) e
+      (end-step (m .arguments) (m .updates) w (suc (m .peak)) (m′ .owner) (content L′ L′) d₃ slotted (suc kk))))
 
   pub add-image : addAt (render m) kk (entryFrom x) (x .content) ≡ render m′
   unfolding addAt render addAtM header
   add-image =
       let w : blockSectors * count blocks (freeOf (m′ .owner)) ≡ freeWord (peakAfter m) (fileBlocks m′) = unfold freeWord in omega (arith, add-inv .free-sum) in
-      let p = finish (m .title) (m .number) (m .updates) (freeWord (m .peak) (fileBlocks m)) (suc (peakAfter m)) (m′ .owner) (content L′ L′) d₄ ended (owned₂ .own-valid) (v .updates-fit) in
+      let p = finish (m .arguments) (m .updates) (freeWord (m .peak) (fileBlocks m)) (suc (peakAfter m)) (m′ .owner) (content L′ L′) d₄ ended (owned₂ .own-valid) (v .updates-fit) in
       with-only (header m′) (m′ .owner) (content L′ L′) (addAt (render m) kk (entryFrom x) (x .content))
       (subst (λ (y : ℕ). With (addAt (render m) kk (entryFrom x) (x .content))
-      (headerByte (m .title) (m .number) (wrap (m .updates + 1)) y (suc (peakAfter m))) (m′ .owner) (content L′ L′)) w p)
+      (headerByte (m .arguments) (wrap (m .updates + 1)) y (suc (peakAfter m))) (m′ .owner) (content L′ L′)) w p)
 
   pub present-add : present m′ ≡ suc (present m)
   unfolding present addAtM isSome

@@ -121,9 +121,9 @@ module _ (m : Inner) (v : Inv m) (k : ℕ) (pos : 0 < k) (low : k ≤ m .peak) w
       let p₃ : With d₂ h own′ (content L′ L′) =
       with-same d₂ h own′ (content L′ (m .slots)) p₂ h own′ (content L′ L′) (λ o l. refl) (λ b l. refl) (λ b o i j l. file-slots b o j) in
       let w : blockSectors * count blocks (freeOf own′) ≡ freeWord (m .peak) (fileBlocks m′) = unfold freeWord in omega (arith, remove-inv .free-sum) in
-      let p₄ = finish (m .title) (m .number) (m .updates) (freeWord (m .peak) (fileBlocks m)) (suc (m .peak)) own′ (content L′ L′) d₂ p₃ (owned .own-valid) (v .updates-fit) in
+      let p₄ = finish (m .arguments) (m .updates) (freeWord (m .peak) (fileBlocks m)) (suc (m .peak)) own′ (content L′ L′) d₂ p₃ (owned .own-valid) (v .updates-fit) in
       with-only (header m′) own′ (content L′ L′) (removeAt (render m) k)
-      (subst (λ (x : ℕ). With (removeAt (render m) k) (headerByte (m .title) (m .number) (wrap (m .updates + 1)) x (suc (m .peak))) own′ (content L′ L′)) w p₄)
+      (subst (λ (x : ℕ). With (removeAt (render m) k) (headerByte (m .arguments) (wrap (m .updates + 1)) x (suc (m .peak))) own′ (content L′ L′)) w p₄)
 
   pub present-remove : (x : NamedFile) → m .slots k ≡ some x → present m ≡ suc (present m′)
   unfolding present removeAtM isSome

@@ -16,8 +16,9 @@ use Rattle.sector_rules.specs.Geometry.{blockSectors, blocks}
 use Rattle.sector_rules.specs.Replies.{reply, done, refusal}
 use Rattle.file_rules.specs.declared.Record.{Record}
 use Rattle.file_rules.specs.declared.Record.the-variants.{Free, System, File, Other}
-use Rattle.file_rules.specs.Calls.{Outcome, Changed, Written, kept, refused, unless, imageRight, freshOwner, formatDisk, listDisk, list, readDisk, read, addDisk, imaged, add, removeDisk, remove}
+use Rattle.file_rules.specs.Calls.{Outcome, Changed, Written, kept, refused, unless, imageRight, freshOwner, freshHeader, formatDisk, listDisk, list, readDisk, read, addDisk, imaged, add, removeDisk, remove}
 use Rattle.file_rules.specs.Directory.{nameEq, nameRight}
+use Rattle.file_rules.specs.Arguments.{FormatArguments}
 use Rattle.file_rules.specs.Disk.{Disk, diskOf, imageOf}
 use Rattle.file_rules.specs.Histories.{Call, imageOut, imageStep, imageOuts, imageEnd, toAdd, toRemove, toList, toRead}
 use Rattle.file_rules.specs.Laws.OnImages.Add.{room-is, add-inv, add-image}
@@ -43,13 +44,13 @@ blank Other o = refl
 blank (File zero s) o = refl
 blank (File (suc f) s) o = by-test (ltb o blockBytes) (λ t. cond-true _ _ t) (λ t. cond-false _ _ t)
 
-pub format-is : (title : List ℕ) (number : ℕ) → formatDisk title number ≡ render (formatM title number)
+pub format-is : (args : FormatArguments) → formatDisk args ≡ render (formatM args)
 unfolding formatDisk render formatM header freeWord fileBlocks dirBlocks sum heldBlocks emptySlots
-format-is title number =
-    with-only (headerByte title number 0 (blockSectors * (blocks - 2)) 1) freshOwner (content emptySlots emptySlots) (formatDisk title number)
-    (with-same (formatDisk title number) (headerByte title number 0 (blockSectors * (blocks - 2)) 1) freshOwner (λ (r : Record) (o : ℕ). 0)
-    (with-is (headerByte title number 0 (blockSectors * (blocks - 2)) 1) freshOwner (λ (r : Record) (o : ℕ). 0))
-    (headerByte title number 0 (blockSectors * (blocks - 2)) 1) freshOwner (content emptySlots emptySlots)
+format-is args =
+    with-only (freshHeader args) freshOwner (content emptySlots emptySlots) (formatDisk args)
+    (with-same (formatDisk args) (freshHeader args) freshOwner (λ (r : Record) (o : ℕ). 0)
+    (with-is (freshHeader args) freshOwner (λ (r : Record) (o : ℕ). 0))
+    (freshHeader args) freshOwner (content emptySlots emptySlots)
     (λ o l. refl) (λ b l. refl) (λ b o i j l. sym (blank (freshOwner b) o)))
 
 fresh-valid : (b : ℕ) → Valid (freshOwner b)
@@ -70,14 +71,14 @@ fresh-file zero f s e = true≢false (isSystem System) refl (ap isSystem e)
 fresh-file (suc zero) f s e = (refl, cc, cc)
 fresh-file (suc (suc b)) f s e = true≢false (isFree Free) refl (ap isFree e)
 
-fresh-part : (title : List ℕ) (number f s : ℕ) → s < partsOf (formatM title number) f → (b : ℕ) × (b < blocks) × (freshOwner b ≡ File f s)
+fresh-part : (args : FormatArguments) (f s : ℕ) → s < partsOf (formatM args) f → (b : ℕ) × (b < blocks) × (freshOwner b ≡ File f s)
 unfolding freshOwner partsOf formatM dirBlocks heldBlocks emptySlots
-fresh-part title number zero s h = (1, omega arith, ap (File 0) (omega arith))
-fresh-part title number (suc f) s h = absurd (omega arith)
+fresh-part args zero s h = (1, omega arith, ap (File 0) (omega arith))
+fresh-part args (suc f) s h = absurd (omega arith)
 
-pub format-inv : (title : List ℕ) (number : ℕ) → Inv (formatM title number)
+pub format-inv : (args : FormatArguments) → Inv (formatM args)
 unfolding formatM partsOf dirBlocks fileBlocks heldBlocks emptySlots sum count freeOf freshOwner isFree isSome
-format-inv title number =
+format-inv args =
     record {
       own =
           record {
@@ -86,8 +87,8 @@ format-inv title number =
             own-system = λ b l e. fresh-system b e;
             own-below = λ b f s l e.
                 let w : (b ≡ 1) × (f ≡ 0) × (s ≡ 0) = fresh-file b f s e in
-                subst (λ (g : ℕ). s < partsOf (formatM title number) g) (sym (w .1)) (omega (arith, w .2));
-            own-part = λ f s h. fresh-part title number f s h;
+                subst (λ (g : ℕ). s < partsOf (formatM args) g) (sym (w .1)) (omega (arith, w .2));
+            own-part = λ f s h. fresh-part args f s h;
             own-once = λ b b′ f s l l′ e e′. fresh-file b f s e .0 ∙ sym (fresh-file b′ f s e′ .0);
           };
       slot-zero = refl;

@@ -19,6 +19,7 @@ use Rattle.sector_rules.specs.Replies.{done, refusal}
 use Rattle.file_rules.specs.Calls.{Outcome, Written, kept, unless, imageRight, freshOwner, formatDisk, format, check, deliver, read, add}
 use Rattle.file_rules.specs.Check.{judged}
 use Rattle.file_rules.specs.Directory.{nameEq, nameRight, held, dirEnd}
+use Rattle.file_rules.specs.Arguments.{FormatArguments}
 use Rattle.file_rules.specs.Disk.{Disk, diskOf, imageOf}
 use Rattle.file_rules.specs.Histories.{Call, imageOut, imageOuts, imageEnd, modelOuts, modelEnd, filesLeft, mostPresent, sizeOf, fileNamed, Present, toAdd, toRead}
 use Rattle.file_rules.specs.History.{dataFound, HasEntry, Belongs, Holds, formatted, History}
@@ -40,22 +41,22 @@ use Rattle.file_rules.specs.Written.{blocksFor}
 
 -- ---- the accepted format
 
-format-is-done : (old title : List ℕ) (number : ℕ) → length old ≡ imageBytes → length title ≤ titleMost
-    → format old title number ≡ record { answer = done; image = imageOf (formatDisk title number) }
+format-is-done : (old : List ℕ) (args : FormatArguments) → length old ≡ imageBytes → length (args .title) ≤ titleMost
+    → format old args ≡ record { answer = done; image = imageOf (formatDisk args) }
 unfolding format imageRight
-format-is-done old title number long short = cond-true _ _ (eq-true long) ∙ cond-true _ _ (le-true short)
+format-is-done old args long short = cond-true _ _ (eq-true long) ∙ cond-true _ _ (le-true short)
 
-fresh-fills : (title : List ℕ) (number : ℕ) → Fills (formatM title number .slots) []
+fresh-fills : (args : FormatArguments) → Fills (formatM args .slots) []
 unfolding formatM emptySlots
-fresh-fills title number k = refl
+fresh-fills args k = refl
 
-fresh-few : (title : List ℕ) (number : ℕ) → present (formatM title number) ≤ formatM title number .peak
+fresh-few : (args : FormatArguments) → present (formatM args) ≤ formatM args .peak
 unfolding formatM emptySlots isSome present count
-fresh-few title number = omega arith
+fresh-few args = omega arith
 
-fresh-peak : (title : List ℕ) (number : ℕ) → formatM title number .peak ≡ 0
+fresh-peak : (args : FormatArguments) → formatM args .peak ≡ 0
 unfolding formatM
-fresh-peak title number = refl
+fresh-peak args = refl
 
 -- ---- what is read of the inner model at the end
 
@@ -121,12 +122,12 @@ module _ (m : Inner) (v : Inv m) (fs : List NamedFile) (r : Fills (m .slots) fs)
 
 -- ---- the whole
 
-module _ (title : List ℕ) (number : ℕ) (calls : List Call) where
+module _ (args : FormatArguments) (calls : List Call) where
   abbrev m₀ : Inner
-  m₀ = formatM title number
+  m₀ = formatM args
 
   abbrev b₀ : Model
-  b₀ = modelFormat title number
+  b₀ = modelFormat args
 
   abbrev m : Inner
   m = endM m₀ calls
@@ -141,20 +142,20 @@ module _ (title : List ℕ) (number : ℕ) (calls : List Call) where
   P = mostPresent [] calls os
 
   v : Inv m
-  v = end-inv calls m₀ (format-inv title number)
+  v = end-inv calls m₀ (format-inv args)
 
   both : Fills (m .slots) fs × (m .peak ≡ max (m₀ .peak) P)
-  both = left-is calls m₀ [] (format-inv title number) (fresh-fills title number) (fresh-few title number)
+  both = left-is calls m₀ [] (format-inv args) (fresh-fills args) (fresh-few args)
 
   peak-most-is : m .peak ≡ P
-  peak-most-is = omega (arith, both .1, fresh-peak title number)
+  peak-most-is = omega (arith, both .1, fresh-peak args)
 
   with-model : (os ≡ modelOuts b₀ calls) × (render m ≡ modelDisk (modelEnd b₀ calls)) × (m .peak ≡ modelEnd b₀ calls .peak)
   with-model =
-      let e : m₀ ≡ withOwner b₀ freshOwner = start-is title number in
-      let w : Inv (withOwner b₀ freshOwner) = subst Inv e (format-inv title number) in
+      let e : m₀ ≡ withOwner b₀ freshOwner = start-is args in
+      let w : Inv (withOwner b₀ freshOwner) = subst Inv e (format-inv args) in
       let l : Listed (b₀ .slots) (b₀ .dir) freshOwner (partsOf (withOwner b₀ freshOwner)) =
-      subst (λ (z : Inner). Listed (b₀ .slots) (b₀ .dir) freshOwner (partsOf z)) e (fresh-listed title number) in
+      subst (λ (z : Inner). Listed (b₀ .slots) (b₀ .dir) freshOwner (partsOf z)) e (fresh-listed args) in
       let h : (outsM (withOwner b₀ freshOwner) calls ≡ modelOuts b₀ calls)
       × (render (endM (withOwner b₀ freshOwner) calls) ≡ modelDisk (modelEnd b₀ calls))
       × (endM (withOwner b₀ freshOwner) calls .peak ≡ modelEnd b₀ calls .peak) = agree calls b₀ freshOwner w l in (
@@ -169,7 +170,7 @@ module _ (title : List ℕ) (number : ℕ) (calls : List Call) where
   on-disk : diskOf img ≡ render m
   on-disk = img-disk m v
 
-  holds : Holds title number calls img os fs P
+  holds : Holds args calls img os fs P
   holds =
       record {
         same-outs = with-model .0;
@@ -202,34 +203,34 @@ module _ (title : List ℕ) (number : ℕ) (calls : List Call) where
       room-left = omega (arith, v .free-sum, ap dirBlocks peak-most-is, size-is m v fs (both .0))
 
 pub history : History
-history old title number calls long short =
-    let f : format old title number ≡ record { answer = done; image = imageOf (formatDisk title number) } = format-is-done old title number long short in
-    let start : formatted old title number ≡ imageOf (render (formatM title number)) =
-    ap (λ (w : Written). w .image) f ∙ ap imageOf (format-is title number) in
-    let run : (imageOuts (imageOf (render (formatM title number))) calls ≡ outsM (formatM title number) calls)
-    × (imageEnd (imageOf (render (formatM title number))) calls ≡ imageOf (render (endM (formatM title number) calls))) =
-    runs calls (formatM title number) (format-inv title number) in
-    let e : imageEnd (formatted old title number) calls ≡ imageOf (render (endM (formatM title number) calls)) =
+history old args calls long short =
+    let f : format old args ≡ record { answer = done; image = imageOf (formatDisk args) } = format-is-done old args long short in
+    let start : formatted old args ≡ imageOf (render (formatM args)) =
+    ap (λ (w : Written). w .image) f ∙ ap imageOf (format-is args) in
+    let run : (imageOuts (imageOf (render (formatM args))) calls ≡ outsM (formatM args) calls)
+    × (imageEnd (imageOf (render (formatM args))) calls ≡ imageOf (render (endM (formatM args) calls))) =
+    runs calls (formatM args) (format-inv args) in
+    let e : imageEnd (formatted old args) calls ≡ imageOf (render (endM (formatM args) calls)) =
     ap (λ (l : List ℕ). imageEnd l calls) start ∙ run .1 in
-    let o : imageOuts (formatted old title number) calls ≡ outsM (formatM title number) calls =
+    let o : imageOuts (formatted old args) calls ≡ outsM (formatM args) calls =
     ap (λ (l : List ℕ). imageOuts l calls) start ∙ run .0 in (
       ap (λ (w : Written). w .answer) f,
-      subst (λ (im : List ℕ). Holds title number calls im (imageOuts (formatted old title number) calls)
-          (filesLeft [] calls (imageOuts (formatted old title number) calls)) (mostPresent [] calls (imageOuts (formatted old title number) calls))) (sym e)
-          (subst (λ (xs : List Outcome). Holds title number calls (imageOf (render (endM (formatM title number) calls))) xs (filesLeft [] calls xs) (mostPresent [] calls xs)) (sym o)
-          (holds title number calls)),
+      subst (λ (im : List ℕ). Holds args calls im (imageOuts (formatted old args) calls)
+          (filesLeft [] calls (imageOuts (formatted old args) calls)) (mostPresent [] calls (imageOuts (formatted old args) calls))) (sym e)
+          (subst (λ (xs : List Outcome). Holds args calls (imageOf (render (endM (formatM args) calls))) xs (filesLeft [] calls xs) (mostPresent [] calls xs)) (sym o)
+          (holds args calls)),
     )
 
 -- after every history the check passes
-pub history-check : (old title : List ℕ) (number : ℕ) (calls : List Call) → length old ≡ imageBytes → length title ≤ titleMost
-    → check (imageEnd (formatted old title number) calls) ≡ done
+pub history-check : (old : List ℕ) (args : FormatArguments) (calls : List Call) → length old ≡ imageBytes → length (args .title) ≤ titleMost
+    → check (imageEnd (formatted old args) calls) ≡ done
 unfolding check unless
-history-check old title number calls long short =
-    let n : Inner = endM (formatM title number) calls in
-    let w : Inv n = end-inv calls (formatM title number) (format-inv title number) in
-    let f : format old title number ≡ record { answer = done; image = imageOf (formatDisk title number) } = format-is-done old title number long short in
-    let e : imageEnd (formatted old title number) calls ≡ imageOf (render n) =
-    ap (λ (l : List ℕ). imageEnd l calls) (ap (λ (x : Written). x .image) f ∙ ap imageOf (format-is title number))
-    ∙ runs calls (formatM title number) (format-inv title number) .1 in
+history-check old args calls long short =
+    let n : Inner = endM (formatM args) calls in
+    let w : Inv n = end-inv calls (formatM args) (format-inv args) in
+    let f : format old args ≡ record { answer = done; image = imageOf (formatDisk args) } = format-is-done old args long short in
+    let e : imageEnd (formatted old args) calls ≡ imageOf (render n) =
+    ap (λ (l : List ℕ). imageEnd l calls) (ap (λ (x : Written). x .image) f ∙ ap imageOf (format-is args))
+    ∙ runs calls (formatM args) (format-inv args) .1 in
     let none-found : judged (diskOf (imageOf (render n))) ≡ none = ap judged (img-disk n w) ∙ judged-none n w in
     ap check e ∙ cond-true _ _ (img-right n w) ∙ rw none-found

@@ -14,6 +14,7 @@ use Rattle.sector_rules.specs.declared.Reply.{Reply}
 use Rattle.file_rules.specs.Calls.{Outcome, Changed, Written, kept, refused, unwritten, unless, imageRight, wrongLength, format, deliver, listDisk, list, readDisk, read, needed, addDisk, imaged, add, removeDisk, remove}
 use Rattle.file_rules.specs.Check.{judged}
 use Rattle.file_rules.specs.Directory.{nameRight, dirEnd, findName, vacantSlot}
+use Rattle.file_rules.specs.Arguments.{FormatArguments}
 use Rattle.file_rules.specs.Disk.{Disk, diskOf, imageOf}
 use Rattle.file_rules.specs.Laws.Base.Disk.{image-disk}
 use Rattle.file_rules.specs.Map.{freeCount}
@@ -90,11 +91,11 @@ unfolding remove
 remove-refused image name =
     by-length image _ _ (λ t. imaged-keeps image t _ (remove-keeps (diskOf image) name)) (unwritten-keeps image wrongLength)
 
-pub format-refused : (image title : List ℕ) (number : ℕ) → KeepsImage image (format image title number)
+pub format-refused : (image : List ℕ) (args : FormatArguments) → KeepsImage image (format image args)
 unfolding format
-format-refused image title number =
+format-refused image args =
     by-length image _ _
-    (λ t. by-test (leb (length title) titleMost)
+    (λ t. by-test (leb (length (args .title)) titleMost)
     (λ s. subst (KeepsImage image) (sym (cond-true _ _ s)) (λ n. absurd (n refl)))
     (λ s. subst (KeepsImage image) (sym (cond-false _ _ s)) (unwritten-keeps image (refusal 12))))
     (unwritten-keeps image wrongLength)

@@ -1,10 +1,9 @@
 -- `format` meets its contract.
 -- Assumes nothing.
-use mathlib.Core.Path.{refl}
 use Prim.Native.Nat.{_-_}
 use borrow.Author.Needs.{needs}
-use Rattle.file_rules.specs.Calls.{unwritten}
 use Rattle.files.specs.Laws.Calling.Fresh.{format-length, format-name, format-done}
+use Rattle.files.specs.Laws.Calling.Judged.{wrote-refused, wrote-done}
 use Rattle.files.proofs.formatting.format.Statement.{statement}
 use Rattle.files.proofs.formatting.format.Tie as tie
 
@@ -12,15 +11,13 @@ refused-requires : tie.Need-refused-requires
 refused-requires c κs = search needs
 
 returns : tie.Need-returns
-unfolding unwritten
-returns c = rw (format-length _ _ _ (c .before .if1 .taken)) (c .refused .ensures, refl)
+returns c = wrote-refused _ _ _ _ (format-length _ _ (c .before .if1 .taken)) (c .refused .ensures)
 
 refused-requires-2 : tie.Need-refused-requires-2
 refused-requires-2 c κs = search needs
 
 returns-2 : tie.Need-returns-2
-unfolding unwritten
-returns-2 c = rw (format-name _ _ _ (c .before .before .if1 .left) (c .before .if2 .taken)) (c .refused2 .ensures, refl)
+returns-2 c = wrote-refused _ _ _ _ (format-name _ _ (c .before .before .if1 .left) (c .before .if2 .taken)) (c .refused2 .ensures)
 
 write-fresh-requires : tie.Need-write-fresh-requires
 write-fresh-requires c κs = search needs
@@ -32,7 +29,7 @@ same-length : tie.Need-same-length
 same-length c = search needs
 
 returns-3 : tie.Need-returns-3
-returns-3 c = rw (format-done _ _ _ (c .before .before .before .before .before .before .if1 .left) (c .before .before .before .before .before .if2 .left)) (c .done .ensures, c .before .before .before .write-fresh .ensures)
+returns-3 c = wrote-done _ _ _ _ (format-done _ _ (c .before .before .before .before .before .before .if1 .left) (c .before .before .before .before .before .if2 .left)) (c .done .ensures) (c .before .before .before .write-fresh .ensures)
 
 pub format-spec : {M : Type 1} → statement M
 format-spec =

@@ -28,7 +28,7 @@ put-start-requires c κs = search needs
 
 returns : tie.Need-returns
 unfolding tab
-returns c = header-row _ _ _ _ _ _ refl (c .before .before .before .before .before .before .before .put-title .ensures) (c .before .before .before .before .put-sizes .ensures) (c .before .put-start .ensures)
+returns c = header-row _ _ _ _ _ refl (c .before .before .before .before .before .before .before .put-title .ensures) (c .before .before .before .before .put-sizes .ensures) (c .before .put-start .ensures)
 
 pub header-bytes-spec : {M : Type 1} → statement M
 header-bytes-spec =

@@ -25,7 +25,7 @@ same-length : tie.Need-same-length
 same-length c = search needs
 
 returns : tie.Need-returns
-returns c = fresh-written _ _ _ _ _ _ _ (c .before .before .before .before .before .before .before .before .before .before .before .before .before .before .before .before .pre .0) (c .before .before .before .before .before .before .before .before .before .before .before .fill .ensures) (c .before .before .before .before .before .before .before .before .before .before .before .before .before .header-bytes .ensures) (c .before .before .before .before .before .before .put-bytes .ensures) (c .before .before .write-map .ensures)
+returns c = fresh-written _ _ _ _ _ _ (c .before .before .before .before .before .before .before .before .before .before .before .before .before .before .before .before .pre .0) (c .before .before .before .before .before .before .before .before .before .before .before .fill .ensures) (c .before .before .before .before .before .before .before .before .before .before .before .before .before .header-bytes .ensures) (c .before .before .before .before .before .before .put-bytes .ensures) (c .before .before .write-map .ensures)
 
 pub write-fresh-spec : {M : Type 1} → statement M
 write-fresh-spec =

@@ -18,7 +18,8 @@ use Rattle.sector_rules.specs.Geometry.{tracks, sectors, blockSectors, turn, tr
 use Rattle.sector_rules.specs.Replies.{done, refusal}
 use Rattle.file_rules.specs.declared.Record.{Record}
 use Rattle.file_rules.specs.declared.Record.the-variants.{Free, System, File}
-use Rattle.file_rules.specs.Calls.{freshOwner, formatDisk, imageRight, unwritten, wrongLength, format}
+use Rattle.file_rules.specs.Arguments.{FormatArguments}
+use Rattle.file_rules.specs.Calls.{freshOwner, freshHeader, formatDisk, imageRight, unwritten, wrongLength, format}
 use Rattle.file_rules.specs.Check.{signature}
 use Rattle.file_rules.specs.Disk.{Disk, diskOf, imageOf}
 use Rattle.file_rules.specs.Laws.Base.Disk.{image-cong, image-disk}
@@ -33,8 +34,8 @@ use Rattle.file_rules.specs.Written.{fixedByte, headerByte, diskWith, setRecord
 -- ---- the header, field by field
 
 -- signature, name padded with spaces, number
-unfoldable pub titled : List ℕ → List ℕ → ℕ → List ℕ
-titled h title number = overlay (overlay (put h 0 signature) 4 titleMost (λ (i : ℕ). getD title i 32)) 14 2 (highByte 2 number)
+unfoldable pub titled : List ℕ → FormatArguments → List ℕ
+titled h args = overlay (overlay (put h 0 signature) 4 titleMost (λ (i : ℕ). getD (args .title) i 32)) 14 2 (highByte 2 (args .number))
 
 -- the sizes of the disk kind and its turn
 unfoldable pub sized : List ℕ → List ℕ
@@ -58,16 +59,13 @@ started h =
     36 2 (highByte 2 slotBytes)
 
 -- a header whole
-abbrev pub freshHeader : List ℕ → ℕ → ℕ → ℕ
-freshHeader title number = headerByte title number 0 (blockSectors * (blocks - 2)) 1
-
-pub header-row : (h₀ h₁ h₂ h₃ title : List ℕ) (number : ℕ) → h₀ ≡ tab (λ (i : ℕ). 0xFF) mapStart
-    → h₁ ≡ titled h₀ title number → h₂ ≡ sized h₁ → h₃ ≡ started h₂ → h₃ ≡ tab (freshHeader title number) mapStart
+pub header-row : (h₀ h₁ h₂ h₃ : List ℕ) (args : FormatArguments) → h₀ ≡ tab (λ (i : ℕ). 0xFF) mapStart
+    → h₁ ≡ titled h₀ args → h₂ ≡ sized h₁ → h₃ ≡ started h₂ → h₃ ≡ tab (freshHeader args) mapStart
 unfolding headerByte fixedByte titled sized started signature sidePlace backward
-header-row h₀ h₁ h₂ h₃ title number e₀ e₁ e₂ e₃ =
+header-row h₀ h₁ h₂ h₃ args e₀ e₁ e₂ e₃ =
     let a₁ = put-row h₀ 0 signature 4 refl ∙ overlay-tab _ mapStart 0 4 _ _ e₀ in
-    let a₂ = overlay-tab _ mapStart 4 titleMost (λ (i : ℕ). getD title i 32) _ a₁ in
-    let a₃ = e₁ ∙ overlay-tab _ mapStart 14 2 (highByte 2 number) _ a₂ in
+    let a₂ = overlay-tab _ mapStart 4 titleMost (λ (i : ℕ). getD (args .title) i 32) _ a₁ in
+    let a₃ = e₁ ∙ overlay-tab _ mapStart 14 2 (highByte 2 (args .number)) _ a₂ in
     let b₁ = overlay-tab _ mapStart 22 2 (highByte 2 allSectors) _ a₃ in
     let b₂ = overlay-tab _ mapStart 24 2 (highByte 2 allSectors) _ b₁ in
     let b₃ = overlay-tab _ mapStart 26 2 (highByte 2 sectors) _ b₂ in
@@ -119,14 +117,14 @@ module _ (h title : List ℕ) (short : length title ≤ titleMost) where
       (λ k l. overlay-before spaces 4 n g k l ∙ overlay-before h 4 titleMost (λ (i : ℕ). 32) k l)
       (λ k l. overlay-after spaces 4 n g k (omega arith) ∙ overlay-after h 4 titleMost (λ (i : ℕ). 32) k l)
 
-pub titled-is : (h title : List ℕ) (number : ℕ) (h₁ h₂ h₃ h₄ : List ℕ) → length title ≤ titleMost
-    → h₁ ≡ put h 0 signature → h₂ ≡ overlay h₁ 4 titleMost (λ (i : ℕ). 32) → h₃ ≡ put h₂ 4 title → h₄ ≡ overlay h₃ 14 2 (highByte 2 number)
-    → h₄ ≡ titled h title number
+pub titled-is : (h : List ℕ) (args : FormatArguments) (h₁ h₂ h₃ h₄ : List ℕ) → length (args .title) ≤ titleMost
+    → h₁ ≡ put h 0 signature → h₂ ≡ overlay h₁ 4 titleMost (λ (i : ℕ). 32) → h₃ ≡ put h₂ 4 (args .title) → h₄ ≡ overlay h₃ 14 2 (highByte 2 (args .number))
+    → h₄ ≡ titled h args
 unfolding titled
-titled-is h title number h₁ h₂ h₃ h₄ short e₁ e₂ e₃ e₄ =
+titled-is h args h₁ h₂ h₃ h₄ short e₁ e₂ e₃ e₄ =
     e₄
-    ∙ ap (λ (l : List ℕ). overlay l 14 2 (highByte 2 number))
-    (e₃ ∙ ap (λ (l : List ℕ). put l 4 title) e₂ ∙ padded h₁ title short ∙ ap (λ (l : List ℕ). overlay l 4 titleMost (λ (i : ℕ). getD title i 32)) e₁)
+    ∙ ap (λ (l : List ℕ). overlay l 14 2 (highByte 2 (args .number)))
+    (e₃ ∙ ap (λ (l : List ℕ). put l 4 (args .title)) e₂ ∙ padded h₁ (args .title) short ∙ ap (λ (l : List ℕ). overlay l 4 titleMost (λ (i : ℕ). getD (args .title) i 32)) e₁)
 
 pub sized-is : (h h₁ h₂ h₃ h₄ h₅ h₆ h₇ : List ℕ)
     → h₁ ≡ overlay h 22 2 (highByte 2 allSectors)
@@ -234,14 +232,14 @@ zero-image : tab (λ (i : ℕ). 0) imageBytes ≡ imageOf nothing
 unfolding imageOf
 zero-image = refl
 
-module _ (title : List ℕ) (number : ℕ) where
+module _ (args : FormatArguments) where
   abbrev H : ℕ → ℕ
-  H = freshHeader title number
+  H = freshHeader args
 
   abbrev headed : Disk
   headed = patched nothing 0 0 mapStart H
 
-  fresh-near : Near (mapped headed freshOwner blocks) (formatDisk title number)
+  fresh-near : Near (mapped headed freshOwner blocks) (formatDisk args)
   unfolding formatDisk
   fresh-near b o hb ho =
       let whole = with-is H freshOwner (λ (r : Record) (o : ℕ). 0) in
@@ -269,27 +267,27 @@ module _ (title : List ℕ) (number : ℕ) where
       → h ≡ tab H mapStart
       → l₂ ≡ imageOf (patched (diskOf l₁) 0 0 (length h) (λ (i : ℕ). getD h i 0))
       → l₃ ≡ imageOf (mapped (diskOf l₂) freshOwner blocks)
-      → l₃ ≡ imageOf (formatDisk title number)
+      → l₃ ≡ imageOf (formatDisk args)
   fresh-written l₀ l₁ l₂ l₃ h e e₁ eh e₂ e₃ =
       let q₁ : l₁ ≡ imageOf nothing = e₁ ∙ overlay-all l₀ imageBytes (λ (i : ℕ). 0) e ∙ zero-image in
       let q₂ : l₂ ≡ imageOf headed =
       near-step (λ (d : Disk). patched d 0 0 mapStart H) (λ d x n. near-patched d x n 0 0 mapStart H) l₁ l₂ nothing q₁
       (e₂ ∙ patched-row (diskOf l₁) 0 0 h mapStart H eh) in
       near-step (λ (d : Disk). mapped d freshOwner blocks) (λ d x n. near-mapped d x n freshOwner blocks) l₂ l₃ headed q₂ e₃
-      ∙ image-cong (mapped headed freshOwner blocks) (formatDisk title number) fresh-near
+      ∙ image-cong (mapped headed freshOwner blocks) (formatDisk args) fresh-near
 
 -- ---- the call
 
-module _ (image title : List ℕ) (number : ℕ) where
-  pub format-length : length image ≢ imageBytes → format image title number ≡ unwritten image wrongLength
+module _ (image : List ℕ) (args : FormatArguments) where
+  pub format-length : length image ≢ imageBytes → format image args ≡ unwritten image wrongLength
   unfolding format imageRight
   format-length h = cond-false _ _ (eq-false h)
 
   module _ (e : length image ≡ imageBytes) where
-    pub format-name : titleMost < length title → format image title number ≡ unwritten image (refusal 12)
+    pub format-name : titleMost < length (args .title) → format image args ≡ unwritten image (refusal 12)
     unfolding format imageRight
     format-name h = cond-true _ _ (eq-true e) ∙ cond-false _ _ (le-false h)
 
-    pub format-done : length title ≤ titleMost → format image title number ≡ record { answer = done; image = imageOf (formatDisk title number) }
+    pub format-done : length (args .title) ≤ titleMost → format image args ≡ record { answer = done; image = imageOf (formatDisk args) }
     unfolding format imageRight
     format-done h = cond-true _ _ (eq-true e) ∙ cond-true _ _ (le-true h)

@@ -266,6 +266,9 @@ pub wrote-refused : (image : List ℕ) (w : Written) (r q : Reply) → w ≡ unw
 unfolding unwritten
 wrote-refused image w r q e h = (h ∙ sym (ap (λ (x : Written). x .answer) e), sym (ap (λ (x : Written). x .image) e))
 
+pub wrote-done : (w : Written) (r : Reply) (l m : List ℕ) → w ≡ record { answer = done; image = m } → r ≡ done → l ≡ m → (r ≡ w .answer) × (l ≡ w .image)
+wrote-done w r l m e h q = (h ∙ sym (ap (λ (x : Written). x .answer) e), q ∙ sym (ap (λ (x : Written). x .image) e))
+
 pub wrote-gave : (w : Written) (c : Changed) (r : Reply) (l : List ℕ) → w ≡ imaged c → Gave c r l → (r ≡ w .answer) × (l ≡ w .image)
 unfolding imaged
 wrote-gave w c r l e g = (g .answer ∙ sym (ap (λ (x : Written). x .answer) e), g .image ∙ sym (ap (λ (x : Written). x .image) e))
