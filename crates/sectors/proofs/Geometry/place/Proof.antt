@@ -6,7 +6,7 @@ use native.Mathlib.Nat.{mod-lt}
 use lib.Dec.{lit<}
 use borrow.Author.Needs.{needs}
 use Rattle.sector_rules.specs.Geometry.{imageSector, sidePlace}
-use Rattle.sector_rules.specs.Laws.Base.Geometry.{mark-bound}
+use Rattle.sectors.specs.Laws.Reading.Tables.{mark-bound}
 use Rattle.sectors.proofs.Geometry.place.Statement.{statement}
 use Rattle.sectors.proofs.Geometry.place.Tie as tie
 

@@ -4,7 +4,7 @@ use Prim.Native.Nat.{_+_, _-_, _*_, _/_, _%_}
 use native.Mathlib.Omega.{arith}
 use borrow.Author.Needs.{needs}
 use Rattle.sector_rules.specs.Geometry.{sectors, trackSectors, turn, runningSector, backward}
-use Rattle.sector_rules.specs.Laws.Base.Geometry.{backward-bound}
+use Rattle.sectors.specs.Laws.Reading.Tables.{backward-bound}
 use Rattle.sectors.proofs.Geometry.running_of.Statement.{statement}
 use Rattle.sectors.proofs.Geometry.running_of.Tie as tie
 

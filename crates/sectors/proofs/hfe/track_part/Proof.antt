@@ -6,7 +6,7 @@ use native.Mathlib.Omega.{arith}
 use lib.ListN.{length}
 use borrow.Author.Needs.{needs}
 use Rattle.sector_rules.specs.Hfe.{trackPart, trackStart, trackBytes}
-use Rattle.sector_rules.specs.Laws.Base.Hfe.{table-good, track-within}
+use Rattle.sectors.specs.Laws.Reading.Tables.{table-good, track-within}
 use Rattle.sectors.proofs.hfe.track_part.Statement.{statement}
 use Rattle.sectors.proofs.hfe.track_part.Tie as tie
 

@@ -6,7 +6,7 @@ use borrow.Author.Needs.{needs}
 use Rattle.laws.specs.Words.{lowByte}
 use Rattle.sector_rules.specs.Hfe.{signature}
 use Rattle.sector_rules.specs.Packed.{headerRest}
-use Rattle.sector_rules.specs.Laws.Base.Packed.{header-in, header-out}
+use Rattle.sectors.specs.Laws.Packing.Items.{header-in, header-out}
 use Rattle.sectors.proofs.packing.header_byte.Statement.{statement}
 use Rattle.sectors.proofs.packing.header_byte.Tie as tie
 

@@ -2,7 +2,8 @@
 -- Assumes nothing.
 use mathlib.Core.Path.{sym, _∙_}
 use borrow.Author.Needs.{needs}
-use Rattle.sector_rules.specs.Laws.Base.Packed.{pack-hfe, pack-image, pack-done, hfe-after}
+use Rattle.sector_rules.specs.Laws.Base.Packed.{pack-done, hfe-after}
+use Rattle.sectors.specs.Laws.Packing.Items.{pack-hfe, pack-image}
 use Rattle.sectors.proofs.packing.pack.Statement.{statement}
 use Rattle.sectors.proofs.packing.pack.Tie as tie
 

@@ -4,7 +4,8 @@ use mathlib.Core.Path.{_≡_, sym}
 use Prim.Native.Nat.{_-_, _%_}
 use native.Mathlib.Omega.{arith}
 use borrow.Author.Needs.{needs}
-use Rattle.sector_rules.specs.Laws.Base.Packed.{table-past, table-0, table-1, table-2, table-3}
+use Rattle.sector_rules.specs.Laws.Base.Packed.{table-0, table-1, table-2, table-3}
+use Rattle.sectors.specs.Laws.Packing.Items.{table-past}
 use Rattle.sectors.proofs.packing.table_byte.Statement.{statement}
 use Rattle.sectors.proofs.packing.table_byte.Tie as tie
 

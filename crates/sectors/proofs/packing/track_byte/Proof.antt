@@ -2,7 +2,8 @@
 -- Assumes nothing.
 use mathlib.Core.Path.{sym, _∙_}
 use borrow.Author.Needs.{needs}
-use Rattle.sector_rules.specs.Laws.Base.Packed.{track-in, track-out}
+use Rattle.sector_rules.specs.Laws.Base.Packed.{track-in}
+use Rattle.sectors.specs.Laws.Packing.Items.{track-out}
 use Rattle.sectors.proofs.packing.track_byte.Statement.{statement}
 use Rattle.sectors.proofs.packing.track_byte.Tie as tie
 

@@ -3,7 +3,7 @@
 use mathlib.Core.Path.{sym, _∙_}
 use borrow.Author.Needs.{needs}
 use borrow.Author.Tests.{eq-eqb, ne-eqb}
-use Rattle.sector_rules.specs.Laws.Base.Search.{field-past, field-fits}
+use Rattle.sectors.specs.Laws.Reading.Search.{field-past, field-fits}
 use Rattle.sectors.proofs.search.field_at.Statement.{statement}
 use Rattle.sectors.proofs.search.field_at.Tie as tie
 

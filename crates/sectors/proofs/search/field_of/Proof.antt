@@ -10,7 +10,7 @@ use Rattle.cells.specs.Laws.Stream.{rest-length}
 use Rattle.cells.specs.Laws.Sync.{three-past}
 use Rattle.sector_rules.specs.declared.Sector.the-variants.{Fieldless}
 use Rattle.sector_rules.specs.Search.{first, fieldAt, fieldOf}
-use Rattle.sector_rules.specs.Laws.Base.Search.{first-here, first-later, first-none}
+use Rattle.sectors.specs.Laws.Reading.Search.{first-here, first-later, first-none}
 use Rattle.sectors.proofs.search.field_of.Statement.{statement}
 use Rattle.sectors.proofs.search.field_of.Tie as tie
 

@@ -4,7 +4,7 @@ use mathlib.Core.Path.{sym, _∙_}
 use borrow.Author.Needs.{needs}
 use borrow.Author.Tests.{eq-eqb, ne-eqb}
 use Rattle.sector_rules.specs.Search.{idOf}
-use Rattle.sector_rules.specs.Laws.Base.Search.{header-past, header-fits}
+use Rattle.sectors.specs.Laws.Reading.Search.{header-past, header-fits}
 use Rattle.sectors.proofs.search.header_at.Statement.{statement}
 use Rattle.sectors.proofs.search.header_at.Tie as tie
 

@@ -8,7 +8,7 @@ use lib.ListN.{length, getD, length-set}
 use borrow.Author.Needs.{needs}
 use Rattle.cells.specs.Laws.Stream.{from-zero}
 use Rattle.cells.specs.Stream.{stream}
-use Rattle.sector_rules.specs.Laws.Base.Search.{scan-none, scan-all, scan-no, scan-yes}
+use Rattle.sectors.specs.Laws.Reading.Search.{scan-none, scan-all, scan-no, scan-yes}
 use Rattle.sector_rules.specs.declared.Found.the-variants.{Nothing}
 use Rattle.sector_rules.specs.Search.{headerAt, placesBelow, foundOf}
 use Rattle.sectors.proofs.search.scan.Statement.{statement}

@@ -2,7 +2,7 @@
 -- Assumes nothing.
 use native.Mathlib.Omega.{arith}
 use borrow.Author.Needs.{needs}
-use Rattle.sector_rules.specs.Laws.Base.Search.{index-absent, index-else, index-in, index-out}
+use Rattle.sectors.specs.Laws.Reading.Search.{index-absent, index-else, index-in, index-out}
 use Rattle.sectors.proofs.search.sector_index.Statement.{statement}
 use Rattle.sectors.proofs.search.sector_index.Tie as tie
 

@@ -7,7 +7,7 @@ use lib.ListN.{length}
 use borrow.Author.Needs.{needs}
 use Rattle.sector_rules.specs.declared.Fault.the-variants.{Sound}
 use Rattle.sector_rules.specs.Unpacked.{sectorAt}
-use Rattle.sector_rules.specs.Laws.Base.Unpacked.{Judged, judged-none, side-more, side-stop}
+use Rattle.sectors.specs.Laws.Unpacking.Judged.{Judged, judged-none, side-more, side-stop}
 use Rattle.sectors.proofs.unpacking.judge_all.Statement.{statement}
 use Rattle.sectors.proofs.unpacking.judge_all.Tie as tie
 

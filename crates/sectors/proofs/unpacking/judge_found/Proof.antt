@@ -10,7 +10,7 @@ use Rattle.sector_rules.specs.Unpacked.{isBad}
 use Rattle.sector_rules.specs.declared.Found.the-variants.{Nothing}
 use Rattle.sector_rules.specs.declared.Fault.the-variants.{Sound}
 use Rattle.sector_rules.specs.Search.{sectorFound}
-use Rattle.sector_rules.specs.Laws.Base.Unpacked.{Judged, judged-none, judged-more, judged-stop}
+use Rattle.sectors.specs.Laws.Unpacking.Judged.{Judged, judged-none, judged-more, judged-stop}
 use Rattle.sectors.proofs.unpacking.judge_found.Statement.{statement}
 use Rattle.sectors.proofs.unpacking.judge_found.Tie as tie
 

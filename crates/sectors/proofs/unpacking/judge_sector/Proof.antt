@@ -2,7 +2,7 @@
 -- Assumes nothing.
 use mathlib.Core.Path.{_∙_}
 use borrow.Author.Needs.{needs}
-use Rattle.sector_rules.specs.Laws.Base.Unpacked.{sector-is}
+use Rattle.sectors.specs.Laws.Unpacking.Judged.{sector-is}
 use Rattle.sectors.proofs.unpacking.judge_sector.Statement.{statement}
 use Rattle.sectors.proofs.unpacking.judge_sector.Tie as tie
 

@@ -2,7 +2,7 @@
 -- Assumes nothing.
 use Prim.Native.Nat.{_-_}
 use borrow.Author.Needs.{needs}
-use Rattle.sector_rules.specs.Laws.Base.Unpacked.{judged-same, side-sector}
+use Rattle.sectors.specs.Laws.Unpacking.Judged.{judged-same, side-sector}
 use Rattle.sectors.proofs.unpacking.judge_side.Statement.{statement}
 use Rattle.sectors.proofs.unpacking.judge_side.Tie as tie
 

@@ -2,7 +2,8 @@
 -- Assumes nothing.
 use mathlib.Core.Path.{sym, _∙_}
 use borrow.Author.Needs.{needs}
-use Rattle.sector_rules.specs.Laws.Base.Unpacked.{all-good, first-below, first-bad, first-reply, bad-number}
+use Rattle.sector_rules.specs.Laws.Base.Unpacked.{bad-number}
+use Rattle.sectors.specs.Laws.Unpacking.Judged.{all-good, first-below, first-bad, first-reply}
 use Rattle.sectors.proofs.unpacking.unpack_sectors.Statement.{statement}
 use Rattle.sectors.proofs.unpacking.unpack_sectors.Tie as tie
 

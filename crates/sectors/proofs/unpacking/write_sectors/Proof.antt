@@ -8,7 +8,7 @@ use lib.ListN.{length}
 use borrow.Author.Needs.{needs}
 use Rattle.laws.specs.Overlay.{overlay, overlay-none, overlay-next, overlay-all, overlay-length}
 use Rattle.sector_rules.specs.Unpacked.{unpackedByte}
-use Rattle.sector_rules.specs.Laws.Base.Unpacked.{byte-is}
+use Rattle.sectors.specs.Laws.Unpacking.Judged.{byte-is}
 use Rattle.sectors.proofs.unpacking.write_sectors.Statement.{statement}
 use Rattle.sectors.proofs.unpacking.write_sectors.Tie as tie
 

@@ -4,7 +4,7 @@ use mathlib.Core.Path.{_≡_, sym}
 use Prim.Native.Nat.{_+_, _-_}
 use native.Mathlib.Omega.{arith}
 use borrow.Author.Needs.{needs}
-use Rattle.sector_rules.specs.Laws.Base.Packed.{row-mark, row-data, row-high, row-low, field-crc}
+use Rattle.sectors.specs.Laws.Packing.Items.{row-mark, row-data, row-high, row-low, field-crc}
 use Rattle.sectors.proofs.written.field_byte.Statement.{statement}
 use Rattle.sectors.proofs.written.field_byte.Tie as tie
 

@@ -4,7 +4,8 @@ use mathlib.Core.Path.{sym}
 use Prim.Native.Nat.{_-_}
 use native.Mathlib.Omega.{arith}
 use borrow.Author.Needs.{needs}
-use Rattle.sector_rules.specs.Laws.Base.Packed.{crc-high, crc-low, header-crc, row-header}
+use Rattle.sector_rules.specs.Laws.Base.Packed.{crc-high, crc-low}
+use Rattle.sectors.specs.Laws.Packing.Items.{header-crc, row-header}
 use Rattle.sectors.proofs.written.header_byte.Statement.{statement}
 use Rattle.sectors.proofs.written.header_byte.Tie as tie
 

@@ -3,7 +3,7 @@
 use mathlib.Core.Path.{sym}
 use native.Mathlib.Omega.{arith}
 use Rattle.sector_rules.specs.Packed.{imageSide}
-use Rattle.sector_rules.specs.Laws.Base.Packed.{side-gap, side-zeros, side-index, side-mark, side-gap2}
+use Rattle.sectors.specs.Laws.Packing.Items.{side-gap, side-zeros, side-index, side-mark, side-gap2}
 use Rattle.sectors.proofs.written.lead_item.Statement.{statement}
 use Rattle.sectors.proofs.written.lead_item.Tie as tie
 

@@ -5,7 +5,8 @@ use native.Mathlib.Omega.{arith}
 use borrow.Author.Needs.{needs}
 use Rattle.cells.specs.declared.Item.the-variants.{Plain}
 use Rattle.sector_rules.specs.Packed.{sectorData}
-use Rattle.sector_rules.specs.Laws.Base.Packed.{sector-field, sector-tail}
+use Rattle.sector_rules.specs.Laws.Base.Packed.{sector-field}
+use Rattle.sectors.specs.Laws.Packing.Items.{sector-tail}
 use Rattle.sectors.proofs.written.sector_item.Statement.{statement}
 use Rattle.sectors.proofs.written.sector_item.Tie as tie
 

@@ -4,7 +4,8 @@ use mathlib.Core.Path.{sym, _∙_}
 use native.Mathlib.Omega.{arith}
 use borrow.Author.Needs.{needs}
 use Rattle.sector_rules.specs.Packed.{imageSide}
-use Rattle.sector_rules.specs.Laws.Base.Packed.{side-sector, side-tail}
+use Rattle.sector_rules.specs.Laws.Base.Packed.{side-sector}
+use Rattle.sectors.specs.Laws.Packing.Items.{side-tail}
 use Rattle.sectors.proofs.written.side_item.Statement.{statement}
 use Rattle.sectors.proofs.written.side_item.Tie as tie
 

@@ -1,0 +1,144 @@
+-- Laws of the parts of a written side and of the written image that only the writer tells apart.
+-- Assumes nothing.
+use mathlib.Core.Bool.{true}
+use mathlib.Core.List.{List, [], _∷_, _++_}
+use mathlib.Core.Path.{_≡_, refl, sym, _∙_}
+use Prim.Native.Nat.{ℕ, zero, suc, _+_, _-_, _*_, _/_, _%_, _≤_, _<_}
+use native.Mathlib.Omega.{arith}
+use lib.Dec.{eqb}
+use lib.ListN.{length, getD, take, drop, List·getD-eq-default}
+use borrow.Author.Tests.{le-ltb, eq-eqb, ne-eqb}
+use Rattle.laws.specs.Below.{all, all-eq}
+use Rattle.laws.specs.Words.{lowByte}
+use Rattle.laws.specs.Tab.{window, window-in, window-length, window-part}
+use Rattle.cells.specs.Crc.{crcStart, crcFrom, crc}
+use Rattle.cells.specs.Laws.Crc.{crcFrom-append}
+use Rattle.cells.specs.declared.Item.the-variants.{Plain, Index}
+use Rattle.sector_rules.specs.Replies.{reply}
+use Rattle.sector_rules.specs.Geometry.{imageBytes}
+use Rattle.sector_rules.specs.Hfe.{signature}
+use Rattle.sector_rules.specs.Search.{dataMark}
+use Rattle.sector_rules.specs.Packed.{hfeBytes, fillByte, headerRest, headerByte, tableByte, trackByte, packReply, fieldCrc, withCrc, headerRow, gapByte, sectorItem, sideItem}
+use Rattle.sector_rules.specs.Laws.Base.Packed.{span-left, span-right, past-lead, crc-before, crc-high, crc-low}
+
+-- ---- the items of a side, part by part
+
+-- after a sector's field
+module _ (t s r : ℕ) (d : List ℕ) (o : ℕ) where
+  pub sector-tail : 574 ≤ o → sectorItem t s r d o ≡ Plain gapByte
+  unfolding sectorItem
+  sector-tail l =
+      span-right 12 _ _ _ (omega arith) ∙ span-right 3 _ _ _ (omega arith) ∙ span-right 7 _ _ _ (omega arith)
+      ∙ span-right 22 _ _ _ (omega arith) ∙ span-right 12 _ _ _ (omega arith) ∙ span-right 3 _ _ _ (omega arith)
+      ∙ span-right 515 _ _ _ (omega arith)
+
+-- the lead, and what follows the last sector
+module _ (t s : ℕ) (d : ℕ → List ℕ) (q : ℕ) where
+  pub side-gap : q < 80 → sideItem t s d q ≡ Plain gapByte
+  unfolding sideItem
+  side-gap h = span-left 80 _ _ _ h
+
+  pub side-zeros : 80 ≤ q → q < 92 → sideItem t s d q ≡ Plain 0
+  unfolding sideItem
+  side-zeros l h = span-right 80 _ _ _ l ∙ span-left 12 _ _ _ (omega arith)
+
+  pub side-index : 92 ≤ q → q < 95 → sideItem t s d q ≡ Index
+  unfolding sideItem
+  side-index l h = span-right 80 _ _ _ (omega arith) ∙ span-right 12 _ _ _ (omega arith) ∙ span-left 3 _ _ _ (omega arith)
+
+  pub side-mark : 95 ≤ q → q < 96 → sideItem t s d q ≡ Plain 0xFC
+  unfolding sideItem
+  side-mark l h =
+      span-right 80 _ _ _ (omega arith) ∙ span-right 12 _ _ _ (omega arith) ∙ span-right 3 _ _ _ (omega arith) ∙ span-left 1 _ _ _ (omega arith)
+
+  pub side-gap2 : 96 ≤ q → q < 146 → sideItem t s d q ≡ Plain gapByte
+  unfolding sideItem
+  side-gap2 l h =
+      span-right 80 _ _ _ (omega arith) ∙ span-right 12 _ _ _ (omega arith) ∙ span-right 3 _ _ _ (omega arith)
+      ∙ span-right 1 _ _ _ (omega arith) ∙ span-left 50 _ _ _ (omega arith)
+
+  pub side-tail : 146 ≤ q → 5922 ≤ q - 146 → sideItem t s d q ≡ Plain gapByte
+  side-tail l h = past-lead t s d q l ∙ span-right 5922 _ _ _ h
+
+-- ---- rows with a CRC
+
+-- the CRC of a header row, and of a field whose 512 bytes stand in a list, as code computes them
+pub header-crc : (t s r : ℕ) → crcFrom crcStart (0xA1 ∷ (0xA1 ∷ (0xA1 ∷ headerRow t s r))) ≡ fieldCrc (headerRow t s r)
+unfolding fieldCrc crc
+header-crc t s r = refl
+
+pub field-crc : (image : List ℕ) (at : ℕ) → at + 512 ≤ length image
+    → crcFrom (crcFrom crcStart (0xA1 ∷ (0xA1 ∷ (0xA1 ∷ (0xFB ∷ []))))) (take 512 (drop at image)) ≡ fieldCrc (dataMark ∷ window image at 512)
+unfolding fieldCrc crc
+field-crc image at h =
+    sym (crcFrom-append crcStart (0xA1 ∷ (0xA1 ∷ (0xA1 ∷ (0xFB ∷ [])))) (take 512 (drop at image))) ∙ rw (window-part image at 512 h)
+
+-- the bytes of a header row, as they stand in the row that code makes
+pub row-header : (t s r k : ℕ) → k < 5
+    → getD (0xA1 ∷ (0xA1 ∷ (0xA1 ∷ headerRow t s r))) (3 + k) 0 ≡ getD (withCrc (headerRow t s r)) k 0
+row-header t s r k h =
+    let e : 3 + k ≡ suc (suc (suc k)) = omega arith in
+    rw e (sym (crc-before (headerRow t s r) k h))
+
+-- the bytes of a data field
+module _ (image : List ℕ) (at : ℕ) where
+  abbrev field : List ℕ
+  field = dataMark ∷ window image at 512
+
+  field-length : length field ≡ 513
+  field-length = omega (arith, window-length image at 512)
+
+  pub row-mark : getD (withCrc (dataMark ∷ window image at 512)) 0 0 ≡ 0xFB
+  row-mark = crc-before field 0 (omega (arith, field-length))
+
+  pub row-data : (k : ℕ) → (k ≡ 0 → ⊥) → k ≤ 512 → at + 512 ≤ length image → getD (withCrc (dataMark ∷ window image at 512)) k 0 ≡ getD image (at + (k - 1)) 0
+  row-data zero n h l = absurd (n refl)
+  row-data (suc k) n h l =
+      let e : suc k - 1 ≡ k = omega arith in
+      crc-before field (suc k) (omega (arith, field-length)) ∙ rw e (window-in image at 512 k (omega arith))
+
+  pub row-high : (k : ℕ) → k ≡ 513 → getD (withCrc (dataMark ∷ window image at 512)) k 0 ≡ fieldCrc (dataMark ∷ window image at 512) / 256
+  row-high k e = crc-high field k (omega (arith, field-length))
+
+  pub row-low : (k : ℕ) → k ≡ 514 → getD (withCrc (dataMark ∷ window image at 512)) k 0 ≡ fieldCrc (dataMark ∷ window image at 512) % 256
+  row-low k e = crc-low field k (omega (arith, field-length))
+
+-- ---- the bytes of the image
+
+header-same : all (λ (i : ℕ). eqb (getD (signature ++ headerRest) i 0) (getD (signature ++ headerRest) i fillByte)) 20 ≡ true
+unfolding all signature headerRest lowByte
+header-same = refl
+
+-- the header as it is named, and what follows
+pub header-in : (k : ℕ) → k < 20 → getD (signature ++ headerRest) k 0 ≡ headerByte k
+unfolding headerByte
+header-in k h = all-eq (λ (i : ℕ). getD (signature ++ headerRest) i 0) (λ (i : ℕ). getD (signature ++ headerRest) i fillByte) 20 all-same k h
+  where
+    all-same : all (λ (i : ℕ). eqb (getD (signature ++ headerRest) i 0) (getD (signature ++ headerRest) i fillByte)) 20 ≡ true
+    all-same = header-same
+
+pub header-out : (k : ℕ) → 20 ≤ k → headerByte k ≡ fillByte
+unfolding headerByte signature headerRest lowByte
+header-out k h = List·getD-eq-default (signature ++ headerRest) fillByte h
+
+-- past the last entry
+module _ (j : ℕ) where
+  pub table-past : 320 ≤ j → tableByte j ≡ fillByte
+  unfolding tableByte
+  table-past h = rw (le-ltb j 320 h)
+
+-- past a side's end
+module _ (image : List ℕ) where
+  pub track-out : (t o : ℕ) → 12500 ≤ 256 * (o / 512) + o % 256 → trackByte image t o ≡ fillByte
+  unfolding trackByte
+  track-out t o h = rw (le-ltb (256 * (o / 512) + o % 256) 12500 h)
+
+-- refusals
+module _ (n m : ℕ) where
+  pub pack-hfe : (m ≡ hfeBytes → ⊥) → packReply n m ≡ reply 1 1 0 0
+  unfolding packReply
+  pack-hfe e = rw (ne-eqb m hfeBytes e)
+
+  pub pack-image : m ≡ hfeBytes → (n ≡ imageBytes → ⊥) → packReply n m ≡ reply 1 2 0 0
+  unfolding packReply
+  pack-image e f = rw (eq-eqb m hfeBytes e, ne-eqb n imageBytes f)
