@@ -18,7 +18,7 @@ use Rattle.file_rules.specs.declared.Record.{Record}
 use Rattle.file_rules.specs.declared.Record.the-variants.{Free, System, File, Other}
 use Rattle.file_rules.specs.declared.Entry.{Entry}
 use Rattle.file_rules.specs.Arguments.{FormatArguments}
-use Rattle.file_rules.specs.Sizes.{slotBytes, blockSlots, titleMost}
+use Rattle.file_rules.specs.Sizes.{slotBytes, blockSlots, titleMost, freeSectors}
 use Rattle.file_rules.specs.Disk.{Disk, diskOf, imageOf}
 use Rattle.file_rules.specs.Map.{freeAt, freeCount, fileByte}
 use Rattle.file_rules.specs.Directory.{nameRight, entryByte, entryFor, slotByte, slotEntry, held, dirEnd, findName, vacantSlot}
@@ -55,6 +55,12 @@ unwritten image r = record { answer = r; image = image }
 unfoldable pub imageRight : List ℕ → Bool
 imageRight image = eqb (length image) imageBytes
 
+-- ---- the calls that judge a disk first
+
+-- 1, then 8 to 11, refused in the call's own way; what the call does on a sound disk comes after
+unfoldable pub onSound : {A : Type 0} → List ℕ → (Reply → A) → (Disk → A) → A
+onSound image refuse act = cond (imageRight image) (unless (judged (diskOf image)) refuse (act (diskOf image))) (refuse wrongLength)
+
 -- ---- format
 
 -- the records of a fresh disk: block 1 is file 0 sequence 0
@@ -65,7 +71,7 @@ freshOwner (suc (suc b)) = Free
 
 -- its header: update count 0, free word 3 x (480 - 2), one slot of directory
 abbrev pub freshHeader : FormatArguments → ℕ → ℕ
-freshHeader args = headerByte args 0 (blockSectors * (blocks - 2)) 1
+freshHeader args = headerByte args 0 (freeSectors (blocks - 2)) 1
 
 -- all else is zero
 unfoldable pub formatDisk : FormatArguments → Disk
@@ -80,9 +86,9 @@ format image args =
 
 -- ---- check
 
--- 1, then 8 to 11
+-- nothing more
 unfoldable pub check : List ℕ → Reply
-check image = cond (imageRight image) (unless (judged (diskOf image)) (λ (r : Reply). r) done) wrongLength
+check image = onSound image (λ (r : Reply). r) (λ (d : Disk). done)
 
 -- ---- list and read
 
@@ -98,29 +104,26 @@ unfoldable pub entries : Disk → ℕ → List ℕ
 entries d zero = []
 entries d (suc n) = entries d n ++ cond (held d n) (tab (slotByte d n) slotBytes) []
 
--- 8 to 11, then 16
-unfoldable pub listDisk : Disk → List ℕ → Outcome
-listDisk d buf = unless (judged d) (kept buf) (deliver (entries d (dirEnd d)) buf)
+-- 16, or the entries
+unfoldable pub listSound : Disk → List ℕ → Outcome
+listSound d buf = deliver (entries d (dirEnd d)) buf
 
--- 1 before that
 unfoldable pub list : List ℕ → List ℕ → Outcome
-list image buf = cond (imageRight image) (listDisk (diskOf image) buf) (kept buf wrongLength)
+list image buf = onSound image (kept buf) (λ (d : Disk). listSound d buf)
 
 -- the data of file k, without its first 64 bytes
 unfoldable pub dataOf : Disk → ℕ → List ℕ
 dataOf d k = tab (λ (i : ℕ). fileByte d k (slotBytes + i)) (slotEntry d k .length - slotBytes)
 
--- 8 to 11, then 12, 14, 16
-unfoldable pub readDisk : Disk → List ℕ → List ℕ → Outcome
-readDisk d name buf =
-    unless (judged d) (kept buf)
-    (cond (nameRight name)
+-- 12, 14, 16, or the data
+unfoldable pub readSound : Disk → List ℕ → List ℕ → Outcome
+readSound d name buf =
+    cond (nameRight name)
     (cond (ltb (findName d name) (dirEnd d)) (deliver (dataOf d (findName d name)) buf) (kept buf (refusal 14)))
-    (kept buf (refusal 12)))
+    (kept buf (refusal 12))
 
--- 1 before that
 unfoldable pub read : List ℕ → List ℕ → List ℕ → Outcome
-read image name buf = cond (imageRight image) (readDisk (diskOf image) name buf) (kept buf wrongLength)
+read image name buf = onSound image (kept buf) (λ (d : Disk). readSound d name buf)
 
 -- ---- add
 
@@ -143,28 +146,26 @@ addAt d k e content =
     let d₂ : Disk = giveBlocks d₁ k (storedByte e content) 0 (firsts blocks (blocksFor (length content)) (freeAt d₁)) in
     stepUpdate (setFree (endAfter k (dirEnd d) (setSlot d₂ k (entryByte e))))
 
--- blocks that an add into slot k takes
-unfoldable pub needed : Disk → ℕ → List ℕ → ℕ
-needed d k content = cond (opensBlock d k) (suc (blocksFor (length content))) (blocksFor (length content))
+-- blocks that a file with so many bytes of data takes in slot k
+unfoldable pub needed : Disk → ℕ → ℕ → ℕ
+needed d k size = cond (opensBlock d k) (suc (blocksFor size)) (blocksFor size)
 
--- 8 to 11, then 12, 13 with the slot that has the name, 15
-unfoldable pub addDisk : Disk → List ℕ → ℕ → List ℕ → Changed
-addDisk d name date content =
-    unless (judged d) (refused d)
-    (cond (nameRight name)
+-- 12, 13 with the slot that has the name, 15, or the file is added
+unfoldable pub addSound : Disk → List ℕ → ℕ → List ℕ → Changed
+addSound d name date content =
+    cond (nameRight name)
     (cond (ltb (findName d name) (dirEnd d)) (refused d (reply 13 (findName d name) 0 0))
-    (cond (leb (needed d (vacantSlot d) content) (freeCount d))
+    (cond (leb (needed d (vacantSlot d) (length content)) (freeCount d))
     (record { answer = done; disk = addAt d (vacantSlot d) (entryFor name date (length content)) content })
     (refused d (refusal 15))))
-    (refused d (refusal 12)))
+    (refused d (refusal 12))
 
 -- the image of what a call left on the disk
 unfoldable pub imaged : Changed → Written
 imaged c = record { answer = c .answer; image = imageOf (c .disk) }
 
--- 1 before that
 unfoldable pub add : List ℕ → List ℕ → ℕ → List ℕ → Written
-add image name date content = cond (imageRight image) (imaged (addDisk (diskOf image) name date content)) (unwritten image wrongLength)
+add image name date content = onSound image (unwritten image) (λ (d : Disk). imaged (addSound d name date content))
 
 -- ---- remove
 
@@ -172,15 +173,13 @@ add image name date content = cond (imageRight image) (imaged (addDisk (diskOf i
 unfoldable pub removeAt : Disk → ℕ → Disk
 removeAt d k = stepUpdate (setFree (setSlot (freeBlocks blocks d k) k zeros))
 
--- 8 to 11, then 12, 14
-unfoldable pub removeDisk : Disk → List ℕ → Changed
-removeDisk d name =
-    unless (judged d) (refused d)
-    (cond (nameRight name)
+-- 12, 14, or the file is removed
+unfoldable pub removeSound : Disk → List ℕ → Changed
+removeSound d name =
+    cond (nameRight name)
     (cond (ltb (findName d name) (dirEnd d)) (record { answer = done; disk = removeAt d (findName d name) })
     (refused d (refusal 14)))
-    (refused d (refusal 12)))
+    (refused d (refusal 12))
 
--- 1 before that
 unfoldable pub remove : List ℕ → List ℕ → Written
-remove image name = cond (imageRight image) (imaged (removeDisk (diskOf image) name)) (unwritten image wrongLength)
+remove image name = onSound image (unwritten image) (λ (d : Disk). imaged (removeSound d name))

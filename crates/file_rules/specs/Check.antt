@@ -10,14 +10,14 @@ use Rattle.laws.specs.Below.{all}
 use Rattle.laws.specs.Lowest.{lowest}
 use Rattle.laws.specs.Same.{bytesAre}
 use Rattle.laws.specs.Count.{count}
-use Rattle.laws.specs.Numbers.{at16, up}
+use Rattle.laws.specs.Numbers.{at16}
 use Rattle.sector_rules.specs.declared.Fault.{Fault}
 use Rattle.sector_rules.specs.declared.Reply.{Reply}
 use Rattle.sector_rules.specs.Replies.{refusal}
 use Rattle.sector_rules.specs.Faults.{wrongAt, orFault, faultBelow, refusalAt}
 use Rattle.sector_rules.specs.Geometry.{tracks, sectors, blockSectors, turn, trackSectors, allSectors, blocks, sidePlace, backward}
 use Rattle.file_rules.specs.declared.Record.{Record}
-use Rattle.file_rules.specs.Sizes.{blockBytes, slotBytes, slotCount, nameMost}
+use Rattle.file_rules.specs.Sizes.{blockBytes, slotBytes, slotCount, nameMost, blocksOf, freeSectors}
 use Rattle.file_rules.specs.Disk.{Disk}
 use Rattle.file_rules.specs.Map.{recordAt, isSystem, isOther, bears, isPart, within, freeCount}
 use Rattle.file_rules.specs.Directory.{nameEq, slotEntry, slotName, held, dirBytes, dirEnd}
@@ -82,12 +82,12 @@ entryRight d k =
     leb slotBytes (slotEntry d k .length)
     && (leb 1 (slotEntry d k .named)
     && (leb (slotEntry d k .named) nameMost
-    && (newName d k && partsRight d k (up (slotEntry d k .length) blockBytes))))
+    && (newName d k && partsRight d k (blocksOf (slotEntry d k .length)))))
 
 -- file f is sound: the directory, a held slot, or a number that no record may bear
 unfoldable pub fileRight : Disk → ℕ → Bool
 fileRight d f =
-    cond (eqb f 0) (partsRight d 0 (up (dirBytes d) blockBytes))
+    cond (eqb f 0) (partsRight d 0 (blocksOf (dirBytes d)))
     (cond (ltb f (dirEnd d) && held d f) (entryRight d f) (unborne d f))
 
 -- the lowest file number that is not sound, or the number of slots; a directory longer than the disk is itself not sound
@@ -98,7 +98,7 @@ fileFault d = lowest (λ (f : ℕ). not (fileRight d f)) slotCount
 
 -- it is 3 x the free records
 unfoldable pub freeRight : Disk → Bool
-freeRight d = eqb (at16 (d 0) 20) (blockSectors * freeCount d)
+freeRight d = eqb (at16 (d 0) 20) (freeSectors (freeCount d))
 
 -- ---- the refusals, in order
 

@@ -7,13 +7,13 @@ use lib.Dec.{ltb, eqb}
 use lib.ListN.{length, getD}
 use Rattle.laws.specs.Change.{upd, patch}
 use Rattle.laws.specs.Words.{highByte}
-use Rattle.laws.specs.Numbers.{at32, up}
+use Rattle.laws.specs.Numbers.{at32}
 use Rattle.sector_rules.specs.Geometry.{tracks, sectors, blockSectors, turn, trackSectors, allSectors, blocks, sidePlace, backward}
 use Rattle.file_rules.specs.declared.Record.{Record}
 use Rattle.file_rules.specs.declared.Record.the-variants.{Free, System, File, Other}
 use Rattle.file_rules.specs.declared.Entry.{Entry}
 use Rattle.file_rules.specs.Arguments.{FormatArguments}
-use Rattle.file_rules.specs.Sizes.{blockBytes, slotBytes, blockSlots, mapStart, recordBytes, titleMost}
+use Rattle.file_rules.specs.Sizes.{blockBytes, slotBytes, blockSlots, mapStart, recordBytes, titleMost, blocksOf, freeSectors, wholeBlocks, bytesOver}
 use Rattle.file_rules.specs.Disk.{Disk}
 use Rattle.file_rules.specs.Map.{encode, recordAt, bears, freeCount, partBlock}
 use Rattle.file_rules.specs.Directory.{entryByte}
@@ -38,8 +38,8 @@ headerByte args updates word end =
     patch (patch (patch (patch (fixedByte args)
     16 4 (highByte 4 updates))
     20 2 (highByte 2 word))
-    34 2 (highByte 2 (end * slotBytes / blockBytes)))
-    36 2 (highByte 2 (end * slotBytes % blockBytes))
+    34 2 (highByte 2 (wholeBlocks end)))
+    36 2 (highByte 2 (bytesOver end))
 
 -- ---- a whole disk
 
@@ -64,7 +64,7 @@ part c s o = cond (ltb o blockBytes) (c (s * blockBytes + o)) 0
 
 -- the blocks of a file with so many bytes of data
 unfoldable pub blocksFor : ℕ → ℕ
-blocksFor size = up (slotBytes + size) blockBytes
+blocksFor size = blocksOf (slotBytes + size)
 
 -- zero bytes
 unfoldable pub zeros : ℕ → ℕ
@@ -92,11 +92,11 @@ setWord d o v = upd d 0 (patch (d 0) o 2 (highByte 2 v))
 
 -- the free word becomes 3 x the free records
 unfoldable pub setFree : Disk → Disk
-setFree d = setWord d 20 (blockSectors * freeCount d)
+setFree d = setWord d 20 (freeSectors (freeCount d))
 
 -- the directory's length becomes k slots
 unfoldable pub setEnd : Disk → ℕ → Disk
-setEnd d k = setWord (setWord d 34 (k * slotBytes / blockBytes)) 36 (k * slotBytes % blockBytes)
+setEnd d k = setWord (setWord d 34 (wholeBlocks k)) 36 (bytesOver k)
 
 -- the update count grows by 1, wrapping at 32 bits
 unfoldable pub stepUpdate : Disk → Disk

@@ -11,16 +11,16 @@ ghost use Rattle.file_rules.specs.Directory.{entryFor, dirEnd};
 ghost use Rattle.file_rules.specs.Check.{judged};
 ghost use Rattle.file_rules.specs.Written.{blocksFor};
 ghost use Rattle.file_rules.specs.Calls as Calls;
-ghost use Rattle.file_rules.specs.Calls.{opensBlock, growDir, endAfter, addAt, addDisk};
-ghost use Rattle.files.specs.Laws.Calling.Judged.{Gave, taken};
+ghost use Rattle.file_rules.specs.Calls.{opensBlock, growDir, endAfter, needed, addAt, addSound};
+ghost use Rattle.files.specs.Laws.Calling.Judged.{Gave};
 use crate::Verdict;
+use crate::blocks::blocks_of;
 use crate::checking::judge;
 use crate::directory::find_name;
 use crate::directory::vacant_slot;
 use crate::header::dir_end;
 use crate::map::free_count;
 use crate::reading::name_right;
-use crate::sizes::BLOCK_BYTES;
 use crate::sizes::BLOCK_SLOTS;
 use crate::sizes::SLOT_BYTES;
 use crate::steps::entry_bytes;
@@ -39,7 +39,7 @@ fn blocks_for(size: usize) -> usize
     requires { ⌜ size ≤ imageBytes ⌝ }
     ensures { λ r. ⌜ (r ≡ blocksFor size) × (r ≤ 481) ⌝ }
 {
-    (SLOT_BYTES + size + (BLOCK_BYTES - 1)) / BLOCK_BYTES
+    blocks_of(SLOT_BYTES + size)
 }
 
 // A slot at the directory's end that begins a block takes the lowest free block for the directory.
@@ -106,7 +106,7 @@ fn opens_block(image: &[u8], k: usize) -> bool
 // Whether there are blocks enough for a file of so many bytes in slot k. More bytes than the disk has never fit;
 // that is asked first, since 64 more than the size could wrap.
 fn has_room(image: &[u8], k: usize, size: usize) -> bool
-    ensures { λ r. ⌜ r ≡ leb (taken (diskOf (now (image .entry))) k size) (freeCount (diskOf (now (image .entry)))) ⌝ }
+    ensures { λ r. ⌜ r ≡ leb (needed (diskOf (now (image .entry))) k size) (freeCount (diskOf (now (image .entry)))) ⌝ }
 {
     if Geometry::IMAGE_BYTES < size {
         return false;
@@ -119,10 +119,10 @@ fn has_room(image: &[u8], k: usize, size: usize) -> bool
     wanted <= free
 }
 
-// Adds a file to a disk that passed the judgement.
-fn add_judged(image: &mut [u8], name: &[u8], date: u32, content: &[u8]) -> Reply
+// Adds a file to a sound disk, or 12, 13 or 15.
+fn add_sound(image: &mut [u8], name: &[u8], date: u32, content: &[u8]) -> Reply
     requires { ⌜ (length (now image) ≡ imageBytes) × (judged (diskOf (now image)) ≡ none) ⌝ }
-    ensures { λ r. ⌜ Gave (addDisk (diskOf (now (image .entry))) (now (name .entry)) date (now (content .entry))) r (now (image .exit)) ⌝ }
+    ensures { λ r. ⌜ Gave (addSound (diskOf (now (image .entry))) (now (name .entry)) date (now (content .entry))) r (now (image .exit)) ⌝ }
 {
     if !name_right(name) {
         return refused(12, 0);
@@ -149,6 +149,6 @@ pub fn add(image: &mut [u8], name: &[u8], date: u32, content: &[u8]) -> Reply
     }
     match judge(image) {
         Verdict::Refused(r) => r,
-        Verdict::Passed => add_judged(image, name, date, content),
+        Verdict::Passed => add_sound(image, name, date, content),
     }
 }

@@ -1,12 +1,21 @@
 // Bytes and numbers of the disk in block order, read from the block image through the placement.
 ghost use mathlib.Core.Path.{_≡_};
-ghost use Prim.Native.Nat.{_+_, _%_, _<_, _≤_, _^_};
+ghost use Prim.Native.Nat.{_+_, _*_, _%_, _<_, _≤_, _^_};
 ghost use Rattle.laws.specs.Numbers.{at16, at32};
+ghost use Rattle.file_rules.specs.Sizes.{blockBytes, blocksOf};
 ghost use Rattle.file_rules.specs.Disk.{byteOf, diskOf};
 ghost use Rattle.files.specs.Laws.Writing.Rows.{runPlace};
 use crate::sizes::BLOCK_BYTES;
 use sector_rules::BlockNumber;
 use sectors::Geometry;
+
+// The blocks that so many bytes take.
+pub fn blocks_of(bytes: usize) -> usize
+    requires { ⌜ bytes < 2 ^ 33 ⌝ }
+    ensures { λ r. ⌜ (r ≡ blocksOf bytes) × (r * blockBytes < bytes + blockBytes) ⌝ }
+{
+    (bytes + (BLOCK_BYTES - 1)) / BLOCK_BYTES
+}
 
 // Where byte o of block b stands in the image.
 pub fn byte_place(b: usize, o: usize) -> usize

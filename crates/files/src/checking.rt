@@ -1,10 +1,9 @@
 // Whether the disk is sound: the judgements 8 to 11 that check, list, read, add and remove make first.
 ghost use mathlib.Core.Path.{_≡_};
 ghost use mathlib.Core.Bool.{true, _&&_};
-ghost use Prim.Native.Nat.{_≤_, _<_, _^_, min};
+ghost use Prim.Native.Nat.{_≤_, _<_, min};
 ghost use lib.Dec.{ltb};
 ghost use lib.ListN.{length};
-ghost use Rattle.laws.specs.Numbers.{up};
 ghost use Rattle.file_rules.specs.Disk.{diskOf};
 ghost use Rattle.file_rules.specs.Directory.{held, dirEnd};
 ghost use Rattle.file_rules.specs.Check.{entryRight, fileRight, fileFault, refusal9, refusal10, refusal11, judged};
@@ -15,6 +14,7 @@ ghost use Rattle.files.specs.Laws.Loading.Slots.{Located};
 ghost use Rattle.files.specs.Laws.Loading.Marks.{Named};
 ghost use Rattle.files.specs.Laws.Judging.Sound.{unmarked, Bearer, Marked};
 use crate::Verdict;
+use crate::blocks::blocks_of;
 use crate::directory::held_slot;
 use crate::directory::read_entry;
 use crate::directory::slot_place;
@@ -30,7 +30,6 @@ use crate::names::new_first;
 use crate::names::tally_names;
 use crate::parts::file_blocks;
 use crate::parts::parts_right;
-use crate::sizes::BLOCK_BYTES;
 use crate::sizes::NAME_MOST;
 use crate::sizes::SLOT_BYTES;
 use crate::sizes::SLOT_COUNT;
@@ -40,14 +39,6 @@ use sector_rules::Reply;
 use sectors::Geometry;
 use sectors::done;
 use sectors::refused;
-
-// The blocks that so many bytes take.
-fn blocks_of(bytes: usize) -> usize
-    requires { ⌜ bytes < 2 ^ 33 ⌝ }
-    ensures { λ r. ⌜ (r ≡ up bytes 1536) × (r < 2 ^ 33) ⌝ }
-{
-    (bytes + (BLOCK_BYTES - 1)) / BLOCK_BYTES
-}
 
 // The file that a record bears; 4096, which is none, where it bears none.
 fn bearer(r: Record) -> usize

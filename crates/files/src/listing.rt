@@ -8,6 +8,7 @@ ghost use Rattle.laws.specs.Tab.{elementAt};
 ghost use Rattle.file_rules.specs.Disk.{diskOf};
 ghost use Rattle.file_rules.specs.Directory.{held, dirEnd};
 ghost use Rattle.file_rules.specs.Calls as Calls;
+ghost use Rattle.file_rules.specs.Calls.{listSound};
 ghost use Rattle.files.specs.Laws.Loading.Slots.{Located};
 ghost use Rattle.files.specs.Laws.Calling.Delivered.{slotPart};
 use crate::Verdict;
@@ -71,7 +72,7 @@ fn list_slots(image: &[u8], dir: &[usize; 480], end: usize, out: &mut [u8])
 // Lists a sound disk, or 16.
 fn list_sound(image: &[u8], out: &mut [u8]) -> Reply
     requires { ⌜ (length (now image) ≡ 737280) × (dirEnd (diskOf (now image)) ≤ 11520) ⌝ }
-    ensures { λ r. ⌜ (r ≡ Calls.deliver (Calls.entries (diskOf (now (image .entry))) (dirEnd (diskOf (now (image .entry))))) (now (out .entry)) .answer) × (now (out .exit) ≡ Calls.deliver (Calls.entries (diskOf (now (image .entry))) (dirEnd (diskOf (now (image .entry))))) (now (out .entry)) .buffer) ⌝ }
+    ensures { λ r. ⌜ (r ≡ listSound (diskOf (now (image .entry))) (now (out .entry)) .answer) × (now (out .exit) ≡ listSound (diskOf (now (image .entry))) (now (out .entry)) .buffer) ⌝ }
 {
     let dir = load_dir(image);
     let end = dir_end(image);

@@ -7,7 +7,7 @@ ghost use Rattle.file_rules.specs.Disk.{diskOf};
 ghost use Rattle.file_rules.specs.Map.{fileByte};
 ghost use Rattle.file_rules.specs.Directory.{nameRight, slotEntry, dirEnd};
 ghost use Rattle.file_rules.specs.Calls as Calls;
-ghost use Rattle.files.specs.Laws.Calling.Delivered.{readSound};
+ghost use Rattle.file_rules.specs.Calls.{readSound};
 use crate::Verdict;
 use crate::blocks::byte_place;
 use crate::blocks::run_length;

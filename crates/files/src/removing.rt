@@ -6,7 +6,7 @@ ghost use Rattle.sector_rules.specs.Geometry.{imageBytes};
 ghost use Rattle.file_rules.specs.Disk.{diskOf, imageOf};
 ghost use Rattle.file_rules.specs.Check.{judged};
 ghost use Rattle.file_rules.specs.Calls as Calls;
-ghost use Rattle.file_rules.specs.Calls.{removeAt, removeDisk};
+ghost use Rattle.file_rules.specs.Calls.{removeAt, removeSound};
 ghost use Rattle.files.specs.Laws.Calling.Judged.{Gave};
 use crate::Verdict;
 use crate::checking::judge;
@@ -31,10 +31,10 @@ fn remove_at(image: &mut [u8], k: usize)
     settle(image);
 }
 
-// Removes a file from a disk that passed the judgement.
-fn remove_judged(image: &mut [u8], name: &[u8]) -> Reply
+// Removes a file from a sound disk, or 12 or 14.
+fn remove_sound(image: &mut [u8], name: &[u8]) -> Reply
     requires { ⌜ (length (now image) ≡ imageBytes) × (judged (diskOf (now image)) ≡ none) ⌝ }
-    ensures { λ r. ⌜ Gave (removeDisk (diskOf (now (image .entry))) (now (name .entry))) r (now (image .exit)) ⌝ }
+    ensures { λ r. ⌜ Gave (removeSound (diskOf (now (image .entry))) (now (name .entry))) r (now (image .exit)) ⌝ }
 {
     if !name_right(name) {
         return refused(12, 0);
@@ -56,6 +56,6 @@ pub fn remove(image: &mut [u8], name: &[u8]) -> Reply
     }
     match judge(image) {
         Verdict::Refused(r) => r,
-        Verdict::Passed => remove_judged(image, name),
+        Verdict::Passed => remove_sound(image, name),
     }
 }

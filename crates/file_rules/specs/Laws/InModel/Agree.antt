@@ -26,7 +26,7 @@ use Rattle.file_rules.specs.Laws.OnImages.Add.{k-pos, k-none, by-growth,
 use Rattle.file_rules.specs.Laws.InnerModel.Facts.{parts-none, found-slot}
 use Rattle.file_rules.specs.Laws.InnerModel.Inner.{Inner, present, fileBlocks, header, render, emptySlots, formatM, findM, emptySlot, give, freeOf, listM, readM, ChangedM, refusedM, removeAtM, removeM, growOwner, peakAfter, addAtM, roomFor, addM, stepM, outM, outsM, endM}
 use Rattle.file_rules.specs.Laws.InnerModel.Invariant.{partsOf, Inv}
-use Rattle.file_rules.specs.Laws.InModel.Listed.{blocksOf, withOwner, Listed, owner-is, give-listed, freed-listed, listed-cong}
+use Rattle.file_rules.specs.Laws.InModel.Listed.{listedBlocks, withOwner, Listed, owner-is, give-listed, freed-listed, listed-cong}
 use Rattle.file_rules.specs.Laws.Base.Names.{name-bounds, name-is, name-so}
 use Rattle.file_rules.specs.Laws.OnImages.Remove.{parts-other, parts-gone}
 use Rattle.file_rules.specs.Laws.Base.Results.{result-is}
@@ -49,18 +49,18 @@ upd-file L k v =
     (λ q. upd-same (λ (i : ℕ). fileOf (L i)) k (fileOf v) j q ∙ ap fileOf (sym (upd-same L k v j q)))
     (λ q. upd-other (λ (i : ℕ). fileOf (L i)) k (fileOf v) j q ∙ ap fileOf (sym (upd-other L k v j q))))
 
-blocks-other : (L : ℕ → Option Filled) (dir : List ℕ) (k : ℕ) (v : Option Filled) (j : ℕ) → j ≢ k → blocksOf (upd L k v) dir j ≡ blocksOf L dir j
-unfolding blocksOf
+blocks-other : (L : ℕ → Option Filled) (dir : List ℕ) (k : ℕ) (v : Option Filled) (j : ℕ) → j ≢ k → listedBlocks (upd L k v) dir j ≡ listedBlocks L dir j
+unfolding listedBlocks
 blocks-other L dir k v zero q = refl
 blocks-other L dir k v (suc j) q = ap takenBy (upd-other L k v (suc j) q)
 
-blocks-this : (L : ℕ → Option Filled) (dir : List ℕ) (k : ℕ) (v : Option Filled) → 0 < k → blocksOf (upd L k v) dir k ≡ takenBy v
-unfolding blocksOf
+blocks-this : (L : ℕ → Option Filled) (dir : List ℕ) (k : ℕ) (v : Option Filled) → 0 < k → listedBlocks (upd L k v) dir k ≡ takenBy v
+unfolding listedBlocks
 blocks-this L dir zero v h = absurd (omega arith)
 blocks-this L dir (suc k) v h = ap takenBy (upd-same L (suc k) v (suc k) refl)
 
-blocks-empty : (L : ℕ → Option Filled) (dir : List ℕ) (k : ℕ) → 0 < k → L k ≡ none → blocksOf L dir k ≡ []
-unfolding blocksOf takenBy
+blocks-empty : (L : ℕ → Option Filled) (dir : List ℕ) (k : ℕ) → 0 < k → L k ≡ none → listedBlocks L dir k ≡ []
+unfolding listedBlocks takenBy
 blocks-empty L dir zero h e = absurd (omega arith)
 blocks-empty L dir (suc k) h e = ap takenBy e
 
@@ -155,7 +155,7 @@ module _ (b : Model) (o : ℕ → Record) (v : Inv (withOwner b o)) (r : Listed 
     first-same = firsts-cong blocks 1 (freeIn (b .slots) (b .dir) (b .peak)) (freeOf o) (λ j l. ap isFree (sym (owner-same j l)))
 
     listed₁ : Listed (b .slots) (dirThen b) owner₁ parts₁
-    unfolding dirThen growOwner withOwner peakThen presentIn peakAfter present blocksOf
+    unfolding dirThen growOwner withOwner peakThen presentIn peakAfter present listedBlocks
     listed₁ =
         let first : List ℕ = firsts blocks 1 (freeOf o) in
         by-growth m v
@@ -179,7 +179,7 @@ module _ (b : Model) (o : ℕ → Record) (v : Inv (withOwner b o)) (r : Listed 
         (λ p. ap (partsOf m) p ∙ dir-parts m v x right new room ∙ sym s ∙ sym (upd-same (partsOf m) 0 (dirBlocks (peakAfter m)) f p))
         (λ p. sym (upd-other (partsOf m) 0 (dirBlocks (peakAfter m)) f p))) r)))
       where
-        dir-other : (j : ℕ) → j ≢ 0 → blocksOf (b .slots) (b .dir ++ firsts blocks 1 (freeOf o)) j ≡ blocksOf (b .slots) (b .dir) j
+        dir-other : (j : ℕ) → j ≢ 0 → listedBlocks (b .slots) (b .dir ++ firsts blocks 1 (freeOf o)) j ≡ listedBlocks (b .slots) (b .dir) j
         dir-other zero p = absurd (p refl)
         dir-other (suc j) p = refl
 
@@ -286,16 +286,16 @@ agree (c ∷ cs) b o v r =
 
 pub fresh-listed : (args : FormatArguments)
     → Listed (modelFormat args .slots) (modelFormat args .dir) freshOwner (partsOf (formatM args))
-unfolding modelFormat formatM partsOf dirBlocks heldBlocks emptySlots blocksOf takenBy freshOwner
+unfolding modelFormat formatM partsOf dirBlocks heldBlocks emptySlots listedBlocks takenBy freshOwner
 fresh-listed args = record { sizes = sizes; each = each }
   where
-    sizes : (k : ℕ) → length (blocksOf (modelFormat args .slots) (modelFormat args .dir) k) ≡ partsOf (formatM args) k
+    sizes : (k : ℕ) → length (listedBlocks (modelFormat args .slots) (modelFormat args .dir) k) ≡ partsOf (formatM args) k
     sizes zero = refl
     sizes (suc k) = refl
 
     each : (k s : ℕ) → s < partsOf (formatM args) k
-        → (getD (blocksOf (modelFormat args .slots) (modelFormat args .dir) k) s 0 < blocks)
-        × (freshOwner (getD (blocksOf (modelFormat args .slots) (modelFormat args .dir) k) s 0) ≡ File k s)
+        → (getD (listedBlocks (modelFormat args .slots) (modelFormat args .dir) k) s 0 < blocks)
+        × (freshOwner (getD (listedBlocks (modelFormat args .slots) (modelFormat args .dir) k) s 0) ≡ File k s)
     each zero zero h = (omega arith, refl)
     each zero (suc s) h = absurd (omega arith)
     each (suc k) s h = absurd (omega arith)

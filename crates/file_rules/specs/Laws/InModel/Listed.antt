@@ -61,9 +61,9 @@ by-position (some s) f g = g s refl
 
 -- ---- the blocks of a book are owned as its lists say
 
-unfoldable pub blocksOf : (ℕ → Option Filled) → List ℕ → ℕ → List ℕ
-blocksOf slots dir zero = dir
-blocksOf slots dir (suc k) = takenBy (slots (suc k))
+unfoldable pub listedBlocks : (ℕ → Option Filled) → List ℕ → ℕ → List ℕ
+listedBlocks slots dir zero = dir
+listedBlocks slots dir (suc k) = takenBy (slots (suc k))
 
 -- the inner model with the slots of a model, and these owners
 unfoldable pub withOwner : Model → (ℕ → Record) → Inner
@@ -71,29 +71,29 @@ withOwner b owner =
     record { arguments = b .arguments; updates = b .updates; peak = b .peak; slots = λ (k : ℕ). fileOf (b .slots k); owner = owner }
 
 pub record Listed (slots : ℕ → Option Filled) (dir : List ℕ) (owner : ℕ → Record) (parts : ℕ → ℕ) : Type 0 where
-  pub sizes : (k : ℕ) → length (blocksOf slots dir k) ≡ parts k
-  pub each : (k s : ℕ) → s < parts k → (getD (blocksOf slots dir k) s 0 < blocks) × (owner (getD (blocksOf slots dir k) s 0) ≡ File k s)
+  pub sizes : (k : ℕ) → length (listedBlocks slots dir k) ≡ parts k
+  pub each : (k s : ℕ) → s < parts k → (getD (listedBlocks slots dir k) s 0 < blocks) × (owner (getD (listedBlocks slots dir k) s 0) ≡ File k s)
 
 module _ (slots : ℕ → Option Filled) (dir : List ℕ) (owner : ℕ → Record) (parts : ℕ → ℕ) (v : Owned owner parts) (r : Listed slots dir owner parts)
     (first : slots 0 ≡ none) (peak : ℕ) (past : (k : ℕ) → peak < k → parts k ≡ 0) where
   -- what a search finds is the owner
-  hit : (b k s : ℕ) → position b 0 (blocksOf slots dir k) ≡ some s → owner b ≡ File k s
+  hit : (b k s : ℕ) → position b 0 (listedBlocks slots dir k) ≡ some s → owner b ≡ File k s
   hit b k s e =
-      let w : (0 ≤ s) × (s < 0 + length (blocksOf slots dir k)) × (getD (blocksOf slots dir k) (s - 0) 0 ≡ b) = found b 0 (blocksOf slots dir k) s e in
+      let w : (0 ≤ s) × (s < 0 + length (listedBlocks slots dir k)) × (getD (listedBlocks slots dir k) (s - 0) 0 ≡ b) = found b 0 (listedBlocks slots dir k) s e in
       let z : s - 0 ≡ s = omega arith in
-      let at : getD (blocksOf slots dir k) s 0 ≡ b = ap (λ (j : ℕ). getD (blocksOf slots dir k) j 0) (sym z) ∙ w .2 in
+      let at : getD (listedBlocks slots dir k) s 0 ≡ b = ap (λ (j : ℕ). getD (listedBlocks slots dir k) j 0) (sym z) ∙ w .2 in
       ap owner (sym at) ∙ r .each k s (omega (arith, w .1, r .sizes k)) .1
 
   -- where it finds nothing there is no owner
-  miss : (b k s : ℕ) → b < blocks → position b 0 (blocksOf slots dir k) ≡ none → owner b ≡ File k s → ⊥
+  miss : (b k s : ℕ) → b < blocks → position b 0 (listedBlocks slots dir k) ≡ none → owner b ≡ File k s → ⊥
   miss b k s l e q =
       let h : s < parts k = v .own-below b k s l q in
-      let w : (getD (blocksOf slots dir k) s 0 < blocks) × (owner (getD (blocksOf slots dir k) s 0) ≡ File k s) = r .each k s h in
-      missed b 0 (blocksOf slots dir k) e s (omega (arith, r .sizes k)) (v .own-once (getD (blocksOf slots dir k) s 0) b k s (w .0) l (w .1) q)
+      let w : (getD (listedBlocks slots dir k) s 0 < blocks) × (owner (getD (listedBlocks slots dir k) s 0) ≡ File k s) = r .each k s h in
+      missed b 0 (listedBlocks slots dir k) e s (omega (arith, r .sizes k)) (v .own-once (getD (listedBlocks slots dir k) s 0) b k s (w .0) l (w .1) q)
 
   -- slots below n
   slot-is : (n b : ℕ) → b < blocks → ((k s : ℕ) → n ≤ k → owner b ≡ File k s → ⊥) → ((s : ℕ) → owner b ≡ File 0 s → ⊥) → owner b ≢ System → slotRecord slots n b ≡ owner b
-  unfolding slotRecord orRecord blocksOf takenBy position
+  unfolding slotRecord orRecord listedBlocks takenBy position
   slot-is zero b l high low sys = sym (go (owner b) refl)
     where
       go : (x : Record) → owner b ≡ x → owner b ≡ Free
@@ -111,7 +111,7 @@ module _ (slots : ℕ → Option Filled) (dir : List ℕ) (owner : ℕ → Recor
       (λ s e. ap (λ (o : Option ℕ). orRecord (suc n) o (slotRecord slots (suc n) b)) e ∙ sym (hit b (suc n) s e))
 
   pub owner-is : (b : ℕ) → b < blocks → recordIn slots dir peak b ≡ owner b
-  unfolding recordIn orRecord blocksOf
+  unfolding recordIn orRecord listedBlocks
   owner-is b l =
       by-equal b 0
       (λ z. cond-true _ _ (eq-true z) ∙ sym (ap owner z ∙ v .own-zero))
@@ -154,26 +154,26 @@ give-at (x ∷ xs) owner f s i (suc j) t h =
 
 module _ (slots slots′ : ℕ → Option Filled) (dir dir′ : List ℕ) (owner : ℕ → Record) (parts : ℕ → ℕ) (r : Listed slots dir owner parts) where
   pub give-listed : (bs : List ℕ) (f s i : ℕ) → Picks blocks (freeOf owner) i bs → parts f ≡ s
-      → ((k : ℕ) → k ≢ f → blocksOf slots′ dir′ k ≡ blocksOf slots dir k) → blocksOf slots′ dir′ f ≡ blocksOf slots dir f ++ bs
+      → ((k : ℕ) → k ≢ f → listedBlocks slots′ dir′ k ≡ listedBlocks slots dir k) → listedBlocks slots′ dir′ f ≡ listedBlocks slots dir f ++ bs
       → Listed slots′ dir′ (give owner f s bs) (upd parts f (s + length bs))
   give-listed bs f s i t e others this =
-      let old : List ℕ = blocksOf slots dir f in
+      let old : List ℕ = listedBlocks slots dir f in
       let long : length old ≡ s = r .sizes f ∙ e in
       record {
         sizes = λ k.
             by-equal k f
-            (λ q. ap (λ (j : ℕ). length (blocksOf slots′ dir′ j)) q ∙ ap length this ∙ length-append old bs
+            (λ q. ap (λ (j : ℕ). length (listedBlocks slots′ dir′ j)) q ∙ ap length this ∙ length-append old bs
             ∙ omega (arith, upd-same parts f (s + length bs) k q))
             (λ q. ap length (others k q) ∙ r .sizes k ∙ sym (upd-other parts f (s + length bs) k q));
         each = λ k u h.
             by-equal k f
             (λ q.
             let n : upd parts f (s + length bs) k ≡ s + length bs = upd-same parts f (s + length bs) k q in
-            let l : blocksOf slots′ dir′ k ≡ old ++ bs = ap (blocksOf slots′ dir′) q ∙ this in
+            let l : listedBlocks slots′ dir′ k ≡ old ++ bs = ap (listedBlocks slots′ dir′) q ∙ this in
             let goal : (x : ℕ) → (x < blocks) × (give owner f s bs x ≡ File f u) → getD (old ++ bs) u 0 ≡ x
-            → (getD (blocksOf slots′ dir′ k) u 0 < blocks) × (give owner f s bs (getD (blocksOf slots′ dir′ k) u 0) ≡ File k u) =
+            → (getD (listedBlocks slots′ dir′ k) u 0 < blocks) × (give owner f s bs (getD (listedBlocks slots′ dir′ k) u 0) ≡ File k u) =
             λ x w p.
-            let y : getD (blocksOf slots′ dir′ k) u 0 ≡ x = ap (λ (xs : List ℕ). getD xs u 0) l ∙ p in
+            let y : getD (listedBlocks slots′ dir′ k) u 0 ≡ x = ap (λ (xs : List ℕ). getD xs u 0) l ∙ p in
             (omega (arith, w .0), ap (give owner f s bs) y ∙ w .1 ∙ ap (λ (j : ℕ). File j u) (sym q)) in
             by-order u s
             (λ a.
@@ -188,30 +188,30 @@ module _ (slots slots′ : ℕ → Option Filled) (dir dir′ : List ℕ) (owner
             (ap (λ (j : ℕ). getD (old ++ bs) j 0) z ∙ getD-append-add old bs (u - s) 0)))
             (λ q.
             let n : upd parts f (s + length bs) k ≡ parts k = upd-other parts f (s + length bs) k q in
-            let w : (getD (blocksOf slots dir k) u 0 < blocks) × (owner (getD (blocksOf slots dir k) u 0) ≡ File k u) = r .each k u (omega arith) in
-            let y : getD (blocksOf slots′ dir′ k) u 0 ≡ getD (blocksOf slots dir k) u 0 = ap (λ (xs : List ℕ). getD xs u 0) (others k q) in (
+            let w : (getD (listedBlocks slots dir k) u 0 < blocks) × (owner (getD (listedBlocks slots dir k) u 0) ≡ File k u) = r .each k u (omega arith) in
+            let y : getD (listedBlocks slots′ dir′ k) u 0 ≡ getD (listedBlocks slots dir k) u 0 = ap (λ (xs : List ℕ). getD xs u 0) (others k q) in (
               omega (arith, w .0),
               ap (give owner f s bs) y
-                  ∙ give-off bs owner f s i (getD (blocksOf slots dir k) u 0) t (file-not-free owner (getD (blocksOf slots dir k) u 0) k u (w .1)) ∙ w .1,
+                  ∙ give-off bs owner f s i (getD (listedBlocks slots dir k) u 0) t (file-not-free owner (getD (listedBlocks slots dir k) u 0) k u (w .1)) ∙ w .1,
             ));
       }
 
   -- ---- a file's blocks are freed
 
   pub freed-listed : (f : ℕ) (parts′ : ℕ → ℕ) → ((k : ℕ) → k ≢ f → parts′ k ≡ parts k) → parts′ f ≡ 0
-      → ((k : ℕ) → k ≢ f → blocksOf slots′ dir′ k ≡ blocksOf slots dir k) → blocksOf slots′ dir′ f ≡ []
+      → ((k : ℕ) → k ≢ f → listedBlocks slots′ dir′ k ≡ listedBlocks slots dir k) → listedBlocks slots′ dir′ f ≡ []
       → Listed slots′ dir′ (λ (b : ℕ). unowned f (owner b)) parts′
   freed-listed f parts′ e z others this =
       record {
         sizes = λ k.
-            by-equal k f (λ q. ap (λ (j : ℕ). length (blocksOf slots′ dir′ j)) q ∙ ap length this ∙ sym (ap parts′ q ∙ z))
+            by-equal k f (λ q. ap (λ (j : ℕ). length (listedBlocks slots′ dir′ j)) q ∙ ap length this ∙ sym (ap parts′ q ∙ z))
             (λ q. ap length (others k q) ∙ r .sizes k ∙ sym (e k q));
         each = λ k u h.
             by-equal k f (λ q. absurd (omega (arith, ap parts′ q)))
             (λ q.
-            let w : (getD (blocksOf slots dir k) u 0 < blocks) × (owner (getD (blocksOf slots dir k) u 0) ≡ File k u) = r .each k u (omega (arith, e k q)) in
-            let y : getD (blocksOf slots′ dir′ k) u 0 ≡ getD (blocksOf slots dir k) u 0 = ap (λ (xs : List ℕ). getD xs u 0) (others k q) in
-            (omega (arith, w .0), ap (λ (b : ℕ). unowned f (owner b)) y ∙ keeps f k u (owner (getD (blocksOf slots dir k) u 0)) (w .1) q));
+            let w : (getD (listedBlocks slots dir k) u 0 < blocks) × (owner (getD (listedBlocks slots dir k) u 0) ≡ File k u) = r .each k u (omega (arith, e k q)) in
+            let y : getD (listedBlocks slots′ dir′ k) u 0 ≡ getD (listedBlocks slots dir k) u 0 = ap (λ (xs : List ℕ). getD xs u 0) (others k q) in
+            (omega (arith, w .0), ap (λ (b : ℕ). unowned f (owner b)) y ∙ keeps f k u (owner (getD (listedBlocks slots dir k) u 0)) (w .1) q));
       }
 
 pub listed-cong : (slots : ℕ → Option Filled) (dir : List ℕ) (owner : ℕ → Record) (parts parts′ : ℕ → ℕ) → ((k : ℕ) → parts k ≡ parts′ k)

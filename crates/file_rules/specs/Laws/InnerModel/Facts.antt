@@ -27,7 +27,7 @@ use Rattle.sector_rules.specs.Geometry.{blockSectors, blocks, sidePlace, backwa
 use Rattle.sector_rules.specs.Replies.{reply, refusal}
 use Rattle.file_rules.specs.declared.Record.{Record}
 use Rattle.file_rules.specs.declared.Record.the-variants.{Free, System, File, Other}
-use Rattle.file_rules.specs.Calls.{Outcome, kept, unless, deliver, entries, listDisk, dataOf, readDisk}
+use Rattle.file_rules.specs.Calls.{Outcome, kept, deliver, entries, listSound, dataOf, readSound}
 use Rattle.file_rules.specs.Check.{signature, lengthRight, sizesFault, headerFault, recordFault, mapFault, partsRight, unborne, newName, entryRight, fileRight, fileFault, freeRight, refusal8, refusal9, refusal10, refusal11, judged}
 use Rattle.file_rules.specs.Directory.{nameEq, nameRight, entryOf, entryByte, nameOf, entryFor, slotByte, slotEntry, slotName, held, dirBytes, dirEnd, findName, vacantSlot}
 use Rattle.file_rules.specs.Disk.{Disk}
@@ -36,7 +36,7 @@ use Rattle.file_rules.specs.Laws.InnerModel.Invariant.{partsOf, Inv}
 use Rattle.file_rules.specs.Laws.Base.Whole.{Valid, With, with-is, record-is, freeCount-is, partBlock-is}
 use Rattle.file_rules.specs.Map.{recordAt, isSystem, isOther, bears, isPart, within, freeCount, partBlock, fileByte}
 use Rattle.file_rules.specs.Model.{NamedFile, HeldFile, heldBlocks, dirBlocks, usable, freeWord, slotOf, bytesOf, dirByte, content, named, heldEntry, heldEntries, heldData}
-use Rattle.file_rules.specs.Sizes.{blockBytes, slotBytes, blockSlots, slotCount, mapStart, nameMost}
+use Rattle.file_rules.specs.Sizes.{blockBytes, slotBytes, blockSlots, slotCount, mapStart, nameMost, freeSectors}
 use Rattle.file_rules.specs.Written.{fixedByte, headerByte, storedByte, part, blocksFor}
 
 -- ---- tests of records
@@ -461,7 +461,7 @@ module _ (m : Inner) (v : Inv m) where
 
   eleven-right : refusal11 d ≡ none
   unfolding refusal11 freeRight freeWord
-  eleven-right = cond-true _ _ (eq-true {a = at16 (d 0) 20} {b = blockSectors * freeCount d} (omega (arith, word20, freeCount-at, v .free-sum)))
+  eleven-right = cond-true _ _ (eq-true {a = at16 (d 0) 20} {b = freeSectors (freeCount d)} (omega (arith, word20, freeCount-at, v .free-sum)))
 
   pub judged-none : judged d ≡ none
   unfolding judged orElse
@@ -485,19 +485,19 @@ module _ (m : Inner) (v : Inv m) where
       go none e t = true≢false (named name (m .slots (findM m name))) t (ap (named name) e)
       go (some x) e t = (x, e, sym (ap (named name) e) ∙ t, pos x e)
 
-  pub list-is : (buf : List ℕ) → listDisk d buf ≡ listM m buf
-  unfolding listDisk listM unless
-  list-is buf = rw judged-none (ap (λ (xs : List ℕ). deliver xs buf) entries-is)
+  pub list-is : (buf : List ℕ) → listSound d buf ≡ listM m buf
+  unfolding listSound listM
+  list-is buf = ap (λ (xs : List ℕ). deliver xs buf) entries-is
 
   data-is : (k : ℕ) (x : NamedFile) → 0 < k → k ≤ m .peak → m .slots k ≡ some x → dataOf d k ≡ heldData (m .slots k)
   unfolding heldData
   data-is zero x p h e = absurd (omega arith)
   data-is (suc k) x p h e = readAt-is k x h e ∙ sym (ap heldData e)
 
-  pub read-is : (name buf : List ℕ) → readDisk d name buf ≡ readM m name buf
-  unfolding readDisk readM unless
+  pub read-is : (name buf : List ℕ) → readSound d name buf ≡ readM m name buf
+  unfolding readSound readM
   read-is name buf =
-      rw (judged-none, findName-is name, dirEnd-is)
+      rw (findName-is name, dirEnd-is)
       (ap (λ (o : Outcome). cond (nameRight name) o (kept buf (refusal 12)))
       (by-order (findM m name) (suc (m .peak))
       (λ h.

@@ -11,7 +11,7 @@ use Rattle.laws.specs.Numbers.{at32, high4-at}
 use Rattle.laws.specs.Search.{lowest-only}
 use Rattle.laws.specs.Tests.{true≢false}
 use Rattle.laws.specs.Words.{bigEndian, highByte}
-use Rattle.sector_rules.specs.Geometry.{blockSectors, blocks}
+use Rattle.sector_rules.specs.Geometry.{blocks}
 use Rattle.file_rules.specs.declared.Record.{Record}
 use Rattle.file_rules.specs.declared.Record.the-variants.{Free, System, File, Other}
 use Rattle.file_rules.specs.Arguments.{FormatArguments}
@@ -22,7 +22,7 @@ use Rattle.file_rules.specs.Laws.InnerModel.Invariant.{Owned}
 use Rattle.file_rules.specs.Laws.Base.Whole.{Valid, With, freeCount-is, partBlock-is, write-head, write-block, with-same}
 use Rattle.file_rules.specs.Map.{isSystem, isPart, freeCount, partBlock}
 use Rattle.file_rules.specs.Model.{HeldFile, slotOf, dirByte, content, wrap}
-use Rattle.file_rules.specs.Sizes.{blockBytes, slotBytes, blockSlots}
+use Rattle.file_rules.specs.Sizes.{blockBytes, slotBytes, blockSlots, freeSectors, wholeBlocks, bytesOver}
 use Rattle.file_rules.specs.Written.{fixedByte, headerByte, setSlot, setWord, setFree, setEnd, stepUpdate}
 
 -- ---- the header's words
@@ -32,8 +32,8 @@ module _ (args : FormatArguments) where
   unfolding headerByte
   set-free-word u w w′ e o =
       let X : ℕ → ℕ = patch (fixedByte args) 16 4 (highByte 4 u) in
-      let a : ℕ → ℕ = highByte 2 (e * slotBytes / blockBytes) in
-      let b : ℕ → ℕ = highByte 2 (e * slotBytes % blockBytes) in
+      let a : ℕ → ℕ = highByte 2 (wholeBlocks e) in
+      let b : ℕ → ℕ = highByte 2 (bytesOver e) in
       let Y : ℕ → ℕ = patch X 20 2 (highByte 2 w) in
       patch-swap (patch Y 34 2 a) 36 2 b 20 2 (highByte 2 w′) o (omega arith)
       ∙ patch-cong (patch (patch Y 34 2 a) 20 2 (highByte 2 w′)) (patch (patch X 20 2 (highByte 2 w′)) 34 2 a) 36 2 b o
@@ -44,8 +44,8 @@ module _ (args : FormatArguments) where
   unfolding headerByte
   set-updates u u′ w e o =
       let F : ℕ → ℕ = fixedByte args in
-      let a : ℕ → ℕ = highByte 2 (e * slotBytes / blockBytes) in
-      let b : ℕ → ℕ = highByte 2 (e * slotBytes % blockBytes) in
+      let a : ℕ → ℕ = highByte 2 (wholeBlocks e) in
+      let b : ℕ → ℕ = highByte 2 (bytesOver e) in
       let X : ℕ → ℕ = patch F 16 4 (highByte 4 u) in
       let X′ : ℕ → ℕ = patch F 16 4 (highByte 4 u′) in
       let Y : ℕ → ℕ = patch X 20 2 (highByte 2 w) in
@@ -58,14 +58,14 @@ module _ (args : FormatArguments) where
       ∙ patch-cong (patch X 16 4 (highByte 4 u′)) X′ 20 2 (highByte 2 w) o (patch-twice F 16 4 (highByte 4 u) (highByte 4 u′) o)))
 
   pub set-end : (u w e e′ o : ℕ)
-      → patch (patch (headerByte args u w e) 34 2 (highByte 2 (e′ * slotBytes / blockBytes))) 36 2 (highByte 2 (e′ * slotBytes % blockBytes)) o ≡ headerByte args u w e′ o
+      → patch (patch (headerByte args u w e) 34 2 (highByte 2 (wholeBlocks e′))) 36 2 (highByte 2 (bytesOver e′)) o ≡ headerByte args u w e′ o
   unfolding headerByte
   set-end u w e e′ o =
       let Y : ℕ → ℕ = patch (patch (fixedByte args) 16 4 (highByte 4 u)) 20 2 (highByte 2 w) in
-      let a : ℕ → ℕ = highByte 2 (e * slotBytes / blockBytes) in
-      let b : ℕ → ℕ = highByte 2 (e * slotBytes % blockBytes) in
-      let a′ : ℕ → ℕ = highByte 2 (e′ * slotBytes / blockBytes) in
-      let b′ : ℕ → ℕ = highByte 2 (e′ * slotBytes % blockBytes) in
+      let a : ℕ → ℕ = highByte 2 (wholeBlocks e) in
+      let b : ℕ → ℕ = highByte 2 (bytesOver e) in
+      let a′ : ℕ → ℕ = highByte 2 (wholeBlocks e′) in
+      let b′ : ℕ → ℕ = highByte 2 (bytesOver e′) in
       patch-cong (patch (patch (patch Y 34 2 a) 36 2 b) 34 2 a′) (patch (patch Y 34 2 a′) 36 2 b) 36 2 b′ o
       (patch-swap (patch Y 34 2 a) 36 2 b 34 2 a′ o (omega arith)
       ∙ patch-cong (patch (patch Y 34 2 a) 34 2 a′) (patch Y 34 2 a′) 36 2 b o (patch-twice Y 34 2 a a′ o))
@@ -86,23 +86,23 @@ wrap-bytes u (suc (suc (suc i))) h = let e : 8 * (4 - (suc (suc (suc i)) + 1)) �
 
 module _ (args : FormatArguments) (u w e : ℕ) (owner : ℕ → Record) (c : Record → ℕ → ℕ) (d : Disk)
     (p : With d (headerByte args u w e) owner c) where
-  pub free-step : ((b : ℕ) → b < blocks → Valid (owner b)) → With (setFree d) (headerByte args u (blockSectors * count blocks (freeOf owner)) e) owner c
+  pub free-step : ((b : ℕ) → b < blocks → Valid (owner b)) → With (setFree d) (headerByte args u (freeSectors (count blocks (freeOf owner))) e) owner c
   unfolding setFree setWord freeOf
   free-step v =
       let n : freeCount d ≡ count blocks (freeOf owner) = freeCount-is d (headerByte args u w e) owner c p v in
-      subst (λ (k : ℕ). With (upd d 0 (patch (d 0) 20 2 (highByte 2 (blockSectors * k)))) (headerByte args u (blockSectors * count blocks (freeOf owner)) e) owner c) (sym n)
-      (with-same (upd d 0 (patch (d 0) 20 2 (highByte 2 (blockSectors * count blocks (freeOf owner)))))
-      (patch (headerByte args u w e) 20 2 (highByte 2 (blockSectors * count blocks (freeOf owner)))) owner c
-      (write-head d (headerByte args u w e) owner c p 20 2 (highByte 2 (blockSectors * count blocks (freeOf owner))) (omega arith))
-      (headerByte args u (blockSectors * count blocks (freeOf owner)) e) owner c
-      (λ o k. set-free-word args u w (blockSectors * count blocks (freeOf owner)) e o) (λ b k. refl) (λ b o i j k. refl))
+      subst (λ (k : ℕ). With (upd d 0 (patch (d 0) 20 2 (highByte 2 (freeSectors k)))) (headerByte args u (freeSectors (count blocks (freeOf owner))) e) owner c) (sym n)
+      (with-same (upd d 0 (patch (d 0) 20 2 (highByte 2 (freeSectors (count blocks (freeOf owner))))))
+      (patch (headerByte args u w e) 20 2 (highByte 2 (freeSectors (count blocks (freeOf owner))))) owner c
+      (write-head d (headerByte args u w e) owner c p 20 2 (highByte 2 (freeSectors (count blocks (freeOf owner)))) (omega arith))
+      (headerByte args u (freeSectors (count blocks (freeOf owner))) e) owner c
+      (λ o k. set-free-word args u w (freeSectors (count blocks (freeOf owner))) e o) (λ b k. refl) (λ b o i j k. refl))
 
   pub end-step : (e′ : ℕ) → With (setEnd d e′) (headerByte args u w e′) owner c
   unfolding setEnd setWord
   end-step e′ =
       let h : ℕ → ℕ = headerByte args u w e in
-      let a : ℕ → ℕ = highByte 2 (e′ * slotBytes / blockBytes) in
-      let b : ℕ → ℕ = highByte 2 (e′ * slotBytes % blockBytes) in
+      let a : ℕ → ℕ = highByte 2 (wholeBlocks e′) in
+      let b : ℕ → ℕ = highByte 2 (bytesOver e′) in
       let d₁ : Disk = upd d 0 (patch (d 0) 34 2 a) in
       with-same (upd d₁ 0 (patch (d₁ 0) 36 2 b)) (patch (patch h 34 2 a) 36 2 b) owner c
       (write-head d₁ (patch h 34 2 a) owner c (write-head d h owner c p 34 2 a (omega arith)) 36 2 b (omega arith))
@@ -124,9 +124,9 @@ module _ (args : FormatArguments) (u w e : ℕ) (owner : ℕ → Record) (c : Re
 
 pub finish : (args : FormatArguments) (u w e : ℕ) (owner : ℕ → Record) (c : Record → ℕ → ℕ) (d : Disk)
     → With d (headerByte args u w e) owner c → ((b : ℕ) → b < blocks → Valid (owner b)) → u < 4294967296
-    → With (stepUpdate (setFree d)) (headerByte args (wrap (u + 1)) (blockSectors * count blocks (freeOf owner)) e) owner c
+    → With (stepUpdate (setFree d)) (headerByte args (wrap (u + 1)) (freeSectors (count blocks (freeOf owner))) e) owner c
 finish args u w e owner c d p v small =
-    update-step args u (blockSectors * count blocks (freeOf owner)) e owner c (setFree d) (free-step args u w e owner c d p v) small
+    update-step args u (freeSectors (count blocks (freeOf owner))) e owner c (setFree d) (free-step args u w e owner c d p v) small
 
 -- ---- a slot is written
 

@@ -18,7 +18,7 @@ use Rattle.laws.specs.Order.{by-order}
 use Rattle.laws.specs.Search.{lowest-le, lowest-hit, lowest-low}
 use Rattle.laws.specs.Tests.{lt-true, lt-false, eq-true, eq-false, true-lt, true-le, true≢false, not-was, by-equal, cond-true, cond-false, and-true, and-false-left, and-false-right, leb-iff, isSome}
 use Rattle.laws.specs.Truth.{and-left, and-right, by-test}
-use Rattle.sector_rules.specs.Geometry.{blockSectors, blocks}
+use Rattle.sector_rules.specs.Geometry.{blocks}
 use Rattle.file_rules.specs.declared.Record.{Record}
 use Rattle.file_rules.specs.declared.Record.the-variants.{Free, System, File, Other}
 use Rattle.file_rules.specs.Calls.{opensBlock, growDir, endAfter, addAt, needed}
@@ -33,7 +33,7 @@ use Rattle.file_rules.specs.Laws.InnerModel.Owners.{owned-cong, give-own
 use Rattle.file_rules.specs.Laws.Base.Whole.{With, with-is, with-only, free-is, give-block, with-same, part-out}
 use Rattle.file_rules.specs.Map.{isFree, freeAt, freeCount}
 use Rattle.file_rules.specs.Model.{NamedFile, HeldFile, entryFrom, heldBlocks, dirBlocks, usable, freeWord, slotOf, bytesOf, dirByte, content, named, wrap}
-use Rattle.file_rules.specs.Sizes.{blockBytes, slotBytes, blockSlots, nameMost}
+use Rattle.file_rules.specs.Sizes.{blockBytes, slotBytes, blockSlots, nameMost, freeSectors}
 use Rattle.file_rules.specs.Written.{headerByte, storedByte, part, blocksFor, zeros, setBlock, setRecord, setSlot, setEnd, giveBlocks}
 
 -- ---- blocks placed on the disk are given in the model
@@ -177,7 +177,7 @@ module _ (m : Inner) (v : Inv m) where
       (λ q. f (lt-true {a = suc (m .peak / blockSlots)} {b = suc (peakAfter m / blockSlots)} (omega arith)) e (omega arith) (omega arith))
       (λ q. g (lt-false {a = suc (m .peak / blockSlots)} {b = suc (peakAfter m / blockSlots)} (omega arith)) (omega arith)))
 
-  pub room-is : (x : NamedFile) → roomFor m x ≡ leb (needed (render m) k (x .content)) (freeCount (render m))
+  pub room-is : (x : NamedFile) → roomFor m x ≡ leb (needed (render m) k (length (x .content))) (freeCount (render m))
   unfolding roomFor needed
   room-is x =
       let n : ℕ = blocksFor (length (x .content)) in
@@ -484,7 +484,7 @@ module _ (m : Inner) (v : Inv m) (x : NamedFile) (right : (1 ≤ length (x .name
   pub add-image : addAt (render m) kk (entryFrom x) (x .content) ≡ render m′
   unfolding addAt render addAtM header
   add-image =
-      let w : blockSectors * count blocks (freeOf (m′ .owner)) ≡ freeWord (peakAfter m) (fileBlocks m′) = unfold freeWord in omega (arith, add-inv .free-sum) in
+      let w : freeSectors (count blocks (freeOf (m′ .owner))) ≡ freeWord (peakAfter m) (fileBlocks m′) = unfold freeWord in omega (arith, add-inv .free-sum) in
       let p = finish (m .arguments) (m .updates) (freeWord (m .peak) (fileBlocks m)) (suc (peakAfter m)) (m′ .owner) (content L′ L′) d₄ ended (owned₂ .own-valid) (v .updates-fit) in
       with-only (header m′) (m′ .owner) (content L′ L′) (addAt (render m) kk (entryFrom x) (x .content))
       (subst (λ (y : ℕ). With (addAt (render m) kk (entryFrom x) (x .content))

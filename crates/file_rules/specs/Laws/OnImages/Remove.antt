@@ -8,7 +8,7 @@ use native.Mathlib.Omega.{arith}
 use Rattle.laws.specs.Change.{upd, upd-same, upd-other}
 use Rattle.laws.specs.Count.{count, sum, count-drop, sum-change}
 use Rattle.laws.specs.Tests.{true≢false, by-equal, isSome}
-use Rattle.sector_rules.specs.Geometry.{blockSectors, blocks}
+use Rattle.sector_rules.specs.Geometry.{blocks}
 use Rattle.file_rules.specs.declared.Record.{Record}
 use Rattle.file_rules.specs.declared.Record.the-variants.{Free, System, File, Other}
 use Rattle.file_rules.specs.Calls.{removeAt}
@@ -19,7 +19,7 @@ use Rattle.file_rules.specs.Laws.InnerModel.Last.{finish, slot-step}
 use Rattle.file_rules.specs.Laws.InnerModel.Owners.{unowned-file, freed-count, freed-owned}
 use Rattle.file_rules.specs.Laws.Base.Whole.{With, with-is, with-only, with-same, unowned, free-all}
 use Rattle.file_rules.specs.Model.{NamedFile, HeldFile, heldBlocks, dirBlocks, freeWord, slotOf, bytesOf, content, wrap}
-use Rattle.file_rules.specs.Sizes.{blockSlots}
+use Rattle.file_rules.specs.Sizes.{blockSlots, freeSectors}
 use Rattle.file_rules.specs.Written.{headerByte, part, zeros, setSlot, freeBlocks}
 
 -- a slot that is not the one written
@@ -120,7 +120,7 @@ module _ (m : Inner) (v : Inv m) (k : ℕ) (pos : 0 < k) (low : k ≤ m .peak) w
       slot-step d₁ h own′ (partsOf m′) owned (m .slots) (m .slots) p₁ k none zeros (λ i l. unfold zeros slotOf in refl) in-dir in
       let p₃ : With d₂ h own′ (content L′ L′) =
       with-same d₂ h own′ (content L′ (m .slots)) p₂ h own′ (content L′ L′) (λ o l. refl) (λ b l. refl) (λ b o i j l. file-slots b o j) in
-      let w : blockSectors * count blocks (freeOf own′) ≡ freeWord (m .peak) (fileBlocks m′) = unfold freeWord in omega (arith, remove-inv .free-sum) in
+      let w : freeSectors (count blocks (freeOf own′)) ≡ freeWord (m .peak) (fileBlocks m′) = unfold freeWord in omega (arith, remove-inv .free-sum) in
       let p₄ = finish (m .arguments) (m .updates) (freeWord (m .peak) (fileBlocks m)) (suc (m .peak)) own′ (content L′ L′) d₂ p₃ (owned .own-valid) (v .updates-fit) in
       with-only (header m′) own′ (content L′ L′) (removeAt (render m) k)
       (subst (λ (x : ℕ). With (removeAt (render m) k) (headerByte (m .arguments) (wrap (m .updates + 1)) x (suc (m .peak))) own′ (content L′ L′)) w p₄)

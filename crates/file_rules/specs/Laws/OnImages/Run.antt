@@ -12,17 +12,20 @@ use Rattle.laws.specs.Count.{count, sum}
 use Rattle.laws.specs.Order.{by-order}
 use Rattle.laws.specs.Tests.{lt-true, lt-false, eq-true, true-le, true≢false, cond-true, cond-false, isSome}
 use Rattle.laws.specs.Truth.{by-test}
-use Rattle.sector_rules.specs.Geometry.{blockSectors, blocks}
+use Rattle.sector_rules.specs.Geometry.{blocks}
 use Rattle.sector_rules.specs.Replies.{reply, done, refusal}
+use Rattle.sector_rules.specs.declared.Reply.{Reply}
 use Rattle.file_rules.specs.declared.Record.{Record}
 use Rattle.file_rules.specs.declared.Record.the-variants.{Free, System, File, Other}
-use Rattle.file_rules.specs.Calls.{Outcome, Changed, Written, kept, refused, unless, imageRight, freshOwner, freshHeader, formatDisk, listDisk, list, readDisk, read, addDisk, imaged, add, removeDisk, remove}
+use Rattle.file_rules.specs.Calls.{Outcome, Changed, Written, kept, refused, onSound, freshOwner, freshHeader, formatDisk, listSound, list, readSound, read, addSound, imaged, add, removeSound, remove}
+use Rattle.file_rules.specs.Check.{judged}
 use Rattle.file_rules.specs.Directory.{nameEq, nameRight}
 use Rattle.file_rules.specs.Arguments.{FormatArguments}
 use Rattle.file_rules.specs.Disk.{Disk, diskOf, imageOf}
 use Rattle.file_rules.specs.Histories.{Call, imageOut, imageStep, imageOuts, imageEnd, toAdd, toRemove, toList, toRead}
 use Rattle.file_rules.specs.Laws.OnImages.Add.{room-is, add-inv, add-image}
 use Rattle.file_rules.specs.Laws.Base.Disk.{length-image, disk-image}
+use Rattle.file_rules.specs.Laws.Base.OnSound.{sound-passed}
 use Rattle.file_rules.specs.Laws.InnerModel.Facts.{dirEnd-is, findName-is, vacantSlot-is, judged-none, found-slot, list-is, read-is}
 use Rattle.file_rules.specs.Laws.InnerModel.Inner.{Inner, fileBlocks, header, render, emptySlots, formatM, findM, emptySlot, freeOf, ChangedM, refusedM, removeAtM, removeM, addAtM, roomFor, addM, stepM, outM, outsM, endM}
 use Rattle.file_rules.specs.Laws.InnerModel.Invariant.{partsOf, Inv}
@@ -106,15 +109,15 @@ disked : ChangedM → Changed
 disked c = record { answer = c .answer; disk = render (c .model) }
 
 module _ (m : Inner) (v : Inv m) where
-  remove-is : (name : List ℕ) → (removeDisk (render m) name ≡ disked (removeM m name)) × Inv (removeM m name .model)
-  unfolding removeDisk removeM unless refused refusedM disked
+  remove-is : (name : List ℕ) → (removeSound (render m) name ≡ disked (removeM m name)) × Inv (removeM m name .model)
+  unfolding removeSound removeM refused refusedM disked
   remove-is name =
       by-test (nameRight name)
       (λ t. by-order (findM m name) (suc (m .peak))
       (λ h.
       let w : (x : NamedFile) × (m .slots (findM m name) ≡ some x) × (nameEq (x .name) name ≡ true) × (0 < findM m name) = found-slot m v name h in
       let e : removeM m name ≡ record { answer = done; model = removeAtM m (findM m name) } = cond-true _ _ t ∙ cond-true _ _ (lt-true h) in (
-        rw (judged-none m v, findName-is m v name, dirEnd-is m v)
+        rw (findName-is m v name, dirEnd-is m v)
             (cond-true _ _ t ∙ cond-true _ _ (lt-true h)
             ∙ ap (λ (d : Disk). record { answer = done; disk = d }) (remove-image m v (findM m name) (w .3) (omega arith))
             ∙ ap disked (sym e)),
@@ -122,24 +125,24 @@ module _ (m : Inner) (v : Inv m) where
       ))
       (λ h.
       let e : removeM m name ≡ refusedM m (refusal 14) = cond-true _ _ t ∙ cond-false _ _ (lt-false h) in (
-        rw (judged-none m v, findName-is m v name, dirEnd-is m v)
+        rw (findName-is m v name, dirEnd-is m v)
             (cond-true _ _ t ∙ cond-false _ _ (lt-false h) ∙ ap disked (sym e)),
         subst (λ (c : ChangedM). Inv (c .model)) (sym e) v,
       )))
       (λ t.
       let e : removeM m name ≡ refusedM m (refusal 12) = cond-false _ _ t in (
-        rw (judged-none m v) (cond-false _ _ t ∙ ap disked (sym e)),
+        cond-false _ _ t ∙ ap disked (sym e),
         subst (λ (c : ChangedM). Inv (c .model)) (sym e) v,
       ))
 
-  add-is : (x : NamedFile) → (addDisk (render m) (x .name) (x .date) (x .content) ≡ disked (addM m x)) × Inv (addM m x .model)
-  unfolding addDisk addM unless refused refusedM disked nameRight roomFor
+  add-is : (x : NamedFile) → (addSound (render m) (x .name) (x .date) (x .content) ≡ disked (addM m x)) × Inv (addM m x .model)
+  unfolding addSound addM refused refusedM disked nameRight roomFor
   add-is x =
       by-test (nameRight (x .name))
       (λ t. by-order (findM m (x .name)) (suc (m .peak))
       (λ h.
       let e : addM m x ≡ refusedM m (reply 13 (findM m (x .name)) 0 0) = cond-true _ _ t ∙ cond-true _ _ (lt-true h) in (
-        rw (judged-none m v, findName-is m v (x .name), dirEnd-is m v) (cond-true _ _ t ∙ cond-true _ _ (lt-true h) ∙ ap disked (sym e)),
+        rw (findName-is m v (x .name), dirEnd-is m v) (cond-true _ _ t ∙ cond-true _ _ (lt-true h) ∙ ap disked (sym e)),
         subst (λ (c : ChangedM). Inv (c .model)) (sym e) v,
       ))
       (λ h. by-test (roomFor m x)
@@ -147,7 +150,7 @@ module _ (m : Inner) (v : Inv m) where
       let right : (1 ≤ length (x .name)) × (length (x .name) ≤ nameMost) = name-bounds (x .name) t in
       let e : addM m x ≡ record { answer = done; model = addAtM m (emptySlot m) x } =
       cond-true _ _ t ∙ cond-false _ _ (lt-false h) ∙ cond-true _ _ r in (
-        rw (judged-none m v, findName-is m v (x .name), dirEnd-is m v, vacantSlot-is m v)
+        rw (findName-is m v (x .name), dirEnd-is m v, vacantSlot-is m v)
             (cond-true _ _ t ∙ cond-false _ _ (lt-false h) ∙ cond-true _ _ (sym (room-is m v x) ∙ r)
             ∙ ap (λ (d : Disk). record { answer = done; disk = d }) (add-image m v x right h (true-le r))
             ∙ ap disked (sym e)),
@@ -155,13 +158,13 @@ module _ (m : Inner) (v : Inv m) where
       ))
       (λ r.
       let e : addM m x ≡ refusedM m (refusal 15) = cond-true _ _ t ∙ cond-false _ _ (lt-false h) ∙ cond-false _ _ r in (
-        rw (judged-none m v, findName-is m v (x .name), dirEnd-is m v, vacantSlot-is m v)
+        rw (findName-is m v (x .name), dirEnd-is m v, vacantSlot-is m v)
             (cond-true _ _ t ∙ cond-false _ _ (lt-false h) ∙ cond-false _ _ (sym (room-is m v x) ∙ r) ∙ ap disked (sym e)),
         subst (λ (c : ChangedM). Inv (c .model)) (sym e) v,
       ))))
       (λ t.
       let e : addM m x ≡ refusedM m (refusal 12) = cond-false _ _ t in (
-        rw (judged-none m v) (cond-false _ _ t ∙ ap disked (sym e)),
+        cond-false _ _ t ∙ ap disked (sym e),
         subst (λ (c : ChangedM). Inv (c .model)) (sym e) v,
       ))
 
@@ -170,32 +173,32 @@ module _ (m : Inner) (v : Inv m) where
   abbrev img : List ℕ
   img = imageOf (render m)
 
-  pub img-right : imageRight img ≡ true
-  unfolding imageRight
-  img-right = eq-true (length-image (render m))
-
   pub img-disk : diskOf img ≡ render m
   unfolding render
   img-disk =
       disk-image (render m) (with-is (header m) (m .owner) (content (m .slots) (m .slots)) .far)
       (with-is (header m) (m .owner) (content (m .slots) (m .slots)) .out)
 
+  -- it is sound, so that a call acts on the model's disk
+  pub img-sound : {A : Type 0} (refuse : Reply → A) (act : Disk → A) → onSound img refuse act ≡ act (render m)
+  img-sound refuse act = sound-passed img refuse act (length-image (render m)) (ap judged img-disk ∙ judged-none m v) ∙ ap act img-disk
+
   add-image-is : (x : NamedFile) → add img (x .name) (x .date) (x .content) ≡ record { answer = addM m x .answer; image = imageOf (render (addM m x .model)) }
   unfolding add imaged disked
   add-image-is x =
-      cond-true _ _ img-right ∙ ap (λ (d : Disk). imaged (addDisk d (x .name) (x .date) (x .content))) img-disk ∙ ap imaged (add-is x .0)
+      img-sound _ _ ∙ ap imaged (add-is x .0)
 
   remove-image-is : (name : List ℕ) → remove img name ≡ record { answer = removeM m name .answer; image = imageOf (render (removeM m name .model)) }
   unfolding remove imaged disked
   remove-image-is name =
-      cond-true _ _ img-right ∙ ap (λ (d : Disk). imaged (removeDisk d name)) img-disk ∙ ap imaged (remove-is name .0)
+      img-sound _ _ ∙ ap imaged (remove-is name .0)
 
   pub out-is : (c : Call) → imageOut img c ≡ outM m c
   unfolding imageOut outM list read
   out-is (toAdd x) = ap (λ (w : Written). kept [] (w .answer)) (add-image-is x)
   out-is (toRemove name) = ap (λ (w : Written). kept [] (w .answer)) (remove-image-is name)
-  out-is (toList buf) = cond-true _ _ img-right ∙ ap (λ (d : Disk). listDisk d buf) img-disk ∙ list-is m v buf
-  out-is (toRead name buf) = cond-true _ _ img-right ∙ ap (λ (d : Disk). readDisk d name buf) img-disk ∙ read-is m v name buf
+  out-is (toList buf) = img-sound _ _ ∙ list-is m v buf
+  out-is (toRead name buf) = img-sound _ _ ∙ read-is m v name buf
 
   pub step-is : (c : Call) → imageStep img c ≡ imageOf (render (stepM m c))
   unfolding imageStep stepM

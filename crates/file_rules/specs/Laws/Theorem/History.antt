@@ -16,7 +16,7 @@ use Rattle.laws.specs.Tests.{lt-true, lt-false, le-true, eq-true, true≢false,
 use Rattle.laws.specs.Truth.{by-test}
 use Rattle.sector_rules.specs.Geometry.{imageBytes}
 use Rattle.sector_rules.specs.Replies.{done, refusal}
-use Rattle.file_rules.specs.Calls.{Outcome, Written, kept, unless, imageRight, freshOwner, formatDisk, format, check, deliver, read, add}
+use Rattle.file_rules.specs.Calls.{Outcome, Written, kept, imageRight, freshOwner, formatDisk, format, check, deliver, read, add}
 use Rattle.file_rules.specs.Check.{judged}
 use Rattle.file_rules.specs.Directory.{nameEq, nameRight, held, dirEnd}
 use Rattle.file_rules.specs.Arguments.{FormatArguments}
@@ -33,7 +33,7 @@ use Rattle.file_rules.specs.Laws.InModel.Listed.{withOwner, Listed}
 use Rattle.file_rules.specs.Laws.FilesLeft.Present.{Fills, none-some, fills-size, fills-named, fills-not-named, fills-present, present-fills}
 use Rattle.file_rules.specs.Laws.Base.Names.{bounds-name}
 use Rattle.file_rules.specs.Laws.Base.Results.{result-is}
-use Rattle.file_rules.specs.Laws.OnImages.Run.{format-is, format-inv, img-right, img-disk, out-is, runs, end-inv}
+use Rattle.file_rules.specs.Laws.OnImages.Run.{format-is, format-inv, img-disk, img-sound, out-is, runs, end-inv}
 use Rattle.file_rules.specs.Laws.FilesLeft.Zero.{by-slot, filled-below, slot-entry, zero-outside}
 use Rattle.file_rules.specs.Model.{NamedFile, HeldFile, Model, dirBlocks, usable, freeWord, modelDisk, modelFormat, named, heldData}
 use Rattle.file_rules.specs.Sizes.{nameMost, titleMost}
@@ -224,7 +224,7 @@ history old args calls long short =
 -- after every history the check passes
 pub history-check : (old : List ℕ) (args : FormatArguments) (calls : List Call) → length old ≡ imageBytes → length (args .title) ≤ titleMost
     → check (imageEnd (formatted old args) calls) ≡ done
-unfolding check unless
+unfolding check
 history-check old args calls long short =
     let n : Inner = endM (formatM args) calls in
     let w : Inv n = end-inv calls (formatM args) (format-inv args) in
@@ -232,5 +232,4 @@ history-check old args calls long short =
     let e : imageEnd (formatted old args) calls ≡ imageOf (render n) =
     ap (λ (l : List ℕ). imageEnd l calls) (ap (λ (x : Written). x .image) f ∙ ap imageOf (format-is args))
     ∙ runs calls (formatM args) (format-inv args) .1 in
-    let none-found : judged (diskOf (imageOf (render n))) ≡ none = ap judged (img-disk n w) ∙ judged-none n w in
-    ap check e ∙ cond-true _ _ (img-right n w) ∙ rw none-found
+    ap check e ∙ img-sound n w _ _

@@ -3,20 +3,20 @@
 use mathlib.Core.Path.{_≡_, refl, sym, ap, _∙_, subst}
 use mathlib.Core.Bool.{Bool, true, false, cond}
 use mathlib.Core.List.{List}
-use mathlib.Core.Option.{Option, none, some}
 use Prim.Native.Nat.{ℕ}
 use lib.Dec.{leb, ltb}
 use lib.ListN.{length}
-use Rattle.laws.specs.Tests.{true-eq, cond-true, cond-false}
+use Rattle.laws.specs.Tests.{cond-true, cond-false}
 use Rattle.laws.specs.Truth.{by-test}
+use Rattle.sector_rules.specs.Geometry.{imageBytes}
 use Rattle.sector_rules.specs.Replies.{done, refusal}
 use Rattle.sector_rules.specs.declared.Reply.{Reply}
-use Rattle.file_rules.specs.Calls.{Outcome, Changed, Written, kept, refused, unwritten, unless, imageRight, wrongLength, format, deliver, listDisk, list, readDisk, read, needed, addDisk, imaged, add, removeDisk, remove}
-use Rattle.file_rules.specs.Check.{judged}
+use Rattle.file_rules.specs.Calls.{Outcome, Changed, Written, kept, refused, unwritten, imageRight, wrongLength, format, deliver, listSound, list, readSound, read, needed, addSound, imaged, add, removeSound, remove}
 use Rattle.file_rules.specs.Directory.{nameRight, dirEnd, findName, vacantSlot}
 use Rattle.file_rules.specs.Arguments.{FormatArguments}
 use Rattle.file_rules.specs.Disk.{Disk, diskOf, imageOf}
 use Rattle.file_rules.specs.Laws.Base.Disk.{image-disk}
+use Rattle.file_rules.specs.Laws.Base.OnSound.{by-sound}
 use Rattle.file_rules.specs.Map.{freeCount}
 use Rattle.file_rules.specs.Model.{content}
 use Rattle.file_rules.specs.Sizes.{titleMost}
@@ -40,27 +40,20 @@ by-cond : (d : Disk) (b : Bool) (x y : Changed) → KeepsDisk d x → KeepsDisk 
 by-cond d true x y p q = p
 by-cond d false x y p q = q
 
-by-judged : (d : Disk) (o : Option Reply) (x : Changed) → KeepsDisk d x → KeepsDisk d (unless o (refused d) x)
-unfolding unless
-by-judged d none x p = p
-by-judged d (some r) x p = refused-keeps d r
-
-add-keeps : (d : Disk) (name : List ℕ) (date : ℕ) (content : List ℕ) → KeepsDisk d (addDisk d name date content)
-unfolding addDisk
+add-keeps : (d : Disk) (name : List ℕ) (date : ℕ) (content : List ℕ) → KeepsDisk d (addSound d name date content)
+unfolding addSound
 add-keeps d name date content =
-    by-judged d (judged d) _
-    (by-cond d (nameRight name) _ _
+    by-cond d (nameRight name) _ _
     (by-cond d (ltb (findName d name) (dirEnd d)) _ _ (refused-keeps d _)
-    (by-cond d (leb (needed d (vacantSlot d) content) (freeCount d)) _ _ (done-keeps d _) (refused-keeps d _)))
-    (refused-keeps d _))
+    (by-cond d (leb (needed d (vacantSlot d) (length content)) (freeCount d)) _ _ (done-keeps d _) (refused-keeps d _)))
+    (refused-keeps d _)
 
-remove-keeps : (d : Disk) (name : List ℕ) → KeepsDisk d (removeDisk d name)
-unfolding removeDisk
+remove-keeps : (d : Disk) (name : List ℕ) → KeepsDisk d (removeSound d name)
+unfolding removeSound
 remove-keeps d name =
-    by-judged d (judged d) _
-    (by-cond d (nameRight name) _ _
+    by-cond d (nameRight name) _ _
     (by-cond d (ltb (findName d name) (dirEnd d)) _ _ (done-keeps d _) (refused-keeps d _))
-    (refused-keeps d _))
+    (refused-keeps d _)
 
 -- ---- on an image
 
@@ -71,34 +64,29 @@ unwritten-keeps : (image : List ℕ) (r : Reply) → KeepsImage image (unwritten
 unfolding unwritten
 unwritten-keeps image r n = refl
 
-imaged-keeps : (image : List ℕ) → imageRight image ≡ true → (c : Changed) → KeepsDisk (diskOf image) c → KeepsImage image (imaged c)
-unfolding imaged imageRight
-imaged-keeps image t c k n = ap imageOf (k n) ∙ image-disk image (true-eq t)
-
-by-length : (image : List ℕ) (x y : Written) → (imageRight image ≡ true → KeepsImage image x) → KeepsImage image y → KeepsImage image (cond (imageRight image) x y)
-by-length image x y p q =
-    by-test (imageRight image)
-    (λ t. subst (KeepsImage image) (sym (cond-true x y t)) (p t))
-    (λ t. subst (KeepsImage image) (sym (cond-false x y t)) q)
+imaged-keeps : (image : List ℕ) → length image ≡ imageBytes → (c : Changed) → KeepsDisk (diskOf image) c → KeepsImage image (imaged c)
+unfolding imaged
+imaged-keeps image long c k n = ap imageOf (k n) ∙ image-disk image long
 
 pub add-refused : (image name : List ℕ) (date : ℕ) (content : List ℕ) → KeepsImage image (add image name date content)
 unfolding add
 add-refused image name date content =
-    by-length image _ _ (λ t. imaged-keeps image t _ (add-keeps (diskOf image) name date content)) (unwritten-keeps image wrongLength)
+    by-sound image _ _ (KeepsImage image) (unwritten-keeps image) (λ long e. imaged-keeps image long _ (add-keeps (diskOf image) name date content))
 
 pub remove-refused : (image name : List ℕ) → KeepsImage image (remove image name)
 unfolding remove
 remove-refused image name =
-    by-length image _ _ (λ t. imaged-keeps image t _ (remove-keeps (diskOf image) name)) (unwritten-keeps image wrongLength)
+    by-sound image _ _ (KeepsImage image) (unwritten-keeps image) (λ long e. imaged-keeps image long _ (remove-keeps (diskOf image) name))
 
 pub format-refused : (image : List ℕ) (args : FormatArguments) → KeepsImage image (format image args)
 unfolding format
 format-refused image args =
-    by-length image _ _
-    (λ t. by-test (leb (length (args .title)) titleMost)
+    by-test (imageRight image)
+    (λ t. subst (KeepsImage image) (sym (cond-true _ _ t))
+    (by-test (leb (length (args .title)) titleMost)
     (λ s. subst (KeepsImage image) (sym (cond-true _ _ s)) (λ n. absurd (n refl)))
-    (λ s. subst (KeepsImage image) (sym (cond-false _ _ s)) (unwritten-keeps image (refusal 12))))
-    (unwritten-keeps image wrongLength)
+    (λ s. subst (KeepsImage image) (sym (cond-false _ _ s)) (unwritten-keeps image (refusal 12)))))
+    (λ t. subst (KeepsImage image) (sym (cond-false _ _ t)) (unwritten-keeps image wrongLength))
 
 -- ---- on a result buffer
 
@@ -120,24 +108,14 @@ by-buffer : (buf : List ℕ) (b : Bool) (x y : Outcome) → KeepsBuffer buf x �
 by-buffer buf true x y p q = p
 by-buffer buf false x y p q = q
 
-by-unless : (buf : List ℕ) (o : Option Reply) (x : Outcome) → KeepsBuffer buf x → KeepsBuffer buf (unless o (kept buf) x)
-unfolding unless
-by-unless buf none x p = p
-by-unless buf (some r) x p = kept-keeps buf r
-
 pub list-refused : (image buf : List ℕ) → KeepsBuffer buf (list image buf)
-unfolding list listDisk
-list-refused image buf =
-    by-buffer buf (imageRight image) _ _
-    (by-unless buf (judged (diskOf image)) _ (deliver-keeps _ buf))
-    (kept-keeps buf wrongLength)
+unfolding list listSound
+list-refused image buf = by-sound image _ _ (KeepsBuffer buf) (kept-keeps buf) (λ long e. deliver-keeps _ buf)
 
 pub read-refused : (image name buf : List ℕ) → KeepsBuffer buf (read image name buf)
-unfolding read readDisk
+unfolding read readSound
 read-refused image name buf =
-    by-buffer buf (imageRight image) _ _
-    (by-unless buf (judged (diskOf image)) _
-    (by-buffer buf (nameRight name) _ _
+    by-sound image _ _ (KeepsBuffer buf) (kept-keeps buf)
+    (λ long e. by-buffer buf (nameRight name) _ _
     (by-buffer buf (ltb (findName (diskOf image) name) (dirEnd (diskOf image))) _ _ (deliver-keeps _ buf) (kept-keeps buf (refusal 14)))
-    (kept-keeps buf (refusal 12))))
-    (kept-keeps buf wrongLength)
+    (kept-keeps buf (refusal 12)))

@@ -4,7 +4,9 @@ use mathlib.Core.Path.{refl, sym, _∙_}
 use Prim.Native.Nat.{_-_}
 use borrow.Author.Needs.{needs}
 use Rattle.files.specs.Laws.Judging.Verdict.{verdict-some, verdict-none}
-use Rattle.files.specs.Laws.Calling.Judged.{gave-refused, wrote-refused, wrote-gave, add-refused, add-length, add-whole}
+use Rattle.file_rules.specs.Calls.{add}
+use Rattle.file_rules.specs.Laws.Base.OnSound.{sound-length, sound-refused, sound-passed}
+use Rattle.files.specs.Laws.Calling.Judged.{wrote-refused, wrote-gave}
 use Rattle.files.proofs.adding.add.Statement.{statement}
 use Rattle.files.proofs.adding.add.Tie as tie
 
@@ -12,7 +14,8 @@ refused-requires : tie.Need-refused-requires
 refused-requires c κs = search needs
 
 returns : tie.Need-returns
-returns c = wrote-refused _ _ _ _ (add-length _ _ _ _ (c .before .if1 .taken)) (c .refused .ensures)
+unfolding add
+returns c = wrote-refused _ _ _ _ (sound-length _ _ _ (c .before .if1 .taken)) (c .refused .ensures)
 
 judge-requires : tie.Need-judge-requires
 judge-requires c κs = search needs
@@ -23,20 +26,22 @@ enum-known-r c = search needs
 enum-told : tie.Need-enum-told
 enum-told c = search needs
 
-add-judged-requires : tie.Need-add-judged-requires
-add-judged-requires c κs = (c .before .before .before .before .before .if1 .left, (verdict-none _ (sym (c .before .enum-told .given .1) ∙ c .before .before .before .judge .ensures)))
+add-sound-requires : tie.Need-add-sound-requires
+add-sound-requires c κs = (c .before .before .before .before .before .if1 .left, (verdict-none _ (sym (c .before .enum-told .given .1) ∙ c .before .before .before .judge .ensures)))
 
 same-length : tie.Need-same-length
 same-length c = search needs
 
 returns-2 : tie.Need-returns-2
-returns-2 c = wrote-gave _ _ _ _ (add-whole _ _ _ _ (c .before .before .before .before .before .if1 .left)) (gave-refused _ _ _ _ (c .before .before .before .before .before .if1 .left) (add-refused _ _ _ _ _ (verdict-some _ _ (sym (c .before .r .given .1) ∙ c .before .before .before .judge .ensures))) refl)
+unfolding add
+returns-2 c = wrote-refused _ _ _ _ (sound-refused _ _ _ (c .before .before .before .before .before .if1 .left) _ (verdict-some _ _ (sym (c .before .r .given .1) ∙ c .before .before .before .judge .ensures))) refl
 
 same-length-2 : tie.Need-same-length-2
 same-length-2 c = search needs
 
 returns-3 : tie.Need-returns-3
-returns-3 c = wrote-gave _ _ _ _ (add-whole _ _ _ _ (c .before .before .before .before .before .before .before .before .if1 .left)) (c .before .before .add-judged .ensures)
+unfolding add
+returns-3 c = wrote-gave _ _ _ _ (sound-passed _ _ _ (c .before .before .before .before .before .before .before .before .if1 .left) (verdict-none _ (sym (c .before .before .before .before .enum-told .given .1) ∙ c .before .before .before .before .before .before .judge .ensures))) (c .before .before .add-sound .ensures)
 
 pub add-spec : {M : Type 1} → statement M
 add-spec =
@@ -47,7 +52,7 @@ add-spec =
     judge-requires
     enum-known-r
     enum-told
-    add-judged-requires
+    add-sound-requires
     same-length
     returns-2
     same-length-2

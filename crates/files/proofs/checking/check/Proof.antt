@@ -3,7 +3,9 @@
 use mathlib.Core.Path.{sym, _∙_}
 use Prim.Native.Nat.{_-_}
 use borrow.Author.Needs.{needs}
-use Rattle.files.specs.Laws.Judging.Sound.{check-length, check-refused, check-passed}
+use Rattle.file_rules.specs.Calls.{check}
+use Rattle.file_rules.specs.Laws.Base.OnSound.{sound-length, sound-refused, sound-passed}
+use Rattle.files.specs.Laws.Judging.Verdict.{verdict-some, verdict-none}
 use Rattle.files.proofs.checking.check.Statement.{statement}
 use Rattle.files.proofs.checking.check.Tie as tie
 
@@ -11,7 +13,8 @@ refused-requires : tie.Need-refused-requires
 refused-requires c κs = search needs
 
 returns : tie.Need-returns
-returns c = c .refused .ensures ∙ check-length _ (c .before .if1 .taken)
+unfolding check
+returns c = c .refused .ensures ∙ sym (sound-length _ _ _ (c .before .if1 .taken))
 
 judge-requires : tie.Need-judge-requires
 judge-requires c κs = search needs
@@ -26,10 +29,12 @@ done-requires : tie.Need-done-requires
 done-requires c κs = search needs
 
 returns-2 : tie.Need-returns-2
-returns-2 c = check-refused _ (c .before .before .before .before .if1 .left) _ (sym (c .before .r .given .1) ∙ c .before .before .before .judge .ensures)
+unfolding check
+returns-2 c = sym (sound-refused _ _ _ (c .before .before .before .before .if1 .left) _ (verdict-some _ _ (sym (c .before .r .given .1) ∙ c .before .before .before .judge .ensures)))
 
 returns-3 : tie.Need-returns-3
-returns-3 c = c .done .ensures ∙ check-passed _ (c .before .before .before .before .if1 .left) (sym (c .before .enum-told .given .1) ∙ c .before .before .before .judge .ensures)
+unfolding check
+returns-3 c = c .done .ensures ∙ sym (sound-passed _ _ _ (c .before .before .before .before .if1 .left) (verdict-none _ (sym (c .before .enum-told .given .1) ∙ c .before .before .before .judge .ensures)))
 
 pub check-spec : {M : Type 1} → statement M
 check-spec =

@@ -8,7 +8,7 @@ use Rattle.laws.specs.Count.{count}
 use Rattle.laws.specs.Overlay.{put}
 use Rattle.file_rules.specs.Disk.{diskOf}
 use Rattle.file_rules.specs.Directory.{held, dirEnd}
-use Rattle.file_rules.specs.Calls.{entries}
+use Rattle.file_rules.specs.Calls.{entries, listSound}
 use Rattle.files.specs.Laws.Calling.Delivered.{entries-length, fits-answer, fits-buffer, misses-answer, misses-buffer}
 use Rattle.files.proofs.listing.list_sound.Statement.{statement}
 use Rattle.files.proofs.listing.list_sound.Tie as tie
@@ -29,6 +29,7 @@ refused-requires : tie.Need-refused-requires
 refused-requires c κs = search needs
 
 returns : tie.Need-returns
+unfolding listSound
 returns c = (c .refused .ensures ∙ misses-answer _ _ _ (ap (λ (x : ℕ). 64 * x) (c .before .before .count-held .ensures .0 ∙ ap (λ (x : ℕ). count x (held (diskOf (c .before .before .before .before .before .before .before .before .args .image .now)))) (c .before .before .before .before .dir-end .ensures .0)) ∙ entries-length (diskOf (c .before .before .before .before .before .before .before .before .args .image .now)) (dirEnd (diskOf (c .before .before .before .before .before .before .before .before .args .image .now)))) (c .before .if1 .taken), misses-buffer _ _ _ (ap (λ (x : ℕ). 64 * x) (c .before .before .count-held .ensures .0 ∙ ap (λ (x : ℕ). count x (held (diskOf (c .before .before .before .before .before .before .before .before .args .image .now)))) (c .before .before .before .before .dir-end .ensures .0)) ∙ entries-length (diskOf (c .before .before .before .before .before .before .before .before .args .image .now)) (dirEnd (diskOf (c .before .before .before .before .before .before .before .before .args .image .now)))) (c .before .if1 .taken))
 
 list-slots-requires : tie.Need-list-slots-requires
@@ -41,6 +42,7 @@ same-length : tie.Need-same-length
 same-length c = search needs
 
 returns-2 : tie.Need-returns-2
+unfolding listSound
 returns-2 c = (c .refused2 .ensures ∙ fits-answer _ (c .before .before .before .before .before .before .before .before .before .before .before .before .before .args .out .now) _ (ap (λ (x : ℕ). 64 * x) (c .before .before .before .before .before .before .before .count-held .ensures .0 ∙ ap (λ (x : ℕ). count x (held (diskOf (c .before .before .before .before .before .before .before .before .before .before .before .before .before .args .image .now)))) (c .before .before .before .before .before .before .before .before .before .dir-end .ensures .0)) ∙ entries-length (diskOf (c .before .before .before .before .before .before .before .before .before .before .before .before .before .args .image .now)) (dirEnd (diskOf (c .before .before .before .before .before .before .before .before .before .before .before .before .before .args .image .now)))) (c .before .before .before .before .before .before .if1 .left), c .before .before .before .list-slots .ensures ∙ ap (λ (x : ℕ). put (c .before .before .before .before .before .before .before .before .before .before .before .before .before .args .out .now) 0 (entries (diskOf (c .before .before .before .before .before .before .before .before .before .before .before .before .before .args .image .now)) x)) (c .before .before .before .before .before .before .before .before .before .dir-end .ensures .0) ∙ fits-buffer _ (c .before .before .before .before .before .before .before .before .before .before .before .before .before .args .out .now) _ (ap (λ (x : ℕ). 64 * x) (c .before .before .before .before .before .before .before .count-held .ensures .0 ∙ ap (λ (x : ℕ). count x (held (diskOf (c .before .before .before .before .before .before .before .before .before .before .before .before .before .args .image .now)))) (c .before .before .before .before .before .before .before .before .before .dir-end .ensures .0)) ∙ entries-length (diskOf (c .before .before .before .before .before .before .before .before .before .before .before .before .before .args .image .now)) (dirEnd (diskOf (c .before .before .before .before .before .before .before .before .before .before .before .before .before .args .image .now)))) (c .before .before .before .before .before .before .if1 .left))
 
 pub list-sound-spec : {M : Type 1} → statement M

@@ -1,11 +1,13 @@
 -- `read` meets its contract.
 -- Assumes nothing.
-use mathlib.Core.Path.{sym, _∙_}
+use mathlib.Core.Path.{refl, sym, _∙_}
 use Prim.Native.Nat.{_-_}
 use borrow.Author.Needs.{needs}
-use Rattle.files.specs.Laws.Calling.Delivered.{read-length, read-refused, read-passed, kept-answer, kept-buffer, same-answer, same-buffer}
+use Rattle.file_rules.specs.Calls.{read}
+use Rattle.file_rules.specs.Laws.Base.OnSound.{sound-length, sound-refused, sound-passed}
+use Rattle.files.specs.Laws.Calling.Delivered.{gave-kept, gave-same}
 use Rattle.files.specs.Laws.Judging.Ends.{end-within}
-use Rattle.files.specs.Laws.Judging.Verdict.{verdict-none}
+use Rattle.files.specs.Laws.Judging.Verdict.{verdict-some, verdict-none}
 use Rattle.files.proofs.reading.read.Statement.{statement}
 use Rattle.files.proofs.reading.read.Tie as tie
 
@@ -13,7 +15,8 @@ refused-requires : tie.Need-refused-requires
 refused-requires c κs = search needs
 
 returns : tie.Need-returns
-returns c = (c .refused .ensures ∙ kept-answer _ _ _ (read-length _ _ _ (c .before .if1 .taken)), kept-buffer _ _ _ (read-length _ _ _ (c .before .if1 .taken)))
+unfolding read
+returns c = gave-kept _ _ _ _ (sound-length _ _ _ (c .before .if1 .taken)) (c .refused .ensures)
 
 judge-requires : tie.Need-judge-requires
 judge-requires c κs = search needs
@@ -28,13 +31,15 @@ read-sound-requires : tie.Need-read-sound-requires
 read-sound-requires c κs = (c .before .before .before .before .if1 .left, end-within _ (verdict-none _ (sym (c .before .enum-told .given .1) ∙ c .before .before .before .judge .ensures)))
 
 returns-2 : tie.Need-returns-2
-returns-2 c = (kept-answer _ _ _ (read-refused _ _ _ (c .before .before .before .before .if1 .left) _ (sym (c .before .r .given .1) ∙ c .before .before .before .judge .ensures)), kept-buffer _ _ _ (read-refused _ _ _ (c .before .before .before .before .if1 .left) _ (sym (c .before .r .given .1) ∙ c .before .before .before .judge .ensures)))
+unfolding read
+returns-2 c = gave-kept _ _ _ _ (sound-refused _ _ _ (c .before .before .before .before .if1 .left) _ (verdict-some _ _ (sym (c .before .r .given .1) ∙ c .before .before .before .judge .ensures))) refl
 
 same-length : tie.Need-same-length
 same-length c = search needs
 
 returns-3 : tie.Need-returns-3
-returns-3 c = (same-answer _ _ _ (c .before .before .read-sound .ensures .0) (read-passed _ _ _ (c .before .before .before .before .before .before .before .if1 .left) (sym (c .before .before .before .before .enum-told .given .1) ∙ c .before .before .before .before .before .before .judge .ensures)), same-buffer _ _ _ (c .before .before .read-sound .ensures .1) (read-passed _ _ _ (c .before .before .before .before .before .before .before .if1 .left) (sym (c .before .before .before .before .enum-told .given .1) ∙ c .before .before .before .before .before .before .judge .ensures)))
+unfolding read
+returns-3 c = gave-same _ _ _ _ (sound-passed _ _ _ (c .before .before .before .before .before .before .before .if1 .left) (verdict-none _ (sym (c .before .before .before .before .enum-told .given .1) ∙ c .before .before .before .before .before .before .judge .ensures))) (c .before .before .read-sound .ensures)
 
 pub read-spec : {M : Type 1} → statement M
 read-spec =

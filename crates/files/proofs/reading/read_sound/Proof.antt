@@ -4,7 +4,7 @@ use mathlib.Core.Path.{sym, _∙_}
 use Prim.Native.Nat.{_-_}
 use borrow.Author.Needs.{needs}
 use borrow.Author.Tests.{not-true, not-false}
-use Rattle.files.specs.Laws.Calling.Delivered.{read-misnamed, read-absent, read-present, kept-answer, kept-buffer, same-answer, same-buffer}
+use Rattle.files.specs.Laws.Calling.Delivered.{read-misnamed, read-absent, read-present, gave-kept, gave-same}
 use Rattle.files.proofs.reading.read_sound.Statement.{statement}
 use Rattle.files.proofs.reading.read_sound.Tie as tie
 
@@ -15,7 +15,7 @@ refused-requires : tie.Need-refused-requires
 refused-requires c κs = search needs
 
 returns : tie.Need-returns
-returns c = (c .refused .ensures ∙ kept-answer _ _ _ (read-misnamed _ _ _ (sym (c .before .before .name-right .ensures) ∙ not-true _ (c .before .if1 .taken))), kept-buffer _ _ _ (read-misnamed _ _ _ (sym (c .before .before .name-right .ensures) ∙ not-true _ (c .before .if1 .taken))))
+returns c = gave-kept _ _ _ _ (read-misnamed _ _ _ (sym (c .before .before .name-right .ensures) ∙ not-true _ (c .before .if1 .taken))) (c .refused .ensures)
 
 find-name-requires : tie.Need-find-name-requires
 find-name-requires c κs = search needs
@@ -27,7 +27,7 @@ refused-requires-2 : tie.Need-refused-requires-2
 refused-requires-2 c κs = search needs
 
 returns-2 : tie.Need-returns-2
-returns-2 c = (c .refused2 .ensures ∙ kept-answer _ _ _ (read-absent _ _ _ (sym (c .before .before .before .before .before .name-right .ensures) ∙ not-false _ (c .before .before .before .before .if1 .left)) _ (c .before .before .before .find-name .ensures) _ (c .before .before .dir-end .ensures .0) (c .before .if2 .taken)), kept-buffer _ _ _ (read-absent _ _ _ (sym (c .before .before .before .before .before .name-right .ensures) ∙ not-false _ (c .before .before .before .before .if1 .left)) _ (c .before .before .before .find-name .ensures) _ (c .before .before .dir-end .ensures .0) (c .before .if2 .taken)))
+returns-2 c = gave-kept _ _ _ _ (read-absent _ _ _ (sym (c .before .before .before .before .before .name-right .ensures) ∙ not-false _ (c .before .before .before .before .if1 .left)) _ (c .before .before .before .find-name .ensures) _ (c .before .before .dir-end .ensures .0) (c .before .if2 .taken)) (c .refused2 .ensures)
 
 read-slot-requires : tie.Need-read-slot-requires
 read-slot-requires c κs = search needs
@@ -36,7 +36,7 @@ same-length : tie.Need-same-length
 same-length c = search needs
 
 returns-3 : tie.Need-returns-3
-returns-3 c = (same-answer _ _ _ (c .before .before .read-slot .ensures .0) (read-present _ _ _ (sym (c .before .before .before .before .before .before .before .before .name-right .ensures) ∙ not-false _ (c .before .before .before .before .before .before .before .if1 .left)) _ (c .before .before .before .before .before .before .find-name .ensures) _ (c .before .before .before .before .before .dir-end .ensures .0) (c .before .before .before .before .if2 .left)), same-buffer _ _ _ (c .before .before .read-slot .ensures .1) (read-present _ _ _ (sym (c .before .before .before .before .before .before .before .before .name-right .ensures) ∙ not-false _ (c .before .before .before .before .before .before .before .if1 .left)) _ (c .before .before .before .before .before .before .find-name .ensures) _ (c .before .before .before .before .before .dir-end .ensures .0) (c .before .before .before .before .if2 .left)))
+returns-3 c = gave-same _ _ _ _ (read-present _ _ _ (sym (c .before .before .before .before .before .before .before .before .name-right .ensures) ∙ not-false _ (c .before .before .before .before .before .before .before .if1 .left)) _ (c .before .before .before .before .before .before .find-name .ensures) _ (c .before .before .before .before .before .dir-end .ensures .0) (c .before .before .before .before .if2 .left)) (c .before .before .read-slot .ensures)
 
 pub read-sound-spec : {M : Type 1} → statement M
 read-sound-spec =

@@ -1,7 +1,6 @@
--- Laws of list and read: the parts of which the result is made, one after the other, and the calls by their cases.
+-- Laws of list and read: the parts of which the result is made, one after the other, and read by its cases.
 -- Assumes nothing.
 use mathlib.Core.Path.{_≡_, refl, sym, ap, ap₂, _∙_}
-use mathlib.Core.Logic.{_≢_}
 use mathlib.Core.Bool.{Bool, true, false, not, cond, _&&_}
 use mathlib.Core.List.{List, [], _++_}
 use mathlib.Core.Option.{Option, none, some}
@@ -20,16 +19,12 @@ use Rattle.laws.specs.Truth.{by-test}
 use Rattle.sector_rules.specs.declared.Reply.{Reply}
 use Rattle.sector_rules.specs.Replies.{reply, refusal}
 use Rattle.sector_rules.specs.Geometry.{imageBytes}
-use Rattle.files.specs.declared.Verdict.{Verdict}
-use Rattle.files.specs.declared.Verdict.the-variants.{Passed, Refused}
 use Rattle.file_rules.specs.Sizes.{blockBytes, slotBytes, slotCount}
 use Rattle.file_rules.specs.Disk.{Disk, diskOf}
 use Rattle.file_rules.specs.Map.{partBlock, fileByte}
 use Rattle.file_rules.specs.Directory.{nameRight, slotByte, slotEntry, held, dirEnd, findName}
-use Rattle.file_rules.specs.Check.{judged}
-use Rattle.file_rules.specs.Calls.{Outcome, kept, unless, imageRight, wrongLength, deliver, entries, listDisk, list, dataOf, readDisk, read}
+use Rattle.file_rules.specs.Calls.{Outcome, kept, deliver, entries, dataOf, readSound}
 use Rattle.files.specs.Laws.Loading.Slots.{Located, slotPlace, slot-row}
-use Rattle.files.specs.Laws.Judging.Verdict.{verdictOf, verdict-some, verdict-none}
 
 -- ---- put, one list after the other
 
@@ -149,84 +144,28 @@ module _ (d : Disk) (k : ℕ) where
 
 -- ---- read of a sound disk
 
-unfoldable pub readSound : Disk → List ℕ → List ℕ → Outcome
-readSound d name buf =
-    cond (nameRight name)
-    (cond (ltb (findName d name) (dirEnd d)) (deliver (dataOf d (findName d name)) buf) (kept buf (refusal 14)))
-    (kept buf (refusal 12))
-
 module _ (d : Disk) (name buf : List ℕ) where
-  pub read-misnamed : nameRight name ≡ false → kept buf (refusal 12) ≡ readSound d name buf
+  pub read-misnamed : nameRight name ≡ false → readSound d name buf ≡ kept buf (refusal 12)
   unfolding readSound
-  read-misnamed t = sym (cond-false _ _ t)
+  read-misnamed t = cond-false _ _ t
 
   module _ (t : nameRight name ≡ true) (k : ℕ) (e : k ≡ findName d name) (end : ℕ) (q : end ≡ dirEnd d) where
-    pub read-absent : end ≤ k → kept buf (refusal 14) ≡ readSound d name buf
+    pub read-absent : end ≤ k → readSound d name buf ≡ kept buf (refusal 14)
     unfolding readSound
-    read-absent h = sym (cond-true _ _ t ∙ cond-false _ _ (lt-false {a = findName d name} {b = dirEnd d} (omega arith)))
+    read-absent h = rw (t, ← e, ← q, lt-false h)
 
-    pub read-present : k < end → deliver (dataOf d k) buf ≡ readSound d name buf
+    pub read-present : k < end → readSound d name buf ≡ deliver (dataOf d k) buf
     unfolding readSound
-    read-present h =
-        ap (λ (x : ℕ). deliver (dataOf d x) buf) e
-        ∙ sym (cond-true _ _ t ∙ cond-true _ _ (lt-true {a = findName d name} {b = dirEnd d} (omega arith)))
+    read-present h = rw (t, ← e, ← q, lt-true h)
 
--- ---- the calls by their cases
+-- ---- what a call that reads gave, by its refusal or by what it is equal to
 
-module _ (image buf : List ℕ) where
-  pub list-length : length image ≢ imageBytes → kept buf wrongLength ≡ list image buf
-  unfolding list imageRight
-  list-length h = sym (cond-false (listDisk (diskOf image) buf) (kept buf wrongLength) (eq-false h))
-
-  module _ (long : length image ≡ imageBytes) where
-    listed : list image buf ≡ unless (judged (diskOf image)) (kept buf) (deliver (entries (diskOf image) (dirEnd (diskOf image))) buf)
-    unfolding list listDisk imageRight
-    listed = cond-true (listDisk (diskOf image) buf) (kept buf wrongLength) (eq-true long)
-
-    pub list-refused : (r : Reply) → Refused r ≡ verdictOf (judged (diskOf image)) → kept buf r ≡ list image buf
-    unfolding unless
-    list-refused r e =
-        sym (listed ∙ ap (λ (v : Option Reply). unless v (kept buf) (deliver (entries (diskOf image) (dirEnd (diskOf image))) buf)) (verdict-some (judged (diskOf image)) r e))
-
-    pub list-passed : Passed ≡ verdictOf (judged (diskOf image)) → deliver (entries (diskOf image) (dirEnd (diskOf image))) buf ≡ list image buf
-    unfolding unless
-    list-passed e =
-        sym (listed ∙ ap (λ (v : Option Reply). unless v (kept buf) (deliver (entries (diskOf image) (dirEnd (diskOf image))) buf)) (verdict-none (judged (diskOf image)) e))
-
-module _ (image name buf : List ℕ) where
-  pub read-length : length image ≢ imageBytes → kept buf wrongLength ≡ read image name buf
-  unfolding read imageRight
-  read-length h = sym (cond-false (readDisk (diskOf image) name buf) (kept buf wrongLength) (eq-false h))
-
-  module _ (long : length image ≡ imageBytes) where
-    reads : read image name buf ≡ unless (judged (diskOf image)) (kept buf) (readSound (diskOf image) name buf)
-    unfolding read readDisk imageRight readSound
-    reads = cond-true (readDisk (diskOf image) name buf) (kept buf wrongLength) (eq-true long)
-
-    pub read-refused : (r : Reply) → Refused r ≡ verdictOf (judged (diskOf image)) → kept buf r ≡ read image name buf
-    unfolding unless
-    read-refused r e =
-        sym (reads ∙ ap (λ (v : Option Reply). unless v (kept buf) (readSound (diskOf image) name buf)) (verdict-some (judged (diskOf image)) r e))
-
-    pub read-passed : Passed ≡ verdictOf (judged (diskOf image)) → readSound (diskOf image) name buf ≡ read image name buf
-    unfolding unless
-    read-passed e =
-        sym (reads ∙ ap (λ (v : Option Reply). unless v (kept buf) (readSound (diskOf image) name buf)) (verdict-none (judged (diskOf image)) e))
-
--- the parts of a call that leaves the buffer, and of one that is another
-pub kept-answer : (buf : List ℕ) (r : Reply) (o : Outcome) → kept buf r ≡ o → r ≡ o .answer
+pub gave-kept : (buf : List ℕ) (o : Outcome) (r q : Reply) → o ≡ kept buf q → r ≡ q → (r ≡ o .answer) × (buf ≡ o .buffer)
 unfolding kept
-kept-answer buf r o e = ap (λ (x : Outcome). x .answer) e
+gave-kept buf o r q e h = (h ∙ sym (ap (λ (x : Outcome). x .answer) e), sym (ap (λ (x : Outcome). x .buffer) e))
 
-pub kept-buffer : (buf : List ℕ) (r : Reply) (o : Outcome) → kept buf r ≡ o → buf ≡ o .buffer
-unfolding kept
-kept-buffer buf r o e = ap (λ (x : Outcome). x .buffer) e
-
-pub same-answer : (o o′ : Outcome) (r : Reply) → r ≡ o .answer → o ≡ o′ → r ≡ o′ .answer
-same-answer o o′ r e q = e ∙ ap (λ (x : Outcome). x .answer) q
-
-pub same-buffer : (o o′ : Outcome) (b : List ℕ) → b ≡ o .buffer → o ≡ o′ → b ≡ o′ .buffer
-same-buffer o o′ b e q = e ∙ ap (λ (x : Outcome). x .buffer) q
+pub gave-same : (o o′ : Outcome) (r : Reply) (l : List ℕ) → o ≡ o′ → (r ≡ o′ .answer) × (l ≡ o′ .buffer) → (r ≡ o .answer) × (l ≡ o .buffer)
+gave-same o o′ r l e h = (h .0 ∙ sym (ap (λ (x : Outcome). x .answer) e), h .1 ∙ sym (ap (λ (x : Outcome). x .buffer) e))
 
 -- ---- one slot more of a list
 

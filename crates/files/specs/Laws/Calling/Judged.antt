@@ -25,7 +25,7 @@ use Rattle.laws.specs.Truth.{and-left, and-right, by-test}
 use Rattle.sector_rules.specs.Geometry.{blocks, imageBytes}
 use Rattle.sector_rules.specs.Replies.{reply, done, refusal}
 use Rattle.sector_rules.specs.declared.Reply.{Reply}
-use Rattle.file_rules.specs.Calls.{Changed, Written, refused, unwritten, unless, imageRight, wrongLength, opensBlock, needed, addAt, addDisk, add, removeAt, removeDisk, remove, imaged}
+use Rattle.file_rules.specs.Calls.{Changed, Written, refused, unwritten, opensBlock, needed, addAt, addSound, removeAt, removeSound, imaged}
 use Rattle.file_rules.specs.Check.{partsRight, entryRight, fileRight, fileFault, newName, refusal8, refusal9, refusal10, refusal11, judged}
 use Rattle.file_rules.specs.Directory.{nameRight, entryFor, slotEntry, held, dirEnd, findName, vacantSlot}
 use Rattle.file_rules.specs.Disk.{Disk, byteOf, diskOf, imageOf}
@@ -33,7 +33,7 @@ use Rattle.file_rules.specs.Laws.Base.Disk.{image-disk}
 use Rattle.files.specs.Laws.Judging.Ends.{or-none-left, or-none-right, files-right, end-within}
 use Rattle.files.specs.Laws.Writing.Steps.{overlay-tab, put-row}
 use Rattle.file_rules.specs.Map.{decode, recordAt, isPart, within, freeAt, freeCount}
-use Rattle.file_rules.specs.Sizes.{blockBytes, slotBytes, blockSlots, slotCount, nameMost}
+use Rattle.file_rules.specs.Sizes.{blockBytes, slotBytes, blockSlots, slotCount, nameMost, blocksOf}
 use Rattle.file_rules.specs.Written.{blocksFor}
 
 -- ---- what was passed
@@ -87,10 +87,10 @@ entry-one d k e =
     let long : Bool = leb slotBytes size in
     let first : Bool = leb 1 (slotEntry d k .named) in
     let last : Bool = leb (slotEntry d k .named) nameMost in
-    let parts : Bool = partsRight d k (up size blockBytes) in
+    let parts : Bool = partsRight d k (blocksOf size) in
     let whole : parts ≡ true = and-right (newName d k) parts (and-right last (newName d k && parts) (and-right first (last && (newName d k && parts)) (and-right long (first && (last && (newName d k && parts))) e))) in
     let most : slotBytes ≤ size = true-le (and-left long (first && (last && (newName d k && parts))) e) in
-    parts-one d k (up size blockBytes) whole 0 (omega arith)
+    parts-one d k (blocksOf size) whole 0 (omega arith)
 
 listed-right : (d : Disk) (k : ℕ) → 0 < k → k < dirEnd d → held d k ≡ true → fileRight d k ≡ true → entryRight d k ≡ true
 unfolding fileRight
@@ -124,17 +124,9 @@ module _ (d : Disk) (passed : judged d ≡ none) (low : (b o : ℕ) → d b o < 
 
 -- ---- whether there is room
 
--- the blocks that a file of so many bytes takes in slot k
-unfoldable pub taken : Disk → ℕ → ℕ → ℕ
-taken d k size = cond (opensBlock d k) (suc (blocksFor size)) (blocksFor size)
-
-pub needed-taken : (d : Disk) (k : ℕ) (content : List ℕ) → taken d k (length content) ≡ needed d k content
-unfolding taken needed
-needed-taken d k content = refl
-
-taken-least : (d : Disk) (k size : ℕ) → blocksFor size ≤ taken d k size
-unfolding taken
-taken-least d k size =
+needed-least : (d : Disk) (k size : ℕ) → blocksFor size ≤ needed d k size
+unfolding needed
+needed-least d k size =
     by-test (opensBlock d k)
     (λ t. omega (arith, cond-true {b = opensBlock d k} (suc (blocksFor size)) (blocksFor size) t))
     (λ t. omega (arith, cond-false {b = opensBlock d k} (suc (blocksFor size)) (blocksFor size) t))
@@ -143,20 +135,20 @@ free-most : (d : Disk) → freeCount d ≤ blocks
 unfolding freeCount
 free-most d = count-le blocks (freeAt d)
 
-pub room-size : (d : Disk) (k size : ℕ) → leb (taken d k size) (freeCount d) ≡ true → size ≤ imageBytes
+pub room-size : (d : Disk) (k size : ℕ) → leb (needed d k size) (freeCount d) ≡ true → size ≤ imageBytes
 unfolding blocksFor up
-room-size d k size e = omega (arith, true-le {a = taken d k size} {b = freeCount d} e, taken-least d k size, free-most d)
+room-size d k size e = omega (arith, true-le {a = needed d k size} {b = freeCount d} e, needed-least d k size, free-most d)
 
-pub room-none : (d : Disk) (k size : ℕ) → imageBytes < size → false ≡ leb (taken d k size) (freeCount d)
+pub room-none : (d : Disk) (k size : ℕ) → imageBytes < size → false ≡ leb (needed d k size) (freeCount d)
 unfolding blocksFor up
-room-none d k size h = sym (le-false {a = taken d k size} {b = freeCount d} (omega (arith, taken-least d k size, free-most d)))
+room-none d k size h = sym (le-false {a = needed d k size} {b = freeCount d} (omega (arith, needed-least d k size, free-most d)))
 
-pub room-opens : (d : Disk) (k size n free : ℕ) → opensBlock d k ≡ true → n ≡ blocksFor size → free ≡ freeCount d → leb (n + 1) free ≡ leb (taken d k size) (freeCount d)
-unfolding taken
+pub room-opens : (d : Disk) (k size n free : ℕ) → opensBlock d k ≡ true → n ≡ blocksFor size → free ≡ freeCount d → leb (n + 1) free ≡ leb (needed d k size) (freeCount d)
+unfolding needed
 room-opens d k size n free t e q = ap₂ leb (add-one n ∙ ap suc e ∙ sym (cond-true _ _ t)) q
 
-pub room-keeps : (d : Disk) (k size n free : ℕ) → opensBlock d k ≡ false → n ≡ blocksFor size → free ≡ freeCount d → leb n free ≡ leb (taken d k size) (freeCount d)
-unfolding taken
+pub room-keeps : (d : Disk) (k size n free : ℕ) → opensBlock d k ≡ false → n ≡ blocksFor size → free ≡ freeCount d → leb n free ≡ leb (needed d k size) (freeCount d)
+unfolding needed
 room-keeps d k size n free t e q = ap₂ leb (e ∙ sym (cond-false _ _ t)) q
 
 pub opens-is : (d : Disk) (k end : ℕ) → end ≡ dirEnd d → (eqb k end && eqb (k % blockSlots) 0) ≡ opensBlock d k
@@ -196,72 +188,43 @@ pub gave-done : (l : List ℕ) (c : Changed) (r : Reply) (d : Disk) → c ≡ re
 gave-done l c r d e h q = record { answer = h ∙ sym (ap (λ (x : Changed). x .answer) e); image = q ∙ sym (ap (λ (x : Changed). imageOf (x .disk)) e) }
 
 module _ (d : Disk) (name : List ℕ) where
-  pub remove-refused : (r : Reply) → judged d ≡ some r → removeDisk d name ≡ refused d r
-  unfolding removeDisk unless
-  remove-refused r e = rw e
+  pub remove-name : nameRight name ≡ false → removeSound d name ≡ refused d (refusal 12)
+  unfolding removeSound
+  remove-name t = rw t
 
-  module _ (passed : judged d ≡ none) where
-    pub remove-name : nameRight name ≡ false → removeDisk d name ≡ refused d (refusal 12)
-    unfolding removeDisk unless
-    remove-name t = rw (passed, t)
+  module _ (right : nameRight name ≡ true) (k end : ℕ) (ek : k ≡ findName d name) (ee : end ≡ dirEnd d) where
+    pub remove-none : end ≤ k → removeSound d name ≡ refused d (refusal 14)
+    unfolding removeSound
+    remove-none h = rw (right, ← ek, ← ee, lt-false h)
 
-    module _ (right : nameRight name ≡ true) (k end : ℕ) (ek : k ≡ findName d name) (ee : end ≡ dirEnd d) where
-      pub remove-none : end ≤ k → removeDisk d name ≡ refused d (refusal 14)
-      unfolding removeDisk unless
-      remove-none h = rw (passed, right, ← ek, ← ee, lt-false h)
-
-      pub remove-done : k < end → removeDisk d name ≡ record { answer = done; disk = removeAt d k }
-      unfolding removeDisk unless
-      remove-done h = rw (passed, right, ← ek, ← ee, lt-true h)
+    pub remove-done : k < end → removeSound d name ≡ record { answer = done; disk = removeAt d k }
+    unfolding removeSound
+    remove-done h = rw (right, ← ek, ← ee, lt-true h)
 
 -- ---- add, case by case
 
 module _ (d : Disk) (name : List ℕ) (date : ℕ) (content : List ℕ) where
-  pub add-refused : (r : Reply) → judged d ≡ some r → addDisk d name date content ≡ refused d r
-  unfolding addDisk unless
-  add-refused r e = rw e
+  pub add-name : nameRight name ≡ false → addSound d name date content ≡ refused d (refusal 12)
+  unfolding addSound
+  add-name t = rw t
 
-  module _ (passed : judged d ≡ none) where
-    pub add-name : nameRight name ≡ false → addDisk d name date content ≡ refused d (refusal 12)
-    unfolding addDisk unless
-    add-name t = rw (passed, t)
+  module _ (right : nameRight name ≡ true) (f end : ℕ) (ef : f ≡ findName d name) (ee : end ≡ dirEnd d) where
+    pub add-present : f < end → addSound d name date content ≡ refused d (reply 13 f 0 0)
+    unfolding addSound
+    add-present h = rw (right, ← ef, ← ee, lt-true h)
 
-    module _ (right : nameRight name ≡ true) (f end : ℕ) (ef : f ≡ findName d name) (ee : end ≡ dirEnd d) where
-      pub add-present : f < end → addDisk d name date content ≡ refused d (reply 13 f 0 0)
-      unfolding addDisk unless
-      add-present h = rw (passed, right, ← ef, ← ee, lt-true h)
+    module _ (h : end ≤ f) (k : ℕ) (ek : k ≡ vacantSlot d) where
+      pub add-full : leb (needed d k (length content)) (freeCount d) ≡ false → addSound d name date content ≡ refused d (refusal 15)
+      unfolding addSound
+      add-full t = rw (right, ← ef, ← ee, lt-false h, ← ek, t)
 
-      module _ (h : end ≤ f) (k : ℕ) (ek : k ≡ vacantSlot d) where
-        pub add-full : leb (taken d k (length content)) (freeCount d) ≡ false → addDisk d name date content ≡ refused d (refusal 15)
-        unfolding addDisk unless taken needed
-        add-full t = rw (passed, right, ← ef, ← ee, lt-false h, ← ek, t)
+      pub add-done : leb (needed d k (length content)) (freeCount d) ≡ true
+          → addSound d name date content ≡ record { answer = done; disk = addAt d k (entryFor name date (length content)) content }
+      unfolding addSound
+      add-done t = rw (right, ← ef, ← ee, lt-false h, ← ek, t)
 
-        pub add-done : leb (taken d k (length content)) (freeCount d) ≡ true
-            → addDisk d name date content ≡ record { answer = done; disk = addAt d k (entryFor name date (length content)) content }
-        unfolding addDisk unless taken needed
-        add-done t = rw (passed, right, ← ef, ← ee, lt-false h, ← ek, t)
+-- ---- what a call wrote, by its refusal, by what it did, or by what it gave
 
--- ---- the calls
-
-module _ (image name : List ℕ) where
-  pub remove-length : length image ≢ imageBytes → remove image name ≡ unwritten image wrongLength
-  unfolding remove imageRight
-  remove-length h = cond-false _ _ (eq-false h)
-
-  pub remove-whole : length image ≡ imageBytes → remove image name ≡ imaged (removeDisk (diskOf image) name)
-  unfolding remove imageRight
-  remove-whole e = cond-true _ _ (eq-true e)
-
-module _ (image name : List ℕ) (date : ℕ) (content : List ℕ) where
-  pub add-length : length image ≢ imageBytes → add image name date content ≡ unwritten image wrongLength
-  unfolding add imageRight
-  add-length h = cond-false _ _ (eq-false h)
-
-  pub add-whole : length image ≡ imageBytes → add image name date content ≡ imaged (addDisk (diskOf image) name date content)
-  unfolding add imageRight
-  add-whole e = cond-true _ _ (eq-true e)
-
--- what a call wrote, by what it gave or by its refusal
 pub wrote-refused : (image : List ℕ) (w : Written) (r q : Reply) → w ≡ unwritten image q → r ≡ q → (r ≡ w .answer) × (image ≡ w .image)
 unfolding unwritten
 wrote-refused image w r q e h = (h ∙ sym (ap (λ (x : Written). x .answer) e), sym (ap (λ (x : Written). x .image) e))

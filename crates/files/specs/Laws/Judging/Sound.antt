@@ -4,7 +4,7 @@ use mathlib.Core.Path.{_≡_, refl, sym, ap, ap₂, _∙_}
 use mathlib.Core.Bool.{Bool, true, false, not, cond, _&&_}
 use mathlib.Core.List.{List}
 use mathlib.Core.Logic.{_≢_}
-use mathlib.Core.Option.{Option, none, some}
+use mathlib.Core.Option.{none, some}
 use Prim.Native.Nat.{ℕ, _+_, _*_, _/_, _%_, _≤_, _<_}
 use native.Mathlib.Numerals.{add-one}
 use native.Mathlib.Omega.{arith}
@@ -22,8 +22,8 @@ use Rattle.laws.specs.Truth.{by-test, and-right}
 use Rattle.sector_rules.specs.declared.Fault.{Fault}
 use Rattle.sector_rules.specs.declared.Fault.the-variants.{At, Sound}
 use Rattle.sector_rules.specs.Faults.{faultBelow, refusalAt}
-use Rattle.sector_rules.specs.Geometry.{blocks, blockSectors, imageBytes}
-use Rattle.sector_rules.specs.Replies.{reply, refusal, done}
+use Rattle.sector_rules.specs.Geometry.{blocks, blockSectors}
+use Rattle.sector_rules.specs.Replies.{reply, refusal}
 use Rattle.sector_rules.specs.declared.Reply.{Reply}
 use Rattle.file_rules.specs.declared.Record.{Record}
 use Rattle.file_rules.specs.declared.Record.the-variants.{Free, System, File, Other}
@@ -31,15 +31,14 @@ use Rattle.file_rules.specs.declared.Entry.{Entry}
 use Rattle.files.specs.declared.Verdict.{Verdict}
 use Rattle.files.specs.declared.Verdict.the-variants.{Passed, Refused}
 use Rattle.file_rules.specs.Sizes.{blockBytes, slotBytes, slotCount, nameMost}
-use Rattle.file_rules.specs.Disk.{Disk, diskOf}
-use Rattle.file_rules.specs.Calls.{imageRight, unless, wrongLength, check}
+use Rattle.file_rules.specs.Disk.{Disk}
 use Rattle.file_rules.specs.Map.{freeCount, recordAt, bears, isPart, within}
 use Rattle.file_rules.specs.Directory.{nameEq, nameOf, entryOf, slotEntry, slotName, held, dirBytes, dirEnd}
 use Rattle.file_rules.specs.Check.{partsRight, unborne, newName, entryRight, fileRight, fileFault, freeRight, mapFault, refusal8, refusal9, refusal10, refusal11, judged}
 use Rattle.files.specs.Laws.Loading.Loaded.{recordOf, recordIn, Mapped}
 use Rattle.files.specs.Laws.Loading.Parts.{partsIn}
 use Rattle.files.specs.Laws.Loading.Loops.{all-cong}
-use Rattle.files.specs.Laws.Judging.Verdict.{verdictOf, verdict-or-some, verdict-or-none, verdict-some, verdict-none}
+use Rattle.files.specs.Laws.Judging.Verdict.{verdictOf, verdict-or-some, verdict-or-none}
 
 -- ---- a file's parts
 
@@ -294,23 +293,3 @@ module _ (d : Disk) where
       pub judged-free : (v : Verdict) → v ≡ verdictOf (refusal11 d) → Passed ≡ verdictOf (refusal10 d) → v ≡ verdictOf (judged d)
       unfolding judged
       judged-free v e c = e ∙ sym (verdict-or-none (refusal10 d) _ c) ∙ sym (verdict-or-none (refusal9 d) _ b) ∙ sym (verdict-or-none (refusal8 d) _ a)
-
--- ---- check
-
-module _ (image : List ℕ) where
-  pub check-length : length image ≢ imageBytes → wrongLength ≡ check image
-  unfolding check imageRight
-  check-length h = sym (cond-false (unless (judged (diskOf image)) (λ (r : Reply). r) done) wrongLength (eq-false h))
-
-  module _ (long : length image ≡ imageBytes) where
-    checked : check image ≡ unless (judged (diskOf image)) (λ (r : Reply). r) done
-    unfolding check imageRight
-    checked = cond-true (unless (judged (diskOf image)) (λ (r : Reply). r) done) wrongLength (eq-true long)
-
-    pub check-refused : (r : Reply) → Refused r ≡ verdictOf (judged (diskOf image)) → r ≡ check image
-    unfolding unless
-    check-refused r e = sym (checked ∙ ap (λ (v : Option Reply). unless v (λ (r : Reply). r) done) (verdict-some (judged (diskOf image)) r e))
-
-    pub check-passed : Passed ≡ verdictOf (judged (diskOf image)) → done ≡ check image
-    unfolding unless
-    check-passed e = sym (checked ∙ ap (λ (v : Option Reply). unless v (λ (r : Reply). r) done) (verdict-none (judged (diskOf image)) e))

@@ -5,8 +5,8 @@ use Prim.Native.Nat.{_-_}
 use native.Mathlib.Omega.{arith}
 use borrow.Author.Needs.{needs}
 use Rattle.laws.specs.Numbers.{up}
-use Rattle.files.proofs.checking.blocks_of.Statement.{statement}
-use Rattle.files.proofs.checking.blocks_of.Tie as tie
+use Rattle.files.proofs.blocks.blocks_of.Statement.{statement}
+use Rattle.files.proofs.blocks.blocks_of.Tie as tie
 
 sub-result : tie.Need-sub-result
 sub-result c = search needs

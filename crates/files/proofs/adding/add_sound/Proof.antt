@@ -1,4 +1,4 @@
--- `add_judged` meets its contract, case by case.
+-- `add_sound` meets its contract, case by case.
 -- Assumes nothing.
 use mathlib.Core.Path.{sym, _∙_}
 use Prim.Native.Nat.{_-_}
@@ -8,8 +8,8 @@ use borrow.Author.Tests.{not-false}
 use Rattle.laws.specs.Tests.{not-was}
 use Rattle.files.specs.Laws.Judging.Ends.{end-within}
 use Rattle.files.specs.Laws.Calling.Judged.{vacant-most, disk-byte, room-size, name-most, gave-refused, gave-done, add-name, add-present, add-full, add-done}
-use Rattle.files.proofs.adding.add_judged.Statement.{statement}
-use Rattle.files.proofs.adding.add_judged.Tie as tie
+use Rattle.files.proofs.adding.add_sound.Statement.{statement}
+use Rattle.files.proofs.adding.add_sound.Tie as tie
 
 name-right-requires : tie.Need-name-right-requires
 name-right-requires c κs = search needs
@@ -18,7 +18,7 @@ refused-requires : tie.Need-refused-requires
 refused-requires c κs = search needs
 
 returns : tie.Need-returns
-returns c = gave-refused _ _ _ _ (c .before .before .before .before .before .before .pre .0) (add-name _ _ _ _ (c .before .before .before .before .before .before .pre .1) (sym (c .before .before .name-right .ensures) ∙ not-was _ (c .before .if1 .taken))) (c .refused .ensures)
+returns c = gave-refused _ _ _ _ (c .before .before .before .before .before .before .pre .0) (add-name _ _ _ _ (sym (c .before .before .name-right .ensures) ∙ not-was _ (c .before .if1 .taken))) (c .refused .ensures)
 
 find-name-requires : tie.Need-find-name-requires
 find-name-requires c κs = (c .before .before .before .before .before .before .pre .0, end-within _ (c .before .before .before .before .before .before .pre .1))
@@ -33,7 +33,7 @@ same-length : tie.Need-same-length
 same-length c = search needs
 
 returns-2 : tie.Need-returns-2
-returns-2 c = gave-refused _ _ _ _ (c .before .before .before .before .before .before .before .before .before .before .before .pre .0) (add-present _ _ _ _ (c .before .before .before .before .before .before .before .before .before .before .before .pre .1) (sym (c .before .before .before .before .before .before .before .name-right .ensures) ∙ not-false _ (c .before .before .before .before .before .before .if1 .left)) _ _ (c .before .before .before .before .find-name .ensures) (c .before .before .dir-end .ensures .0) (c .before .if2 .taken)) (c .refused2 .ensures)
+returns-2 c = gave-refused _ _ _ _ (c .before .before .before .before .before .before .before .before .before .before .before .pre .0) (add-present _ _ _ _ (sym (c .before .before .before .before .before .before .before .name-right .ensures) ∙ not-false _ (c .before .before .before .before .before .before .if1 .left)) _ _ (c .before .before .before .before .find-name .ensures) (c .before .before .dir-end .ensures .0) (c .before .if2 .taken)) (c .refused2 .ensures)
 
 vacant-slot-requires : tie.Need-vacant-slot-requires
 vacant-slot-requires c κs = (c .before .before .before .before .before .before .before .before .before .before .before .pre .0, end-within _ (c .before .before .before .before .before .before .before .before .before .before .before .pre .1))
@@ -48,7 +48,7 @@ same-length-2 : tie.Need-same-length-2
 same-length-2 c = search needs
 
 returns-3 : tie.Need-returns-3
-returns-3 c = gave-refused _ _ _ _ (c .before .before .before .before .before .before .before .before .before .before .before .before .before .before .before .before .pre .0) (add-full _ _ _ _ (c .before .before .before .before .before .before .before .before .before .before .before .before .before .before .before .before .pre .1) (sym (c .before .before .before .before .before .before .before .before .before .before .before .before .name-right .ensures) ∙ not-false _ (c .before .before .before .before .before .before .before .before .before .before .before .if1 .left)) _ _ (c .before .before .before .before .before .before .before .before .before .find-name .ensures) (c .before .before .before .before .before .before .before .dir-end .ensures .0) (c .before .before .before .before .before .before .if2 .left) _ (c .before .before .before .before .vacant-slot .ensures) (sym (c .before .before .has-room .ensures) ∙ not-was _ (c .before .if3 .taken))) (c .refused3 .ensures)
+returns-3 c = gave-refused _ _ _ _ (c .before .before .before .before .before .before .before .before .before .before .before .before .before .before .before .before .pre .0) (add-full _ _ _ _ (sym (c .before .before .before .before .before .before .before .before .before .before .before .before .name-right .ensures) ∙ not-false _ (c .before .before .before .before .before .before .before .before .before .before .before .if1 .left)) _ _ (c .before .before .before .before .before .before .before .before .before .find-name .ensures) (c .before .before .before .before .before .before .before .dir-end .ensures .0) (c .before .before .before .before .before .before .if2 .left) _ (c .before .before .before .before .vacant-slot .ensures) (sym (c .before .before .has-room .ensures) ∙ not-was _ (c .before .if3 .taken))) (c .refused3 .ensures)
 
 entry-for-requires : tie.Need-entry-for-requires
 entry-for-requires c κs = (name-most _ (sym (c .before .before .before .before .before .before .before .before .before .before .before .name-right .ensures) ∙ not-false _ (c .before .before .before .before .before .before .before .before .before .before .if1 .left)), room-size _ _ _ (sym (c .before .has-room .ensures) ∙ not-false _ (c .if3 .left)))
@@ -63,10 +63,10 @@ same-length-3 : tie.Need-same-length-3
 same-length-3 c = search needs
 
 returns-4 : tie.Need-returns-4
-returns-4 c = gave-done _ _ _ _ (add-done _ _ _ _ (c .before .before .before .before .before .before .before .before .before .before .before .before .before .before .before .before .before .before .before .before .before .pre .1) (sym (c .before .before .before .before .before .before .before .before .before .before .before .before .before .before .before .before .before .name-right .ensures) ∙ not-false _ (c .before .before .before .before .before .before .before .before .before .before .before .before .before .before .before .before .if1 .left)) _ _ (c .before .before .before .before .before .before .before .before .before .before .before .before .before .before .find-name .ensures) (c .before .before .before .before .before .before .before .before .before .before .before .before .dir-end .ensures .0) (c .before .before .before .before .before .before .before .before .before .before .before .if2 .left) _ (c .before .before .before .before .before .before .before .before .before .vacant-slot .ensures) (sym (c .before .before .before .before .before .before .before .has-room .ensures) ∙ not-false _ (c .before .before .before .before .before .before .if3 .left))) (c .done .ensures) (rw (c .before .before .before .before .before .entry-for .ensures) at (c .before .before .before .add-at .ensures))
+returns-4 c = gave-done _ _ _ _ (add-done _ _ _ _ (sym (c .before .before .before .before .before .before .before .before .before .before .before .before .before .before .before .before .before .name-right .ensures) ∙ not-false _ (c .before .before .before .before .before .before .before .before .before .before .before .before .before .before .before .before .if1 .left)) _ _ (c .before .before .before .before .before .before .before .before .before .before .before .before .before .before .find-name .ensures) (c .before .before .before .before .before .before .before .before .before .before .before .before .dir-end .ensures .0) (c .before .before .before .before .before .before .before .before .before .before .before .if2 .left) _ (c .before .before .before .before .before .before .before .before .before .vacant-slot .ensures) (sym (c .before .before .before .before .before .before .before .has-room .ensures) ∙ not-false _ (c .before .before .before .before .before .before .if3 .left))) (c .done .ensures) (rw (c .before .before .before .before .before .entry-for .ensures) at (c .before .before .before .add-at .ensures))
 
-pub add-judged-spec : {M : Type 1} → statement M
-add-judged-spec =
+pub add-sound-spec : {M : Type 1} → statement M
+add-sound-spec =
     tie.close
     (tie.spec
     name-right-requires
