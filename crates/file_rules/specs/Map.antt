@@ -1,43 +1,58 @@
 -- Map records. Document 01, "Header, map, directory": from 96 on, three bytes a block, 12 bits file and 12 bits sequence.
 -- Assumes nothing: these are definitions.
 use mathlib.Core.Bool.{Bool, true, false, cond, _&&_}
-use Prim.Native.Nat.{ℕ, zero, suc, _+_, _*_, _/_, _%_}
+use Prim.Native.Nat.{ℕ, _+_, _*_, _/_, _%_}
 use lib.Dec.{ltb, eqb}
 use Rattle.laws.specs.Lowest.{lowest}
 use Rattle.laws.specs.Count.{count}
+use Rattle.laws.specs.Words.{bigEndian, highByte}
 use Rattle.sector_rules.specs.Geometry.{blocks}
-use Rattle.sector_rules.specs.declared.BlockNumber.{BlockNumber}
 use Rattle.file_rules.specs.declared.Record.{Record}
 use Rattle.file_rules.specs.declared.Record.the-variants.{Free, System, File, Other}
-use Rattle.file_rules.specs.declared.MapRecord.{MapRecord}
 use Rattle.file_rules.specs.Sizes.{blockBytes, mapStart, recordBytes}
 use Rattle.file_rules.specs.Disk.{Disk}
 
--- what three bytes say: first byte below F8 a file with its sequence, FD FF FF free, F8 00 00 system
-unfoldable pub decode : ℕ → ℕ → ℕ → Record
-decode x y z =
-    cond (ltb x 0xF8) (File (x * 16 + y / 16) (y % 16 * 256 + z))
-    (cond (eqb x 0xFD && (eqb y 0xFF && eqb z 0xFF)) Free
-    (cond (eqb x 0xF8 && (eqb y 0x00 && eqb z 0x00)) System Other))
+-- ---- a record's number: its three bytes, highest first
 
--- byte i of a record as written; one of none of the kinds never is
+-- below this, 12 bits of file and 12 of sequence; that of a free record; the system's
+abbrev pub fileNumbers : ℕ
+fileNumbers = 0xF80000
+
+abbrev pub freeNumber : ℕ
+freeNumber = 0xFDFFFF
+
+abbrev pub systemNumber : ℕ
+systemNumber = 0xF80000
+
+-- how many sequences, and file numbers, 12 bits have
+abbrev pub sequences : ℕ
+sequences = 4096
+
+-- what a number says
+unfoldable pub decode : ℕ → Record
+decode n =
+    cond (ltb n fileNumbers) (File (n / sequences) (n % sequences))
+    (cond (eqb n freeNumber) Free
+    (cond (eqb n systemNumber) System Other))
+
+-- the number of a record as written; one of none of the kinds never is
+unfoldable pub numberOf : Record → ℕ
+numberOf Free = freeNumber
+numberOf System = systemNumber
+numberOf (File f s) = f * sequences + s
+numberOf Other = 0xFFFFFF
+
+-- byte i of a record as written
 unfoldable pub encode : Record → ℕ → ℕ
-encode Free zero = 0xFD
-encode Free (suc i) = 0xFF
-encode System zero = 0xF8
-encode System (suc i) = 0x00
-encode (File f s) zero = f / 16
-encode (File f s) (suc zero) = f % 16 * 16 + s / 256
-encode (File f s) (suc (suc i)) = s % 256
-encode Other i = 0xFF
+encode r = highByte recordBytes (numberOf r)
+
+-- the number of block b's record
+unfoldable pub numberAt : Disk → ℕ → ℕ
+numberAt d b = bigEndian (λ (i : ℕ). d 0 (mapStart + recordBytes * b + i)) recordBytes
 
 -- the record of block b
 unfoldable pub recordAt : Disk → ℕ → Record
-recordAt d b = decode (d 0 (mapStart + recordBytes * b)) (d 0 (mapStart + recordBytes * b + 1)) (d 0 (mapStart + recordBytes * b + 2))
-
--- the same beside its block number, as the map is walked
-abbrev pub mapRecord : Disk → BlockNumber → MapRecord
-mapRecord d b = record { block = b; «record» = recordAt d (b .0) }
+recordAt d b = decode (numberAt d b)
 
 -- ---- what a record is asked
 

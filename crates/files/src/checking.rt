@@ -12,7 +12,7 @@ ghost use Rattle.files.specs.Laws.Judging.Verdict.{verdictOf};
 ghost use Rattle.files.specs.Laws.Loading.Loaded.{Mapped};
 ghost use Rattle.files.specs.Laws.Loading.Slots.{Located};
 ghost use Rattle.files.specs.Laws.Loading.Marks.{Named};
-ghost use Rattle.files.specs.Laws.Judging.Sound.{unmarked, Bearer, Marked};
+ghost use Rattle.files.specs.Laws.Judging.Sound.{unmarked, Marked};
 use crate::Verdict;
 use crate::blocks::blocks_of;
 use crate::directory::held_slot;
@@ -30,33 +30,15 @@ use crate::names::new_first;
 use crate::names::tally_names;
 use crate::parts::file_blocks;
 use crate::parts::parts_right;
+use crate::records::bearer;
 use crate::sizes::NAME_MOST;
 use crate::sizes::SLOT_BYTES;
 use crate::sizes::SLOT_COUNT;
-use file_rules::Record;
 use sector_rules::BlockNumber;
 use sector_rules::Reply;
 use sectors::Geometry;
 use sectors::done;
 use sectors::refused;
-
-// The file that a record bears; 4096, which is none, where it bears none.
-fn bearer(r: Record) -> usize
-    ensures { λ g. ⌜ Bearer g r ⌝ }
-{
-    match r {
-        Record::Free => 4096,
-        Record::System => 4096,
-        Record::File(g, _) => {
-            if (g as usize) < 4096 {
-                g as usize
-            } else {
-                4096
-            }
-        }
-        Record::Other => 4096,
-    }
-}
 
 // Marks with 1 the files that are borne by a record.
 fn mark_files(map: &[u32; 480]) -> [u8; 4097]

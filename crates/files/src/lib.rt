@@ -10,6 +10,7 @@ mod map;
 mod names;
 mod parts;
 mod reading;
+mod records;
 mod removing;
 mod sizes;
 mod steps;

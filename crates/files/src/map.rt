@@ -1,17 +1,20 @@
-// The map of the disk: its records, what they are asked, and the lowest at fault.
+// The map of the disk: loaded once as the numbers of its records, and walked.
 ghost use mathlib.Core.Path.{_≡_};
 ghost use Prim.Native.Nat.{ℕ, _≤_, _<_};
 ghost use Rattle.laws.specs.Lowest.{lowest};
 ghost use Rattle.laws.specs.Count.{count};
 ghost use Rattle.file_rules.specs.Disk.{diskOf};
-ghost use Rattle.file_rules.specs.Map.{recordAt, isFree, isPart, freeCount};
+ghost use Rattle.file_rules.specs.Map.{numberAt, isFree, isPart, freeCount};
 ghost use Rattle.file_rules.specs.Check.{recordFault};
-ghost use Rattle.files.specs.Laws.Loading.Loaded.{recordOf, recordIn, mapRecordIn, Mapped};
+ghost use Rattle.files.specs.Laws.Loading.Loaded.{recordIn, mapRecord, Mapped};
 use crate::blocks::block_byte;
+use crate::records::is_free;
+use crate::records::is_part;
+use crate::records::record_fault;
+use crate::records::record_of;
 use crate::sizes::MAP_START;
 use crate::sizes::RECORD_BYTES;
 use file_rules::MapRecord;
-use file_rules::Record;
 use sector_rules::BlockNumber;
 use sectors::Geometry;
 
@@ -21,32 +24,16 @@ fn wide(x: u8) -> u32
     x as u32
 }
 
-// A record from its three bytes as one number: 12 bits of file, 12 of sequence.
-pub fn record_of(n: u32) -> Record
-    ensures { λ r. ⌜ r ≡ recordOf n ⌝ }
-{
-    if n < 0xF8_0000 {
-        return Record::File((n / 4096) as u16, (n % 4096) as u16);
-    }
-    if n == 0xFD_FFFF {
-        return Record::Free;
-    }
-    if n == 0xF8_0000 {
-        return Record::System;
-    }
-    Record::Other
-}
-
-// The three bytes of block b's record as one number.
+// The number of block b's record.
 pub fn load_record(image: &[u8], b: usize) -> u32
     requires { ⌜ b < 480 ⌝ }
-    ensures { λ r. ⌜ recordOf r ≡ recordAt (diskOf (now (image .entry))) b ⌝ }
+    ensures { λ r. ⌜ r ≡ numberAt (diskOf (now (image .entry))) b ⌝ }
 {
     let at = MAP_START + RECORD_BYTES * b;
     let x = wide(block_byte(image, 0, at));
     let y = wide(block_byte(image, 0, at + 1));
     let z = wide(block_byte(image, 0, at + 2));
-    x * 65536 + y * 256 + z
+    (x * 256 + y) * 256 + z
 }
 
 // The map's records as numbers: each byte of the map is read from the image once.
@@ -63,48 +50,11 @@ pub fn load_map(image: &[u8]) -> [u32; 480]
 // A block's record beside its number.
 pub fn map_record(map: &[u32; 480], block: BlockNumber) -> MapRecord
     requires { ⌜ block .0 < 480 ⌝ }
-    ensures { λ r. ⌜ r ≡ mapRecordIn (now (map .entry)) block ⌝ }
+    ensures { λ r. ⌜ r ≡ mapRecord (now (map .entry)) block ⌝ }
 {
     let b = block.0;
     let record = record_of(map[b]);
     MapRecord { block, record }
-}
-
-pub fn is_free(r: Record) -> bool
-    ensures { λ a. ⌜ a ≡ isFree r ⌝ }
-{
-    match r {
-        Record::Free => true,
-        Record::System => false,
-        Record::File(_, _) => false,
-        Record::Other => false,
-    }
-}
-
-// Whether a record is sequence s of file f.
-fn is_part(r: Record, f: usize, s: usize) -> bool
-    ensures { λ a. ⌜ a ≡ isPart f s r ⌝ }
-{
-    match r {
-        Record::Free => false,
-        Record::System => false,
-        Record::File(g, t) => (g as usize == f) & (t as usize == s),
-        Record::Other => false,
-    }
-}
-
-// Whether a record may not stand at its block: block 0 is system, and no other is.
-fn record_fault(m: MapRecord) -> bool
-    ensures { λ r. ⌜ r ≡ recordFault (m .block .0) (m .«record») ⌝ }
-{
-    let b = m.block.0;
-    let k = m.record;
-    match k {
-        Record::Free => b == 0,
-        Record::System => b != 0,
-        Record::File(_, _) => b == 0,
-        Record::Other => true,
-    }
 }
 
 // The lowest block whose record may not stand there, or the number of blocks.

@@ -5,43 +5,18 @@ ghost use lib.Dec.{eqb};
 ghost use lib.ListN.{getD};
 ghost use Rattle.laws.specs.Below.{all};
 ghost use Rattle.laws.specs.Lowest.{lowest};
-ghost use Rattle.file_rules.specs.Map.{isPart, bears};
-ghost use Rattle.files.specs.Laws.Loading.Loaded.{recordOf, recordIn};
+ghost use Rattle.file_rules.specs.Map.{isPart};
+ghost use Rattle.files.specs.Laws.Loading.Loaded.{recordIn};
 ghost use Rattle.files.specs.Laws.Loading.Tally as Tally;
 ghost use Rattle.files.specs.Laws.Loading.Tally.{Tallied};
 ghost use Rattle.files.specs.Laws.Loading.Parts.{partOf, partsIn, PartsAt};
+use crate::map::map_record;
 use crate::map::part_block;
+use crate::records::LATER;
+use crate::records::bears_file;
+use crate::records::part_of;
+use sector_rules::BlockNumber;
 use sectors::Geometry;
-
-// What a tally has for a part from n on, and for a record that is no part of the file.
-const LATER: usize = Geometry::BLOCKS;
-
-const ELSEWHERE: usize = Geometry::BLOCKS + 1;
-
-// The numbers of records that bear a file are below this.
-const FILE_NUMBERS: u32 = 0xF8_0000;
-
-// Whether a record bears file f, by its number. Most do not, so that this is asked first.
-fn in_file(number: u32, f: usize) -> bool
-    ensures { λ r. ⌜ r ≡ bears f (recordOf number) ⌝ }
-{
-    ((number / 4096) as usize == f) & (number < FILE_NUMBERS)
-}
-
-// Which of the first n parts of file f a record is, by its number.
-fn part_of(number: u32, f: usize, n: usize) -> usize
-    requires { ⌜ n ≤ 480 ⌝ }
-    ensures { λ r. ⌜ (r ≡ partOf f n (recordOf number)) × (r < 482) ⌝ }
-{
-    if FILE_NUMBERS <= number {
-        return ELSEWHERE;
-    }
-    if (number / 4096) as usize != f {
-        return ELSEWHERE;
-    }
-    let s = (number % 4096) as usize;
-    if s < n { s } else { LATER }
-}
 
 // One more in a cell of a tally: none, one, or 2 for more.
 pub fn more(v: u8) -> u8
@@ -50,15 +25,18 @@ pub fn more(v: u8) -> u8
     if v == 0 { 1 } else { 2 }
 }
 
-// How often each of the first n parts of file f stands, and whether there is a later one.
+// How often each of the first n parts of file f stands, and whether there is a later one. Most records do not bear the
+// file, so that this is asked first.
 fn tally_parts(map: &[u32; 480], f: usize, n: usize) -> [u8; 481]
     requires { ⌜ n ≤ 480 ⌝ }
     ensures { λ r. ⌜ Tallied r 481 (λ (b : ℕ). partOf f n (recordIn (now (map .entry)) b)) 480 ⌝ }
 {
     let mut tally = [0u8; 481];
     for b in 0..Geometry::BLOCKS {
-        if in_file(map[b], f) {
-            let s = part_of(map[b], f, n);
+        let m = map_record(map, BlockNumber(b));
+        let record = m.record;
+        if bears_file(record, f) {
+            let s = part_of(record, f, n);
             tally[s] = more(tally[s]);
         }
     }
@@ -100,7 +78,9 @@ pub fn file_blocks(map: &[u32; 480], f: usize) -> [usize; 480]
     let mut row = [480usize; 480];
     for i in 0..Geometry::BLOCKS {
         let b = Geometry::BLOCKS - 1 - i;
-        let s = part_of(map[b], f, Geometry::BLOCKS);
+        let m = map_record(map, BlockNumber(b));
+        let record = m.record;
+        let s = part_of(record, f, Geometry::BLOCKS);
         if s < Geometry::BLOCKS {
             row[s] = b;
         }

@@ -6,7 +6,7 @@ ghost use Rattle.laws.specs.Tab.{tab};
 ghost use Rattle.sector_rules.specs.Geometry.{sectorBytes, blockSectors, blocks, imageBytes};
 ghost use Rattle.file_rules.specs.Sizes.{slotBytes, blockSlots};
 ghost use Rattle.file_rules.specs.Disk.{diskOf, imageOf};
-ghost use Rattle.file_rules.specs.Map.{encode, bears, partBlock};
+ghost use Rattle.file_rules.specs.Map.{partBlock};
 ghost use Rattle.file_rules.specs.Directory.{entryByte};
 ghost use Rattle.file_rules.specs.Written.{part, zeros, setBlock, setRecord, setSlot, setFree, setEnd, stepUpdate, freeBlock, freeBlocks};
 ghost use Rattle.file_rules.specs.declared.Record.the-variants.{File};
@@ -15,12 +15,14 @@ ghost use Rattle.files.specs.Laws.Writing.Steps.{Packs, storedRow};
 ghost use Rattle.files.specs.Laws.Writing.Stored.{patched};
 use crate::blocks::block_word4;
 use crate::map::free_count;
-use crate::map::is_free;
 use crate::map::load_map;
 use crate::map::load_record;
 use crate::map::map_record;
 use crate::map::part_block;
-use crate::map::record_of;
+use crate::records::bears_file;
+use crate::records::is_free;
+use crate::records::record_bytes;
+use crate::records::record_of;
 use crate::sizes::BLOCK_BYTES;
 use crate::sizes::BLOCK_SLOTS;
 use crate::sizes::MAP_START;
@@ -35,23 +37,6 @@ use file_rules::Entry;
 use file_rules::Record;
 use sector_rules::BlockNumber;
 use sectors::Geometry;
-
-// The three bytes of a record.
-fn record_bytes(r: Record) -> [u8; 3]
-    requires { ⌜ Packs r ⌝ }
-    ensures { λ b. ⌜ b ≡ tab (encode r) 3 ⌝ }
-{
-    match r {
-        Record::Free => [0xFD, 0xFF, 0xFF],
-        Record::System => [0xF8, 0x00, 0x00],
-        Record::File(f, s) => [
-            (f / 16) as u8,
-            (f % 16 * 16 + s / 256) as u8,
-            (s % 256) as u8,
-        ],
-        Record::Other => [0xFF, 0xFF, 0xFF],
-    }
-}
 
 // The record of block b.
 pub fn set_record(image: &mut [u8], b: usize, r: Record)
@@ -198,18 +183,6 @@ pub fn zero_slot(image: &mut [u8], k: usize)
 {
     let b = slot_block(image, k);
     zero_bytes(image, b, k % BLOCK_SLOTS * SLOT_BYTES, SLOT_BYTES);
-}
-
-// Whether a record bears file f.
-fn bears_file(r: Record, f: usize) -> bool
-    ensures { λ a. ⌜ a ≡ bears f r ⌝ }
-{
-    match r {
-        Record::Free => false,
-        Record::System => false,
-        Record::File(g, _) => g as usize == f,
-        Record::Other => false,
-    }
 }
 
 // Block b is zeroed and its record freed if it bears file f.

@@ -1,6 +1,7 @@
--- Stage 1: what the code reads of an image into tables: bytes of blocks, the map, tallies, the parts of files, the slots, the marks of names.
+-- Stage 1: what the code reads of an image into tables: bytes of blocks, map records, the map, tallies, the parts of files, the slots, the marks of names.
 pub mod Blocks
 pub mod Loops
+pub mod Records
 pub mod Loaded
 pub mod Tally
 pub mod Parts

@@ -13,12 +13,13 @@ use Rattle.laws.specs.Order.{by-order}
 use Rattle.laws.specs.Search.{lowest-cong}
 use Rattle.laws.specs.Tests.{lt-true, lt-false, eq-false, true≢false, by-equal, cond-true, cond-false, and-true, and-false-left, and-false-right}
 use Rattle.laws.specs.Truth.{by-test}
+use Rattle.laws.specs.Words.{bigEndian, high-is}
 use Rattle.sector_rules.specs.Geometry.{blocks}
 use Rattle.file_rules.specs.declared.Record.{Record}
 use Rattle.file_rules.specs.declared.Record.the-variants.{Free, System, File, Other}
 use Rattle.file_rules.specs.Calls.{read}
 use Rattle.file_rules.specs.Disk.{Disk}
-use Rattle.file_rules.specs.Map.{decode, encode, recordAt, isFree, bears, isPart, freeAt, freeCount, partBlock}
+use Rattle.file_rules.specs.Map.{fileNumbers, sequences, decode, numberOf, encode, numberAt, recordAt, isFree, bears, isPart, freeAt, freeCount, partBlock}
 use Rattle.file_rules.specs.Model.{content}
 use Rattle.file_rules.specs.Sizes.{blockBytes, mapStart, recordBytes}
 use Rattle.file_rules.specs.Written.{diskWith, part, zeros, setBlock, setRecord, freeBlock, freeBlocks}
@@ -31,16 +32,30 @@ Valid System = Unit {0}
 Valid (File f s) = (f < 3968) × (s < 4096)
 Valid Other = ⊥
 
-pub decode-encode : (r : Record) → Valid r → decode (encode r 0) (encode r 1) (encode r 2) ≡ r
-unfolding decode encode
-decode-encode Free v = refl
-decode-encode System v = refl
-decode-encode (File f s) v =
-    let a : f / 16 * 16 + (f % 16 * 16 + s / 256) / 16 ≡ f = omega (arith, v .0, v .1) in
-    let b : (f % 16 * 16 + s / 256) % 16 * 256 + s % 256 ≡ s = omega (arith, v .0, v .1) in
-    let c : f / 16 < 248 = omega (arith, v .0) in
+pub decode-number : (r : Record) → Valid r → decode (numberOf r) ≡ r
+unfolding decode numberOf
+decode-number Free v = refl
+decode-number System v = refl
+decode-number (File f s) v =
+    let a : (f * sequences + s) / sequences ≡ f = omega (arith, v .0, v .1) in
+    let b : (f * sequences + s) % sequences ≡ s = omega (arith, v .0, v .1) in
+    let c : f * sequences + s < fileNumbers = omega (arith, v .0, v .1) in
     cond-true _ _ (lt-true c) ∙ ap₂ File a b
-decode-encode Other v = absurd v
+decode-number Other v = absurd v
+
+number-most : (r : Record) → Valid r → numberOf r < 0x1000000
+unfolding numberOf
+number-most Free v = omega arith
+number-most System v = omega arith
+number-most (File f s) v = omega (arith, v .0, v .1)
+number-most Other v = absurd v
+
+-- three bytes that are those of a record say the record
+pub decode-bytes : (f : ℕ → ℕ) (r : Record) → Valid r → ((i : ℕ) → i < recordBytes → f i ≡ encode r i) → decode (bigEndian f recordBytes) ≡ r
+unfolding encode
+decode-bytes f r v e =
+    let q : numberOf r % 0x1000000 ≡ numberOf r = omega (arith, number-most r v) in
+    ap decode (high-is f recordBytes (numberOf r) e ∙ q) ∙ decode-number r v
 
 -- ---- a disk by its places
 
@@ -96,12 +111,8 @@ module _ (h : ℕ → ℕ) (owner : ℕ → Record) (content : Record → ℕ �
 
 module _ (d : Disk) (h : ℕ → ℕ) (owner : ℕ → Record) (content : Record → ℕ → ℕ) (p : With d h owner content) where
   pub record-is : (b : ℕ) → b < blocks → Valid (owner b) → recordAt d b ≡ owner b
-  unfolding recordAt
-  record-is b k v =
-      let e₀ : d 0 (mapStart + recordBytes * b) ≡ encode (owner b) 0 = subst (λ (x : ℕ). d 0 x ≡ encode (owner b) 0) (omega arith) (p .map b 0 k (omega arith)) in
-      let e₁ : d 0 (mapStart + recordBytes * b + 1) ≡ encode (owner b) 1 = p .map b 1 k (omega arith) in
-      let e₂ : d 0 (mapStart + recordBytes * b + 2) ≡ encode (owner b) 2 = p .map b 2 k (omega arith) in
-      rw (e₀, e₁, e₂) (decode-encode (owner b) v)
+  unfolding recordAt numberAt
+  record-is b k v = decode-bytes (λ (i : ℕ). d 0 (mapStart + recordBytes * b + i)) (owner b) v (λ i l. p .map b i k l)
 
   module _ (v : (b : ℕ) → b < blocks → Valid (owner b)) where
     pub free-is : (b : ℕ) → b < blocks → freeAt d b ≡ isFree (owner b)

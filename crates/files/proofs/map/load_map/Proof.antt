@@ -3,17 +3,17 @@
 use mathlib.Core.Path.{_≡_, refl}
 use Prim.Native.Nat.{ℕ, _-_, _≤_, _<_}
 use native.Mathlib.Omega.{arith}
-use lib.ListN.{length, length-set}
+use lib.ListN.{length, getD, length-set}
 use borrow.Author.Needs.{needs}
 use borrow.Author.Count.{below-none}
 use Rattle.file_rules.specs.Disk.{diskOf}
-use Rattle.file_rules.specs.Map.{recordAt}
-use Rattle.files.specs.Laws.Loading.Loaded.{recordIn, records-more}
+use Rattle.file_rules.specs.Map.{numberAt}
+use Rattle.files.specs.Laws.Loading.Loaded.{numbers-more}
 use Rattle.files.proofs.map.load_map.Statement.{statement}
 use Rattle.files.proofs.map.load_map.Tie as tie
 
 abbrev Inv-loop : tie.InvT-loop
-Inv-loop image map₀ b₀ map b = (b ≤ 480) × (length map ≡ 480) × ((j : ℕ) → j < b → recordIn map j ≡ recordAt (diskOf image) j)
+Inv-loop image map₀ b₀ map b = (b ≤ 480) × (length map ≡ 480) × ((j : ℕ) → j < b → getD map j 0 ≡ numberAt (diskOf image) j)
 
 abbrev μ-loop : tie.MeasureT-loop
 μ-loop image map₀ b₀ map b = 480 - b
@@ -37,10 +37,10 @@ loop-less : tie.Need-loop-less Inv-loop μ-loop
 loop-less c = omega arith
 
 loop-again : tie.Need-loop-again Inv-loop μ-loop
-loop-again c = (omega arith, simp length-set (c .before .before .loop .inv .1), records-more _ _ _ _ (omega arith) (c .before .before .loop .inv .2) (c .load-record .ensures))
+loop-again c = (omega arith, simp length-set (c .before .before .loop .inv .1), numbers-more (c .before .before .loop .map) (diskOf (c .before .before .before .before .args .image .now)) (c .before .before .loop .b) _ (omega arith) (c .before .before .loop .inv .2) (c .load-record .ensures))
 
 returns : tie.Need-returns Inv-loop μ-loop
-returns c = record { long = c .before .loop .inv .1; records = λ b h. c .before .loop .inv .2 b (omega arith) }
+returns c = record { long = c .before .loop .inv .1; numbers = λ b h. c .before .loop .inv .2 b (omega arith) }
 
 pub load-map-spec : {M : Type 1} → statement M
 load-map-spec =

@@ -1,10 +1,9 @@
 -- `load_record` meets its contract.
 -- Assumes nothing.
-use mathlib.Core.Path.{_∙_}
-use native.Mathlib.Omega.{arith}
+use native.Mathlib.Nat.{zero-add, add-zero}
 use borrow.Author.Needs.{needs}
-use Rattle.file_rules.specs.Map.{recordAt}
-use Rattle.files.specs.Laws.Loading.Loaded.{record-of}
+use Rattle.laws.specs.Words.{bigEndian}
+use Rattle.file_rules.specs.Map.{numberAt}
 use Rattle.files.proofs.map.load_record.Statement.{statement}
 use Rattle.files.proofs.map.load_record.Tie as tie
 
@@ -41,18 +40,18 @@ wide-requires-3 c κs = search needs
 mul-result : tie.Need-mul-result
 mul-result c = search needs
 
-mul-result-2 : tie.Need-mul-result-2
-mul-result-2 c = search needs
-
 add-result : tie.Need-add-result
 add-result c = search needs
+
+mul-result-2 : tie.Need-mul-result-2
+mul-result-2 c = search needs
 
 add-result-2 : tie.Need-add-result-2
 add-result-2 c = search needs
 
 returns : tie.Need-returns
-unfolding recordAt
-returns c = record-of _ _ _ (omega arith) (omega arith) (omega arith) ∙ rw (c .before .before .before .before .wide .ensures .0, c .before .before .wide2 .ensures .0, c .wide3 .ensures .0, c .before .before .before .before .before .block-byte .ensures, c .before .before .before .block-byte2 .ensures, c .before .block-byte3 .ensures)
+unfolding numberAt bigEndian
+returns c = rw (c .before .before .before .before .wide .ensures .0, c .before .before .wide2 .ensures .0, c .wide3 .ensures .0, c .before .before .before .before .before .block-byte .ensures, c .before .before .before .block-byte2 .ensures, c .before .block-byte3 .ensures, add-zero, zero-add)
 
 pub load-record-spec : {M : Type 1} → statement M
 load-record-spec =
@@ -69,7 +68,7 @@ load-record-spec =
     block-byte-requires-3
     wide-requires-3
     mul-result
-    mul-result-2
     add-result
+    mul-result-2
     add-result-2
     returns)

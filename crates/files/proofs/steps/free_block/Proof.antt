@@ -5,7 +5,7 @@ use Prim.Native.Nat.{_-_}
 use borrow.Author.Needs.{needs}
 use borrow.Author.Tests.{not-false}
 use Rattle.laws.specs.Tests.{not-was}
-use Rattle.file_rules.specs.Map.{bears}
+use Rattle.file_rules.specs.Map.{decode, recordAt, bears}
 use Rattle.files.specs.Laws.Writing.Given.{freed-not, freed-yes}
 use Rattle.files.proofs.steps.free_block.Statement.{statement}
 use Rattle.files.proofs.steps.free_block.Tie as tie
@@ -23,7 +23,8 @@ same-length : tie.Need-same-length
 same-length c = search needs
 
 returns : tie.Need-returns
-returns c = freed-not _ _ _ (c .before .before .before .before .before .before .pre .0) (ap (bears _) (sym (c .before .before .record-of .ensures ∙ c .before .before .before .load-record .ensures)) ∙ sym (c .before .bears-file .ensures) ∙ not-was _ (c .if1 .taken))
+unfolding recordAt
+returns c = freed-not _ _ _ (c .before .before .before .before .before .before .pre .0) (ap (bears _) (sym (c .before .before .record-of .ensures ∙ ap decode (c .before .before .before .load-record .ensures))) ∙ sym (c .before .bears-file .ensures) ∙ not-was _ (c .if1 .taken))
 
 zero-block-requires : tie.Need-zero-block-requires
 zero-block-requires c κs = search needs
@@ -35,7 +36,8 @@ same-length-2 : tie.Need-same-length-2
 same-length-2 c = search needs
 
 returns-2 : tie.Need-returns-2
-returns-2 c = freed-yes _ _ _ _ _ (ap (bears _) (sym (c .before .before .before .before .before .before .before .before .before .before .record-of .ensures ∙ c .before .before .before .before .before .before .before .before .before .before .before .load-record .ensures)) ∙ sym (c .before .before .before .before .before .before .before .before .before .bears-file .ensures) ∙ not-false _ (c .before .before .before .before .before .before .before .before .if1 .left)) (c .before .before .before .before .before .before .zero-block .ensures) (c .before .before .set-record .ensures)
+unfolding recordAt
+returns-2 c = freed-yes _ _ _ _ _ (ap (bears _) (sym (c .before .before .before .before .before .before .before .before .before .before .record-of .ensures ∙ ap decode (c .before .before .before .before .before .before .before .before .before .before .before .load-record .ensures))) ∙ sym (c .before .before .before .before .before .before .before .before .before .bears-file .ensures) ∙ not-false _ (c .before .before .before .before .before .before .before .before .if1 .left)) (c .before .before .before .before .before .before .zero-block .ensures) (c .before .before .set-record .ensures)
 
 pub free-block-spec : {M : Type 1} → statement M
 free-block-spec =

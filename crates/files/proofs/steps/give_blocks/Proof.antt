@@ -10,7 +10,7 @@ use Rattle.file_rules.specs.Map.{isFree}
 use Rattle.file_rules.specs.declared.MapRecord.{MapRecord}
 use Rattle.files.specs.Laws.Writing.Given.{Walked, walked-none, walked-asked, walked-given, asked-below}
 use Rattle.file_rules.specs.Disk.{diskOf}
-use Rattle.files.specs.Laws.Loading.Loaded.{Mapped}
+use Rattle.files.specs.Laws.Loading.Loaded.{Mapped, record-mapped}
 use Rattle.files.specs.Laws.Writing.Steps.{storedRow}
 use Rattle.files.proofs.steps.give_blocks.Statement.{statement}
 use Rattle.files.proofs.steps.give_blocks.Tie as tie
@@ -49,7 +49,7 @@ loop-less : tie.Need-loop-less Inv-loop μ-loop
 loop-less c = search needs
 
 loop-again : tie.Need-loop-again Inv-loop μ-loop
-loop-again c = let free = c .before .is-free .ensures ∙ ap isFree (ap (λ (m : MapRecord). m .«record») (c .before .before .map-record .ensures) ∙ c .before .before .before .before .before .loop .inv .2 .records _ (omega arith)) in (
+loop-again c = let free = c .before .is-free .ensures ∙ ap isFree (ap (λ (m : MapRecord). m .«record») (c .before .before .map-record .ensures) ∙ record-mapped _ _ (c .before .before .before .before .before .loop .inv .2) _ (omega arith)) in (
   omega arith,
   ⊎-elim (λ w. rw (w .5) (w .2 .kept .0 ∙ c .before .before .before .before .before .loop .inv .1)) (λ w. rw (w .1) (c .before .before .before .before .before .loop .inv .1)) (c .if1 .came),
   c .before .before .before .before .before .loop .inv .2,

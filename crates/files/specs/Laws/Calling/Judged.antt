@@ -20,7 +20,7 @@ use Rattle.laws.specs.Order.{by-order}
 use Rattle.laws.specs.Overlay.{put}
 use Rattle.laws.specs.Search.{lowest-le, lowest-low}
 use Rattle.laws.specs.Tab.{tab, tab-ext, getD-past}
-use Rattle.laws.specs.Tests.{lt-true, lt-false, le-false, true-le, eq-true, eq-false, true-eq, true≢false, cond-true, cond-false, and-true, orElse}
+use Rattle.laws.specs.Tests.{lt-true, lt-false, le-false, true-le, eq-true, eq-false, true-eq, true≢false, cond-true, cond-false, and-true, and-false-left, orElse}
 use Rattle.laws.specs.Truth.{and-left, and-right, by-test}
 use Rattle.sector_rules.specs.Geometry.{blocks, imageBytes}
 use Rattle.sector_rules.specs.Replies.{reply, done, refusal}
@@ -30,6 +30,7 @@ use Rattle.file_rules.specs.Check.{partsRight, entryRight, fileRight, fileFault
 use Rattle.file_rules.specs.Directory.{nameRight, entryFor, slotEntry, held, dirEnd, findName, vacantSlot}
 use Rattle.file_rules.specs.Disk.{Disk, byteOf, diskOf, imageOf}
 use Rattle.file_rules.specs.Laws.Base.Disk.{image-disk}
+use Rattle.files.specs.Laws.Loading.Records.{decode-none}
 use Rattle.files.specs.Laws.Judging.Ends.{or-none-left, or-none-right, files-right, end-within}
 use Rattle.files.specs.Laws.Writing.Steps.{overlay-tab, put-row}
 use Rattle.file_rules.specs.Map.{decode, recordAt, isPart, within, freeAt, freeCount}
@@ -55,22 +56,10 @@ parts-one d f n right s h =
 
 -- ---- the vacant slot
 
--- no record of bytes bears file 3968 or a higher one
-no-part : (x y z k s : ℕ) → y < 256 → 3968 ≤ k → isPart k s (decode x y z) ≡ false
-unfolding decode isPart
-no-part x y z k s hy hk =
-    by-order x 0xF8
-    (λ h.
-    let q : eqb (x * 16 + y / 16) k ≡ false = eq-false {a = x * 16 + y / 16} {b = k} (λ e. absurd (omega arith)) in
-    ap (isPart k s) (cond-true _ _ (lt-true h)) ∙ ap (λ (t : Bool). t && eqb (y % 16 * 256 + z) s) q)
-    (λ h.
-    ap (isPart k s) (cond-false _ _ (lt-false h))
-    ∙ by-test (eqb x 0xFD && (eqb y 0xFF && eqb z 0xFF))
-    (λ t. ap (isPart k s) (cond-true _ _ t))
-    (λ t. ap (isPart k s) (cond-false _ _ t)
-    ∙ by-test (eqb x 0xF8 && (eqb y 0x00 && eqb z 0x00))
-    (λ u. ap (isPart k s) (cond-true _ _ u))
-    (λ u. ap (isPart k s) (cond-false _ _ u))))
+-- no record bears file 3968 or a higher one
+no-part : (n k s : ℕ) → 3968 ≤ k → isPart k s (decode n) ≡ false
+unfolding isPart
+no-part n k s hk = decode-none n (isPart k s) refl refl refl (λ f t h. and-false-left (eqb t s) (eq-false {a = f} {b = k} (λ e. omega arith)))
 
 pub disk-byte : (l : List ℕ) → ((i : ℕ) → getD l i 0 < 256) → (b o : ℕ) → diskOf l b o < 256
 unfolding diskOf
@@ -98,7 +87,7 @@ listed-right d k pos h t e = sym (cond-false _ _ (eq-false {a = k} {b = 0} (omeg
 
 far-none : (d : Disk) → ((b o : ℕ) → d b o < 256) → (k : ℕ) → 3968 ≤ k → count blocks (λ (b : ℕ). isPart k 0 (recordAt d b)) ≡ 0
 unfolding recordAt
-far-none d low k hk = count-none blocks (λ (b : ℕ). isPart k 0 (recordAt d b)) (λ b h. no-part _ _ _ k 0 (low 0 _) hk)
+far-none d low k hk = count-none blocks (λ (b : ℕ). isPart k 0 (recordAt d b)) (λ b h. no-part _ k 0 hk)
 
 module _ (d : Disk) (passed : judged d ≡ none) (low : (b o : ℕ) → d b o < 256) where
   -- a held slot from 3968 on could have no block

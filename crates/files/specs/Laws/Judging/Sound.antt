@@ -35,7 +35,8 @@ use Rattle.file_rules.specs.Disk.{Disk}
 use Rattle.file_rules.specs.Map.{freeCount, recordAt, bears, isPart, within}
 use Rattle.file_rules.specs.Directory.{nameEq, nameOf, entryOf, slotEntry, slotName, held, dirBytes, dirEnd}
 use Rattle.file_rules.specs.Check.{partsRight, unborne, newName, entryRight, fileRight, fileFault, freeRight, mapFault, refusal8, refusal9, refusal10, refusal11, judged}
-use Rattle.files.specs.Laws.Loading.Loaded.{recordOf, recordIn, Mapped}
+use Rattle.files.specs.Laws.Loading.Loaded.{recordIn, Mapped, record-mapped}
+use Rattle.files.specs.Laws.Loading.Records.{decode-none}
 use Rattle.files.specs.Laws.Loading.Parts.{partsIn}
 use Rattle.files.specs.Laws.Loading.Loops.{all-cong}
 use Rattle.files.specs.Laws.Judging.Verdict.{verdictOf, verdict-or-some, verdict-or-none}
@@ -50,19 +51,19 @@ module _ (map : List ℕ) (d : Disk) (m : Mapped map d) where
   unfolding partsIn partsRight
   parts-mapped f n =
       ap₂ (λ (x y : Bool). x && y)
-      (all-cong (λ (b : ℕ). within f n (recordIn map b)) (λ (b : ℕ). within f n (recordAt d b)) blocks (λ b h. ap (within f n) (m .records b h)))
+      (all-cong (λ (b : ℕ). within f n (recordIn map b)) (λ (b : ℕ). within f n (recordAt d b)) blocks (λ b h. ap (within f n) (record-mapped map d m b h)))
       (all-cong
       (λ (s : ℕ). eqb (count blocks (λ (b : ℕ). isPart f s (recordIn map b))) 1)
       (λ (s : ℕ). eqb (count blocks (λ (b : ℕ). isPart f s (recordAt d b))) 1)
       n
       (λ s l. ap (λ (c : ℕ). eqb c 1)
-      (count-cong blocks (λ (b : ℕ). isPart f s (recordIn map b)) (λ (b : ℕ). isPart f s (recordAt d b)) (λ b h. ap (isPart f s) (m .records b h)))))
+      (count-cong blocks (λ (b : ℕ). isPart f s (recordIn map b)) (λ (b : ℕ). isPart f s (recordAt d b)) (λ b h. ap (isPart f s) (record-mapped map d m b h)))))
 
   pub unborne-mapped : (f : ℕ) → unborneIn map f ≡ unborne d f
   unfolding unborneIn unborne
   unborne-mapped f =
       all-cong (λ (b : ℕ). not (bears f (recordIn map b))) (λ (b : ℕ). not (bears f (recordAt d b))) blocks
-      (λ b h. ap (λ (r : Record). not (bears f r)) (m .records b h))
+      (λ b h. ap (λ (r : Record). not (bears f r)) (record-mapped map d m b h))
 
 -- ---- the files that are borne, marked
 
@@ -132,21 +133,12 @@ mark-more marks map k g b m =
           ap (λ (x : ℕ). eqb x 0) (getD-set-other marks g f 1 0 q) ∙ m .mark f l ∙ sym (e ∙ ap (λ (x : Bool). not x && all p k) t));
     }
 
--- a record of a loaded map bears a file below 4096
-low-file : (n f : ℕ) → 4096 ≤ f → bears f (recordOf n) ≡ false
-unfolding recordOf bears
-low-file n f h =
-    by-order n 0xF80000
-    (λ l.
-    ap (bears f) (cond-true (File (n / 4096) (n % 4096)) (cond (eqb n 0xFDFFFF) Free (cond (eqb n 0xF80000) System Other)) (lt-true l))
-    ∙ eq-false {a = n / 4096} {b = f} (λ e. omega arith))
-    (λ l.
-    ap (bears f) (cond-false (File (n / 4096) (n % 4096)) (cond (eqb n 0xFDFFFF) Free (cond (eqb n 0xF80000) System Other)) (lt-false l))
-    ∙ by-test (eqb n 0xFDFFFF) (λ e. rw e) (λ e. by-test (eqb n 0xF80000) (λ g. rw (e, g)) (λ g. rw (e, g))))
-
+-- no record of a loaded map bears a file from 4096 on
 far-unborne : (map : List ℕ) (f : ℕ) → 4096 ≤ f → unborneIn map f ≡ true
-unfolding unborneIn recordIn
-far-unborne map f h = all-is (λ (b : ℕ). not (bears f (recordIn map b))) blocks (λ b l. ap not (low-file (getD map b 0) f h))
+unfolding unborneIn recordIn bears
+far-unborne map f h =
+    all-is (λ (b : ℕ). not (bears f (recordIn map b))) blocks
+    (λ b l. ap not (decode-none (getD map b 0) (bears f) refl refl refl (λ g s q. eq-false {a = g} {b = f} (λ e. omega arith))))
 
 -- whether file f has no mark
 unfoldable pub unmarked : List ℕ → ℕ → Bool

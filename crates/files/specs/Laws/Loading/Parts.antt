@@ -4,7 +4,7 @@ use mathlib.Core.Path.{_≡_, refl, sym, ap, _∙_}
 use mathlib.Core.Logic.{_≢_}
 use mathlib.Core.Bool.{Bool, true, false, not, cond, _&&_, false≢true}
 use mathlib.Core.List.{List}
-use Prim.Native.Nat.{ℕ, zero, suc, _+_, _/_, _%_, _≤_, _<_}
+use Prim.Native.Nat.{ℕ, zero, suc, _+_, _≤_, _<_}
 use native.Mathlib.Omega.{arith}
 use lib.Dec.{ltb, eqb}
 use lib.ListN.{length, getD, set, replicate, length-set, length-replicate, getD-replicate}
@@ -19,7 +19,7 @@ use Rattle.sector_rules.specs.Geometry.{blocks}
 use Rattle.file_rules.specs.declared.Record.{Record}
 use Rattle.file_rules.specs.declared.Record.the-variants.{Free, System, File, Other}
 use Rattle.file_rules.specs.Map.{isPart, within, bears}
-use Rattle.files.specs.Laws.Loading.Loaded.{recordOf, recordIn}
+use Rattle.files.specs.Laws.Loading.Loaded.{recordIn}
 use Rattle.files.specs.Laws.Loading.Loops.{all-cong}
 use Rattle.files.specs.Laws.Loading.Tally.{Tallied, tally-one, tally-zero}
 
@@ -81,49 +81,22 @@ partOf f n System = suc blocks
 partOf f n (File g t) = cond (eqb g f) (cond (ltb t n) t blocks) (suc blocks)
 partOf f n Other = suc blocks
 
-module _ (number f n : ℕ) where
-  module _ (h : number < 0xF80000) where
-    file-here : recordOf number ≡ File (number / 4096) (number % 4096)
-    unfolding recordOf
-    file-here = cond-true (File (number / 4096) (number % 4096)) (cond (eqb number 0xFDFFFF) Free (cond (eqb number 0xF80000) System Other)) (lt-true h)
+module _ (f n g t : ℕ) where
+  -- of a record of file g, sequence t
+  pub part-other : (g ≡ f → ⊥) → suc blocks ≡ partOf f n (File g t)
+  unfolding partOf
+  part-other q = sym (cond-false (cond (ltb t n) t blocks) (suc blocks) (eq-false q))
 
-    pub part-other : (number / 4096 ≡ f → ⊥) → suc blocks ≡ partOf f n (recordOf number)
+  module _ (q : g ≡ f) where
+    of-file : partOf f n (File g t) ≡ cond (ltb t n) t blocks
     unfolding partOf
-    part-other q =
-        sym (ap (partOf f n) file-here ∙ cond-false (cond (ltb (number % 4096) n) (number % 4096) blocks) (suc blocks) (eq-false {a = number / 4096} {b = f} q))
+    of-file = cond-true (cond (ltb t n) t blocks) (suc blocks) (eq-true q)
 
-    module _ (q : number / 4096 ≡ f) where
-      of-file : partOf f n (recordOf number) ≡ cond (ltb (number % 4096) n) (number % 4096) blocks
-      unfolding partOf
-      of-file = ap (partOf f n) file-here ∙ cond-true (cond (ltb (number % 4096) n) (number % 4096) blocks) (suc blocks) (eq-true q)
+    pub part-low : t < n → t ≡ partOf f n (File g t)
+    part-low l = sym (of-file ∙ cond-true t blocks (lt-true l))
 
-      pub part-low : number % 4096 < n → number % 4096 ≡ partOf f n (recordOf number)
-      part-low l = sym (of-file ∙ cond-true (number % 4096) blocks (lt-true l))
-
-      pub part-later : n ≤ number % 4096 → blocks ≡ partOf f n (recordOf number)
-      part-later l = sym (of-file ∙ cond-false (number % 4096) blocks (lt-false l))
-
-  pub part-none : 0xF80000 ≤ number → suc blocks ≡ partOf f n (recordOf number)
-  unfolding recordOf partOf
-  part-none h =
-      sym
-      (ap (partOf f n) (cond-false (File (number / 4096) (number % 4096)) (cond (eqb number 0xFDFFFF) Free (cond (eqb number 0xF80000) System Other)) (lt-false h))
-      ∙ by-test (eqb number 0xFDFFFF) (λ e. rw e) (λ e. by-test (eqb number 0xF80000) (λ g. rw (e, g)) (λ g. rw (e, g))))
-
--- a number's file, and whether its record bears one
-pub bears-number : (number f : ℕ) → (eqb (number / 4096) f && ltb number 0xF80000) ≡ bears f (recordOf number)
-unfolding recordOf bears
-bears-number number f =
-    by-order number 0xF80000
-    (λ h.
-    let t : ltb number 0xF80000 ≡ true = lt-true h in
-    by-test (eqb (number / 4096) f) (λ e. rw (t, e)) (λ e. rw (t, e)))
-    (λ h.
-    let t : ltb number 0xF80000 ≡ false = lt-false h in
-    and-false-right (eqb (number / 4096) f) t
-    ∙ sym
-    (ap (bears f) (cond-false (File (number / 4096) (number % 4096)) (cond (eqb number 0xFDFFFF) Free (cond (eqb number 0xF80000) System Other)) t)
-    ∙ by-test (eqb number 0xFDFFFF) (λ e. rw e) (λ e. by-test (eqb number 0xF80000) (λ g. rw (e, g)) (λ g. rw (e, g)))))
+    pub part-later : n ≤ t → blocks ≡ partOf f n (File g t)
+    part-later l = sym (of-file ∙ cond-false t blocks (lt-false l))
 
 module _ (f n : ℕ) (h : n ≤ blocks) where
   -- a record that bears the file is a part of it, and no other is

@@ -1,10 +1,9 @@
--- `bears_file` meets its contract.
+-- `number_of` meets its contract.
 -- Assumes nothing.
-use Prim.Native.Nat.{_-_}
+use Rattle.file_rules.specs.Map.{numberOf}
 use borrow.Author.Needs.{needs}
-use Rattle.file_rules.specs.Map.{bears}
-use Rattle.files.proofs.steps.bears_file.Statement.{statement}
-use Rattle.files.proofs.steps.bears_file.Tie as tie
+use Rattle.files.proofs.records.number_of.Statement.{statement}
+use Rattle.files.proofs.records.number_of.Tie as tie
 
 enum-told : tie.Need-enum-told
 enum-told c = search needs
@@ -18,33 +17,45 @@ enum-known-r c = search needs
 cast-result : tie.Need-cast-result
 cast-result c = search needs
 
+mul-result : tie.Need-mul-result
+mul-result c = search needs
+
+cast-result-2 : tie.Need-cast-result-2
+cast-result-2 c = search needs
+
+add-result : tie.Need-add-result
+add-result c = search needs
+
 enum-told-3 : tie.Need-enum-told-3
 enum-told-3 c = search needs
 
 returns : tie.Need-returns
-unfolding bears
+unfolding numberOf
 returns c = rw (c .enum-told .given .1)
 
 returns-2 : tie.Need-returns-2
-unfolding bears
+unfolding numberOf
 returns-2 c = rw (c .enum-told2 .given .1)
 
 returns-3 : tie.Need-returns-3
-unfolding bears
+unfolding numberOf
 returns-3 c = rw (c .before .r .given .1)
 
 returns-4 : tie.Need-returns-4
-unfolding bears
+unfolding numberOf
 returns-4 c = rw (c .enum-told3 .given .1)
 
-pub bears-file-spec : {M : Type 1} → statement M
-bears-file-spec =
+pub number-of-spec : {M : Type 1} → statement M
+number-of-spec =
     tie.close
     (tie.spec
     enum-told
     enum-told-2
     enum-known-r
     cast-result
+    mul-result
+    cast-result-2
+    add-result
     enum-told-3
     returns
     returns-2

@@ -2,8 +2,8 @@
 -- Assumes nothing.
 use borrow.Author.Needs.{needs}
 use Rattle.file_rules.specs.Map.{isFree}
-use Rattle.files.proofs.map.is_free.Statement.{statement}
-use Rattle.files.proofs.map.is_free.Tie as tie
+use Rattle.files.proofs.records.is_free.Statement.{statement}
+use Rattle.files.proofs.records.is_free.Tie as tie
 
 enum-told : tie.Need-enum-told
 enum-told c = search needs

@@ -1,9 +1,9 @@
 -- `record_fault` meets its contract.
 -- Assumes nothing.
 use borrow.Author.Needs.{needs}
-use Rattle.files.specs.Laws.Loading.Loaded.{fault-free, fault-system, fault-file, fault-other}
-use Rattle.files.proofs.map.record_fault.Statement.{statement}
-use Rattle.files.proofs.map.record_fault.Tie as tie
+use Rattle.files.specs.Laws.Loading.Records.{fault-free, fault-system, fault-file, fault-other}
+use Rattle.files.proofs.records.record_fault.Statement.{statement}
+use Rattle.files.proofs.records.record_fault.Tie as tie
 
 enum-told : tie.Need-enum-told
 enum-told c = search needs

@@ -2,9 +2,9 @@
 -- Assumes nothing.
 use borrow.Author.Needs.{needs}
 use borrow.Author.Tests.{lt-ltb, le-ltb, ne-eqb}
-use Rattle.files.specs.Laws.Loading.Loaded.{recordOf}
-use Rattle.files.proofs.map.record_of.Statement.{statement}
-use Rattle.files.proofs.map.record_of.Tie as tie
+use Rattle.file_rules.specs.Map.{decode}
+use Rattle.files.proofs.records.record_of.Statement.{statement}
+use Rattle.files.proofs.records.record_of.Tie as tie
 
 cast-t4 : tie.Need-cast-t4
 cast-t4 c = search needs
@@ -13,19 +13,19 @@ cast-t6 : tie.Need-cast-t6
 cast-t6 c = search needs
 
 returns : tie.Need-returns
-unfolding recordOf
+unfolding decode
 returns c = simp (lt-ltb _ _ (c .if1 .taken))
 
 returns-2 : tie.Need-returns-2
-unfolding recordOf
+unfolding decode
 returns-2 c = simp (c .if2 .taken)
 
 returns-3 : tie.Need-returns-3
-unfolding recordOf
+unfolding decode
 returns-3 c = simp (c .if3 .taken)
 
 returns-4 : tie.Need-returns-4
-unfolding recordOf
+unfolding decode
 returns-4 c = simp (le-ltb _ _ (c .before .before .if1 .left), ne-eqb _ _ (c .before .if2 .left), ne-eqb _ _ (c .if3 .left))
 
 pub record-of-spec : {M : Type 1} → statement M

@@ -2,8 +2,8 @@
 -- Assumes nothing.
 use borrow.Author.Needs.{needs}
 use Rattle.file_rules.specs.Map.{isPart}
-use Rattle.files.proofs.map.is_part.Statement.{statement}
-use Rattle.files.proofs.map.is_part.Tie as tie
+use Rattle.files.proofs.records.is_part.Statement.{statement}
+use Rattle.files.proofs.records.is_part.Tie as tie
 
 enum-told : tie.Need-enum-told
 enum-told c = search needs

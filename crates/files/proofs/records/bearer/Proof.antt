@@ -3,8 +3,8 @@
 use Prim.Native.Nat.{_-_}
 use borrow.Author.Needs.{needs}
 use Rattle.files.specs.Laws.Judging.Sound.{bearer-free, bearer-system, bearer-other, bearer-file, bearer-far}
-use Rattle.files.proofs.checking.bearer.Statement.{statement}
-use Rattle.files.proofs.checking.bearer.Tie as tie
+use Rattle.files.proofs.records.bearer.Statement.{statement}
+use Rattle.files.proofs.records.bearer.Tie as tie
 
 enum-told : tie.Need-enum-told
 enum-told c = search needs

@@ -1,0 +1,24 @@
+-- `record_bytes` meets its contract.
+-- Assumes nothing.
+use Rattle.files.specs.Laws.Loading.Records.{record-row}
+use borrow.Author.Needs.{needs}
+use Rattle.files.proofs.records.record_bytes.Statement.{statement}
+use Rattle.files.proofs.records.record_bytes.Tie as tie
+
+number-of-requires : tie.Need-number-of-requires
+number-of-requires c κs = search needs
+
+cast-t5 : tie.Need-cast-t5
+cast-t5 c = search needs
+
+cast-t8 : tie.Need-cast-t8
+cast-t8 c = search needs
+
+cast-t10 : tie.Need-cast-t10
+cast-t10 c = search needs
+
+returns : tie.Need-returns
+returns c = record-row _ _ (c .number-of .ensures)
+
+pub record-bytes-spec : {M : Type 1} → statement M
+record-bytes-spec = tie.close (tie.spec number-of-requires cast-t5 cast-t8 cast-t10 returns)

@@ -1,0 +1,59 @@
+-- Map records: what their numbers say and what they are asked, by the kinds.
+-- Assumes nothing.
+use mathlib.Core.Path.{_≡_, refl, sym, ap, ap₂, _∙_}
+use mathlib.Core.Bool.{Bool, true, false, not, cond, _&&_}
+use mathlib.Core.List.{[], _∷_}
+use Prim.Native.Nat.{ℕ, _+_, _*_, _/_, _%_, _≤_, _<_}
+use native.Mathlib.Nat.{div-one}
+use native.Mathlib.Omega.{arith}
+use lib.Dec.{ltb, eqb}
+use Rattle.laws.specs.Order.{by-order}
+use Rattle.laws.specs.Tab.{tab}
+use Rattle.laws.specs.Tests.{lt-true, lt-false, cond-true, cond-false}
+use Rattle.laws.specs.Truth.{by-test}
+use Rattle.laws.specs.Words.{highByte}
+use Rattle.file_rules.specs.declared.Record.{Record}
+use Rattle.file_rules.specs.declared.Record.the-variants.{Free, System, File, Other}
+use Rattle.file_rules.specs.Check.{recordFault}
+use Rattle.file_rules.specs.Map.{fileNumbers, freeNumber, systemNumber, sequences, decode, numberOf, encode, isSystem, isOther}
+use Rattle.file_rules.specs.Sizes.{recordBytes}
+
+-- ---- numbers
+
+-- no number says what no record of a file below 3968 does, nor one of the other kinds
+pub decode-none : (n : ℕ) (p : Record → Bool) → p Free ≡ false → p System ≡ false → p Other ≡ false
+    → ((f s : ℕ) → f < fileNumbers / sequences → p (File f s) ≡ false) → p (decode n) ≡ false
+unfolding decode
+decode-none n p free system other file =
+    by-order n fileNumbers
+    (λ h. ap p (cond-true _ _ (lt-true h)) ∙ file (n / sequences) (n % sequences) (omega arith))
+    (λ h.
+    ap p (cond-false _ _ (lt-false h))
+    ∙ by-test (eqb n freeNumber)
+    (λ t. ap p (cond-true _ _ t) ∙ free)
+    (λ t. ap p (cond-false _ _ t)
+    ∙ by-test (eqb n systemNumber) (λ u. ap p (cond-true _ _ u) ∙ system) (λ u. ap p (cond-false _ _ u) ∙ other)))
+
+-- the three bytes of a record, written out
+pub record-row : (r : Record) (v : ℕ) → v ≡ numberOf r → v / 65536 % 256 ∷ v / 256 % 256 ∷ v % 256 ∷ [] ≡ tab (encode r) recordBytes
+unfolding tab encode highByte
+record-row r v e = rw (← e, div-one v)
+
+-- ---- a record that may not stand at its block, by the kinds
+
+module _ (b : ℕ) where
+  pub fault-free : eqb b 0 ≡ recordFault b Free
+  unfolding recordFault isSystem isOther
+  fault-free = by-test (eqb b 0) (λ e. rw e) (λ e. rw e)
+
+  pub fault-system : not (eqb b 0) ≡ recordFault b System
+  unfolding recordFault isSystem isOther
+  fault-system = by-test (eqb b 0) (λ e. rw e) (λ e. rw e)
+
+  pub fault-file : (f s : ℕ) → eqb b 0 ≡ recordFault b (File f s)
+  unfolding recordFault isSystem isOther
+  fault-file f s = by-test (eqb b 0) (λ e. rw e) (λ e. rw e)
+
+  pub fault-other : true ≡ recordFault b Other
+  unfolding recordFault isSystem isOther
+  fault-other = by-test (eqb b 0) (λ e. rw e) (λ e. rw e)

@@ -1,0 +1,159 @@
+// Map records: their numbers and bytes, and every question that is asked of one. A record's number has 24 bits, 12 of
+// file and 12 of sequence; those from FILE_NUMBERS on say other kinds.
+ghost use mathlib.Core.Path.{_≡_};
+ghost use Prim.Native.Nat.{_≤_, _<_};
+ghost use Rattle.laws.specs.Tab.{tab};
+ghost use Rattle.file_rules.specs.Sizes.{recordBytes};
+ghost use Rattle.file_rules.specs.Map.{decode, numberOf, encode, isFree, bears, isPart};
+ghost use Rattle.file_rules.specs.Check.{recordFault};
+ghost use Rattle.files.specs.Laws.Loading.Parts.{partOf};
+ghost use Rattle.files.specs.Laws.Judging.Sound.{Bearer};
+use file_rules::MapRecord;
+use file_rules::Record;
+use sectors::Geometry;
+
+// The numbers of records that bear a file are below this; those of a free record, of the system's, and of none of the
+// kinds.
+const FILE_NUMBERS: u32 = 0xF8_0000;
+
+const FREE: u32 = 0xFD_FFFF;
+
+const SYSTEM: u32 = 0xF8_0000;
+
+const OTHER: u32 = 0xFF_FFFF;
+
+// How many sequences, and file numbers, 12 bits have; no file has the last as its number.
+const SEQUENCES: u32 = 4096;
+
+pub const NO_FILE: usize = SEQUENCES as usize;
+
+// What is told of a record that is a later part of a file than those asked for, and of one that is no part of it.
+pub const LATER: usize = Geometry::BLOCKS;
+
+const ELSEWHERE: usize = Geometry::BLOCKS + 1;
+
+// What a number says.
+pub fn record_of(n: u32) -> Record
+    ensures { λ r. ⌜ r ≡ decode n ⌝ }
+{
+    if n < FILE_NUMBERS {
+        return Record::File((n / SEQUENCES) as u16, (n % SEQUENCES) as u16);
+    }
+    if n == FREE {
+        return Record::Free;
+    }
+    if n == SYSTEM {
+        return Record::System;
+    }
+    Record::Other
+}
+
+// The number of a record.
+pub fn number_of(r: Record) -> u32
+    ensures { λ n. ⌜ n ≡ numberOf r ⌝ }
+{
+    match r {
+        Record::Free => FREE,
+        Record::System => SYSTEM,
+        Record::File(f, s) => f as u32 * SEQUENCES + s as u32,
+        Record::Other => OTHER,
+    }
+}
+
+// The three bytes of a record.
+pub fn record_bytes(r: Record) -> [u8; 3]
+    ensures { λ b. ⌜ b ≡ tab (encode r) recordBytes ⌝ }
+{
+    let n = number_of(r);
+    [
+        (n / 65536 % 256) as u8,
+        (n / 256 % 256) as u8,
+        (n % 256) as u8,
+    ]
+}
+
+// Whether a record is free.
+pub fn is_free(r: Record) -> bool
+    ensures { λ a. ⌜ a ≡ isFree r ⌝ }
+{
+    match r {
+        Record::Free => true,
+        Record::System => false,
+        Record::File(_, _) => false,
+        Record::Other => false,
+    }
+}
+
+// Whether a record bears file f.
+pub fn bears_file(r: Record, f: usize) -> bool
+    ensures { λ a. ⌜ a ≡ bears f r ⌝ }
+{
+    match r {
+        Record::Free => false,
+        Record::System => false,
+        Record::File(g, _) => g as usize == f,
+        Record::Other => false,
+    }
+}
+
+// The file that a record bears; NO_FILE where it bears none.
+pub fn bearer(r: Record) -> usize
+    ensures { λ g. ⌜ Bearer g r ⌝ }
+{
+    match r {
+        Record::Free => NO_FILE,
+        Record::System => NO_FILE,
+        Record::File(g, _) => {
+            if (g as usize) < NO_FILE {
+                g as usize
+            } else {
+                NO_FILE
+            }
+        }
+        Record::Other => NO_FILE,
+    }
+}
+
+// Whether a record is sequence s of file f.
+pub fn is_part(r: Record, f: usize, s: usize) -> bool
+    ensures { λ a. ⌜ a ≡ isPart f s r ⌝ }
+{
+    match r {
+        Record::Free => false,
+        Record::System => false,
+        Record::File(g, t) => (g as usize == f) & (t as usize == s),
+        Record::Other => false,
+    }
+}
+
+// Which of the first n parts of file f a record is.
+pub fn part_of(r: Record, f: usize, n: usize) -> usize
+    requires { ⌜ n ≤ 480 ⌝ }
+    ensures { λ p. ⌜ (p ≡ partOf f n r) × (p < 482) ⌝ }
+{
+    match r {
+        Record::Free => ELSEWHERE,
+        Record::System => ELSEWHERE,
+        Record::File(g, t) => {
+            if g as usize != f {
+                return ELSEWHERE;
+            }
+            if (t as usize) < n { t as usize } else { LATER }
+        }
+        Record::Other => ELSEWHERE,
+    }
+}
+
+// Whether a record may not stand at its block: block 0 is system, and no other is.
+pub fn record_fault(m: MapRecord) -> bool
+    ensures { λ r. ⌜ r ≡ recordFault (m .block .0) (m .«record») ⌝ }
+{
+    let b = m.block.0;
+    let k = m.record;
+    match k {
+        Record::Free => b == 0,
+        Record::System => b != 0,
+        Record::File(_, _) => b == 0,
+        Record::Other => true,
+    }
+}
