@@ -4,20 +4,20 @@ use mathlib.Core.Path.{_≡_, refl, sym, ap, ap₂, _∙_, subst}
 use mathlib.Core.Bool.{true}
 use mathlib.Core.List.{List, [], _∷_}
 use mathlib.Core.Option.{some}
-use Prim.Native.Nat.{ℕ, zero, suc, _-_, _*_, _≤_, _<_}
+use Prim.Native.Nat.{ℕ, zero, suc, _-_, _≤_, _<_}
 use native.Mathlib.Omega.{arith}
 use lib.Dec.{ltb}
 use lib.ListN.{length}
 use Rattle.laws.specs.Count.{count, sum}
 use Rattle.laws.specs.Order.{by-order}
-use Rattle.laws.specs.Tests.{lt-true, lt-false, eq-true, true-le, true≢false, cond-true, cond-false, isSome}
+use Rattle.laws.specs.Tests.{lt-true, lt-false, le-true, eq-true, true-le, true≢false, cond-true, cond-false, isSome}
 use Rattle.laws.specs.Truth.{by-test}
-use Rattle.sector_rules.specs.Geometry.{blocks}
+use Rattle.sector_rules.specs.Geometry.{blocks, imageBytes}
 use Rattle.sector_rules.specs.Replies.{reply, done, refusal}
 use Rattle.sector_rules.specs.declared.Reply.{Reply}
 use Rattle.file_rules.specs.declared.Record.{Record}
 use Rattle.file_rules.specs.declared.Record.the-variants.{Free, System, File, Other}
-use Rattle.file_rules.specs.Calls.{Outcome, Changed, Written, kept, refused, onSound, freshOwner, freshHeader, formatDisk, listSound, list, readSound, read, addSound, imaged, add, removeSound, remove}
+use Rattle.file_rules.specs.Calls.{Outcome, Changed, Written, kept, refused, imageRight, onSound, freshOwner, freshHeader, formatDisk, format, list, read, addSound, imaged, add, removeSound, remove}
 use Rattle.file_rules.specs.Check.{judged}
 use Rattle.file_rules.specs.Directory.{nameEq, nameRight}
 use Rattle.file_rules.specs.Arguments.{FormatArguments}
@@ -34,10 +34,16 @@ use Rattle.file_rules.specs.Laws.OnImages.Remove.{remove-inv, remove-ima
 use Rattle.file_rules.specs.Laws.Base.Whole.{Valid, with-is, with-only, with-same}
 use Rattle.file_rules.specs.Map.{isFree, isSystem}
 use Rattle.file_rules.specs.Model.{NamedFile, heldBlocks, dirBlocks, freeWord, slotOf, bytesOf, dirByte, content}
-use Rattle.file_rules.specs.Sizes.{blockBytes, nameMost}
-use Rattle.file_rules.specs.Written.{headerByte, part}
+use Rattle.file_rules.specs.Sizes.{blockBytes, nameMost, titleMost}
+use Rattle.file_rules.specs.Written.{part}
 
 -- ---- format
+
+-- an accepted format leaves a fresh disk
+pub format-done : (image : List ℕ) (args : FormatArguments) → length image ≡ imageBytes → length (args .title) ≤ titleMost
+    → format image args ≡ record { answer = done; image = imageOf (formatDisk args) }
+unfolding format imageRight
+format-done image args long short = cond-true _ _ (eq-true long) ∙ cond-true _ _ (le-true short)
 
 blank : (r : Record) (o : ℕ) → content emptySlots emptySlots r o ≡ 0
 unfolding content dirByte slotOf bytesOf part emptySlots

@@ -12,12 +12,11 @@ use Rattle.laws.specs.Count.{count}
 use Rattle.laws.specs.Numbers.{at16}
 use Rattle.laws.specs.Order.{by-order}
 use Rattle.laws.specs.Search.{lowest-low}
-use Rattle.laws.specs.Tests.{lt-true, lt-false, le-true, eq-true, true≢false, cond-true, cond-false, isSome}
+use Rattle.laws.specs.Tests.{lt-true, lt-false, true≢false, cond-true, cond-false, isSome}
 use Rattle.laws.specs.Truth.{by-test}
 use Rattle.sector_rules.specs.Geometry.{imageBytes}
 use Rattle.sector_rules.specs.Replies.{done, refusal}
-use Rattle.file_rules.specs.Calls.{Outcome, Written, kept, imageRight, freshOwner, formatDisk, format, check, deliver, read, add}
-use Rattle.file_rules.specs.Check.{judged}
+use Rattle.file_rules.specs.Calls.{Outcome, Written, kept, freshOwner, formatDisk, format, check, deliver, read, add}
 use Rattle.file_rules.specs.Directory.{nameEq, nameRight, held, dirEnd}
 use Rattle.file_rules.specs.Arguments.{FormatArguments}
 use Rattle.file_rules.specs.Disk.{Disk, diskOf, imageOf}
@@ -25,7 +24,7 @@ use Rattle.file_rules.specs.Histories.{Call, imageOut, imageOuts, imageE
 use Rattle.file_rules.specs.History.{dataFound, HasEntry, Belongs, Holds, formatted, History}
 use Rattle.file_rules.specs.Laws.InModel.Agree.{agree, fresh-listed, start-is}
 use Rattle.file_rules.specs.Laws.Base.Disk.{length-image}
-use Rattle.file_rules.specs.Laws.InnerModel.Facts.{dirEnd-is, word20, held-is, judged-none, found-slot}
+use Rattle.file_rules.specs.Laws.InnerModel.Facts.{dirEnd-is, word20, held-is, found-slot}
 use Rattle.file_rules.specs.Laws.InnerModel.Inner.{Inner, present, fileBlocks, render, emptySlots, formatM, findM, readM, ChangedM, refusedM, peakAfter, roomFor, addM, outM, outsM, endM}
 use Rattle.file_rules.specs.Laws.InnerModel.Invariant.{partsOf, Inv}
 use Rattle.file_rules.specs.Laws.FilesLeft.Left.{count-is, left-is}
@@ -33,18 +32,13 @@ use Rattle.file_rules.specs.Laws.InModel.Listed.{withOwner, Listed}
 use Rattle.file_rules.specs.Laws.FilesLeft.Present.{Fills, none-some, fills-size, fills-named, fills-not-named, fills-present, present-fills}
 use Rattle.file_rules.specs.Laws.Base.Names.{bounds-name}
 use Rattle.file_rules.specs.Laws.Base.Results.{result-is}
-use Rattle.file_rules.specs.Laws.OnImages.Run.{format-is, format-inv, img-disk, img-sound, out-is, runs, end-inv}
+use Rattle.file_rules.specs.Laws.OnImages.Run.{format-done, format-is, format-inv, img-disk, img-sound, out-is, runs, end-inv}
 use Rattle.file_rules.specs.Laws.FilesLeft.Zero.{by-slot, filled-below, slot-entry, zero-outside}
 use Rattle.file_rules.specs.Model.{NamedFile, HeldFile, Model, dirBlocks, usable, freeWord, modelDisk, modelFormat, named, heldData}
 use Rattle.file_rules.specs.Sizes.{nameMost, titleMost}
 use Rattle.file_rules.specs.Written.{blocksFor}
 
 -- ---- the accepted format
-
-format-is-done : (old : List ℕ) (args : FormatArguments) → length old ≡ imageBytes → length (args .title) ≤ titleMost
-    → format old args ≡ record { answer = done; image = imageOf (formatDisk args) }
-unfolding format imageRight
-format-is-done old args long short = cond-true _ _ (eq-true long) ∙ cond-true _ _ (le-true short)
 
 fresh-fills : (args : FormatArguments) → Fills (formatM args .slots) []
 unfolding formatM emptySlots
@@ -204,7 +198,7 @@ module _ (args : FormatArguments) (calls : List Call) where
 
 pub history : History
 history old args calls long short =
-    let f : format old args ≡ record { answer = done; image = imageOf (formatDisk args) } = format-is-done old args long short in
+    let f : format old args ≡ record { answer = done; image = imageOf (formatDisk args) } = format-done old args long short in
     let start : formatted old args ≡ imageOf (render (formatM args)) =
     ap (λ (w : Written). w .image) f ∙ ap imageOf (format-is args) in
     let run : (imageOuts (imageOf (render (formatM args))) calls ≡ outsM (formatM args) calls)
@@ -228,7 +222,7 @@ unfolding check
 history-check old args calls long short =
     let n : Inner = endM (formatM args) calls in
     let w : Inv n = end-inv calls (formatM args) (format-inv args) in
-    let f : format old args ≡ record { answer = done; image = imageOf (formatDisk args) } = format-is-done old args long short in
+    let f : format old args ≡ record { answer = done; image = imageOf (formatDisk args) } = format-done old args long short in
     let e : imageEnd (formatted old args) calls ≡ imageOf (render n) =
     ap (λ (l : List ℕ). imageEnd l calls) (ap (λ (x : Written). x .image) f ∙ ap imageOf (format-is args))
     ∙ runs calls (formatM args) (format-inv args) .1 in

@@ -1,11 +1,13 @@
 -- `header_fault` meets its contract.
 -- Assumes nothing.
-use mathlib.Core.Path.{sym, _∙_}
+use mathlib.Core.Path.{ap, _∙_}
 use native.Mathlib.Omega.{arith}
 use borrow.Author.Needs.{needs}
+use Rattle.sector_rules.specs.Faults.{wrongAt}
 use Rattle.sector_rules.specs.Geometry.{sidePlace, backward}
+use Rattle.sectors.specs.Laws.Reading.Faults.{or-link}
 use Rattle.file_rules.specs.Check.{signature, headerFault}
-use Rattle.files.specs.Laws.Judging.Verdict.{bytes-stand}
+use Rattle.files.specs.Laws.Judging.Verdict.{bytes-fault}
 use Rattle.files.proofs.header.header_fault.Statement.{statement}
 use Rattle.files.proofs.header.header_fault.Tie as tie
 
@@ -65,7 +67,7 @@ or-fault-requires-5 c κs = search needs
 
 returns : tie.Need-returns
 unfolding headerFault signature sidePlace backward
-returns c = c .or-fault5 .ensures ∙ rw (c .before .or-fault4 .ensures, c .before .before .before .or-fault3 .ensures, c .before .before .before .before .or-fault2 .ensures, c .before .before .before .before .before .or-fault .ensures, c .before .before .before .before .before .before .before .before .before .before .before .before .before .before .before .wrong-at .ensures, c .before .before .before .before .before .before .before .before .before .before .before .before .wrong-at2 .ensures, c .before .before .before .before .before .before .before .before .before .wrong-at3 .ensures, c .before .before .before .before .before .before .wrong-at4 .ensures, c .before .before .before .before .before .before .before .before .before .before .before .word-fault .ensures, c .before .before .before .before .before .before .before .before .before .before .length-right .ensures, c .before .before .sizes-fault .ensures, c .before .before .before .before .before .before .before .before .before .before .before .before .before .before .before .before .stands-at .ensures, c .before .before .before .before .before .before .before .before .before .before .before .before .before .stands-at2 .ensures, c .before .before .before .before .before .before .before .stands-at3 .ensures, bytes-stand _ 58 backward (c .before .before .before .before .before .before .before .before .before .before .before .before .before .before .before .before .before .before .before .pre) (omega arith), bytes-stand _ 40 sidePlace (c .before .before .before .before .before .before .before .before .before .before .before .before .before .before .before .before .before .before .before .pre) (omega arith), bytes-stand _ 0 signature (c .before .before .before .before .before .before .before .before .before .before .before .before .before .before .before .before .before .before .before .pre) (omega arith))
+returns c = or-link _ _ _ _ _ (c .or-fault5 .ensures) (bytes-fault _ _ _ 0 signature (c .before .before .before .before .before .before .before .before .before .before .before .before .before .before .before .before .before .before .before .pre) (omega arith) (c .before .before .before .before .before .before .wrong-at4 .ensures) (c .before .before .before .before .before .before .before .stands-at3 .ensures)) (or-link _ _ _ _ _ (c .before .or-fault4 .ensures) (c .before .before .sizes-fault .ensures) (or-link _ _ _ _ _ (c .before .before .before .or-fault3 .ensures) (c .before .before .before .before .before .before .before .before .before .wrong-at3 .ensures ∙ ap (wrongAt 34) (c .before .before .before .before .before .before .before .before .before .before .length-right .ensures)) (or-link _ _ _ _ _ (c .before .before .before .before .or-fault2 .ensures) (c .before .before .before .before .before .before .before .before .before .before .before .word-fault .ensures) (or-link _ _ _ _ _ (c .before .before .before .before .before .or-fault .ensures) (bytes-fault _ _ _ 40 sidePlace (c .before .before .before .before .before .before .before .before .before .before .before .before .before .before .before .before .before .before .before .pre) (omega arith) (c .before .before .before .before .before .before .before .before .before .before .before .before .wrong-at2 .ensures) (c .before .before .before .before .before .before .before .before .before .before .before .before .before .stands-at2 .ensures)) (bytes-fault _ _ _ 58 backward (c .before .before .before .before .before .before .before .before .before .before .before .before .before .before .before .before .before .before .before .pre) (omega arith) (c .before .before .before .before .before .before .before .before .before .before .before .before .before .before .before .wrong-at .ensures) (c .before .before .before .before .before .before .before .before .before .before .before .before .before .before .before .before .stands-at .ensures))))))
 
 pub header-fault-spec : {M : Type 1} → statement M
 header-fault-spec =

@@ -1,7 +1,7 @@
 -- `sizes_fault` meets its contract.
 -- Assumes nothing.
-use mathlib.Core.Path.{_∙_}
 use borrow.Author.Needs.{needs}
+use Rattle.sectors.specs.Laws.Reading.Faults.{or-link}
 use Rattle.file_rules.specs.Check.{sizesFault}
 use Rattle.files.proofs.header.sizes_fault.Statement.{statement}
 use Rattle.files.proofs.header.sizes_fault.Tie as tie
@@ -41,7 +41,7 @@ or-fault-requires-5 c κs = search needs
 
 returns : tie.Need-returns
 unfolding sizesFault
-returns c = c .or-fault5 .ensures ∙ rw (c .before .or-fault4 .ensures, c .before .before .or-fault3 .ensures, c .before .before .before .or-fault2 .ensures, c .before .before .before .before .or-fault .ensures, c .before .before .before .before .before .before .before .before .before .before .word-fault .ensures, c .before .before .before .before .before .before .before .before .before .word-fault2 .ensures, c .before .before .before .before .before .before .before .before .word-fault3 .ensures, c .before .before .before .before .before .before .before .word-fault4 .ensures, c .before .before .before .before .before .before .word-fault5 .ensures, c .before .before .before .before .before .word-fault6 .ensures)
+returns c = or-link _ _ _ _ _ (c .or-fault5 .ensures) (c .before .before .before .before .before .word-fault6 .ensures) (or-link _ _ _ _ _ (c .before .or-fault4 .ensures) (c .before .before .before .before .before .before .word-fault5 .ensures) (or-link _ _ _ _ _ (c .before .before .or-fault3 .ensures) (c .before .before .before .before .before .before .before .word-fault4 .ensures) (or-link _ _ _ _ _ (c .before .before .before .or-fault2 .ensures) (c .before .before .before .before .before .before .before .before .word-fault3 .ensures) (or-link _ _ _ _ _ (c .before .before .before .before .or-fault .ensures) (c .before .before .before .before .before .before .before .before .before .word-fault2 .ensures) (c .before .before .before .before .before .before .before .before .before .before .word-fault .ensures)))))
 
 pub sizes-fault-spec : {M : Type 1} → statement M
 sizes-fault-spec =

@@ -1,20 +1,18 @@
 -- Laws of list and read: the parts of which the result is made, one after the other, and read by its cases.
 -- Assumes nothing.
 use mathlib.Core.Path.{_≡_, refl, sym, ap, ap₂, _∙_}
-use mathlib.Core.Bool.{Bool, true, false, not, cond, _&&_}
+use mathlib.Core.Bool.{true, false, cond}
 use mathlib.Core.List.{List, [], _++_}
-use mathlib.Core.Option.{Option, none, some}
 use Prim.Native.Nat.{ℕ, zero, suc, _+_, _-_, _*_, _/_, _%_, _≤_, _<_}
 use native.Mathlib.Nat.{zero-add, not-suc-le-zero}
 use native.Mathlib.Numerals.{add-one}
 use native.Mathlib.Omega.{arith}
-use lib.Dec.{leb, ltb, eqb}
 use lib.ListN.{length, getD, length-append, List·getD-append}
 use lib.Seq.{getD-append-add}
 use Rattle.laws.specs.Count.{count, count-yes, count-no}
 use Rattle.laws.specs.Overlay.{overlay, put, overlay-none, overlay-next, overlay-cong, overlay-length, put-tab}
 use Rattle.laws.specs.Tab.{tab, tab-length, elementAt}
-use Rattle.laws.specs.Tests.{by-equal, lt-true, lt-false, le-true, le-false, eq-true, eq-false, cond-true, cond-false}
+use Rattle.laws.specs.Tests.{by-equal, lt-true, lt-false, le-true, le-false, cond-true, cond-false}
 use Rattle.laws.specs.Truth.{by-test}
 use Rattle.sector_rules.specs.declared.Reply.{Reply}
 use Rattle.sector_rules.specs.Replies.{reply, refusal}

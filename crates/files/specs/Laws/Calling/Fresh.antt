@@ -12,10 +12,10 @@ use Rattle.laws.specs.Change.{patch, upd₂-same, upd₂-other, patch-in, patch
 use Rattle.laws.specs.Order.{by-order}
 use Rattle.laws.specs.Overlay.{overlay, overlay-length, overlay-in, overlay-before, overlay-after, overlay-is, overlay-all, put}
 use Rattle.laws.specs.Tab.{tab, elementAt}
-use Rattle.laws.specs.Tests.{by-equal, le-true, le-false, eq-true, eq-false, cond-true, cond-false}
+use Rattle.laws.specs.Tests.{by-equal, le-false, eq-true, eq-false, cond-true, cond-false}
 use Rattle.laws.specs.Words.{highByte}
 use Rattle.sector_rules.specs.Geometry.{tracks, sectors, blockSectors, turn, trackSectors, allSectors, blocks, imageBytes, sidePlace, backward}
-use Rattle.sector_rules.specs.Replies.{done, refusal}
+use Rattle.sector_rules.specs.Replies.{refusal}
 use Rattle.file_rules.specs.declared.Record.{Record}
 use Rattle.file_rules.specs.declared.Record.the-variants.{Free, System, File}
 use Rattle.file_rules.specs.Arguments.{FormatArguments}
@@ -28,7 +28,7 @@ use Rattle.files.specs.Laws.Writing.Steps.{Packs, overlay-tab, put-row, 
 use Rattle.files.specs.Laws.Writing.Stored.{Near, near-step, patched, patched-row}
 use Rattle.file_rules.specs.Laws.Base.Whole.{with-is}
 use Rattle.file_rules.specs.Map.{encode}
-use Rattle.file_rules.specs.Sizes.{slotBytes, mapStart, recordBytes, titleMost}
+use Rattle.file_rules.specs.Sizes.{slotBytes, mapStart, recordBytes, titleMost, freeSectors}
 use Rattle.file_rules.specs.Written.{fixedByte, headerByte, diskWith, setRecord}
 
 -- ---- the header, field by field
@@ -54,7 +54,7 @@ unfoldable pub started : List ℕ → List ℕ
 started h =
     overlay (overlay (overlay (overlay (put (put h 40 sidePlace) 58 backward)
     16 4 (highByte 4 0))
-    20 2 (highByte 2 (blockSectors * (blocks - 2))))
+    20 2 (highByte 2 (freeSectors (blocks - 2))))
     34 2 (highByte 2 0))
     36 2 (highByte 2 slotBytes)
 
@@ -76,7 +76,7 @@ header-row h₀ h₁ h₂ h₃ args e₀ e₁ e₂ e₃ =
     let c₁ = put-row h₂ 40 sidePlace trackSectors refl ∙ overlay-tab _ mapStart 40 trackSectors (λ (i : ℕ). getD sidePlace i 0) _ b₇ in
     let c₂ = put-row (put h₂ 40 sidePlace) 58 backward trackSectors refl ∙ overlay-tab _ mapStart 58 trackSectors (λ (i : ℕ). getD backward i 0) _ c₁ in
     let c₃ = overlay-tab _ mapStart 16 4 (highByte 4 0) _ c₂ in
-    let c₄ = overlay-tab _ mapStart 20 2 (highByte 2 (blockSectors * (blocks - 2))) _ c₃ in
+    let c₄ = overlay-tab _ mapStart 20 2 (highByte 2 (freeSectors (blocks - 2))) _ c₃ in
     let c₅ = overlay-tab _ mapStart 34 2 (highByte 2 0) _ c₄ in
     e₃ ∙ overlay-tab _ mapStart 36 2 (highByte 2 slotBytes) _ c₅
 
@@ -143,13 +143,13 @@ pub started-is : (h h₁ h₂ h₃ h₄ h₅ h₆ : List ℕ)
     → h₁ ≡ put h 40 sidePlace
     → h₂ ≡ put h₁ 58 backward
     → h₃ ≡ overlay h₂ 16 4 (highByte 4 0)
-    → h₄ ≡ overlay h₃ 20 2 (highByte 2 (blockSectors * (blocks - 2)))
+    → h₄ ≡ overlay h₃ 20 2 (highByte 2 (freeSectors (blocks - 2)))
     → h₅ ≡ overlay h₄ 34 2 (highByte 2 0)
     → h₆ ≡ overlay h₅ 36 2 (highByte 2 slotBytes)
     → h₆ ≡ started h
 unfolding started
 started-is h h₁ h₂ h₃ h₄ h₅ h₆ e₁ e₂ e₃ e₄ e₅ e₆ =
-    e₆ ∙ ap (λ (l : List ℕ). overlay l 36 2 (highByte 2 slotBytes)) (e₅ ∙ ap (λ (l : List ℕ). overlay l 34 2 (highByte 2 0)) (e₄ ∙ ap (λ (l : List ℕ). overlay l 20 2 (highByte 2 (blockSectors * (blocks - 2)))) (e₃ ∙ ap (λ (l : List ℕ). overlay l 16 4 (highByte 4 0)) (e₂ ∙ ap (λ (l : List ℕ). put l 58 backward) (e₁)))))
+    e₆ ∙ ap (λ (l : List ℕ). overlay l 36 2 (highByte 2 slotBytes)) (e₅ ∙ ap (λ (l : List ℕ). overlay l 34 2 (highByte 2 0)) (e₄ ∙ ap (λ (l : List ℕ). overlay l 20 2 (highByte 2 (freeSectors (blocks - 2)))) (e₃ ∙ ap (λ (l : List ℕ). overlay l 16 4 (highByte 4 0)) (e₂ ∙ ap (λ (l : List ℕ). put l 58 backward) (e₁)))))
 
 -- ---- the map, record by record
 
@@ -283,11 +283,6 @@ module _ (image : List ℕ) (args : FormatArguments) where
   unfolding format imageRight
   format-length h = cond-false _ _ (eq-false h)
 
-  module _ (e : length image ≡ imageBytes) where
-    pub format-name : titleMost < length (args .title) → format image args ≡ unwritten image (refusal 12)
-    unfolding format imageRight
-    format-name h = cond-true _ _ (eq-true e) ∙ cond-false _ _ (le-false h)
-
-    pub format-done : length (args .title) ≤ titleMost → format image args ≡ record { answer = done; image = imageOf (formatDisk args) }
-    unfolding format imageRight
-    format-done h = cond-true _ _ (eq-true e) ∙ cond-true _ _ (le-true h)
+  pub format-name : length image ≡ imageBytes → titleMost < length (args .title) → format image args ≡ unwritten image (refusal 12)
+  unfolding format imageRight
+  format-name e h = cond-true _ _ (eq-true e) ∙ cond-false _ _ (le-false h)

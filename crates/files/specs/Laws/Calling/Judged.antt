@@ -2,10 +2,10 @@
 -- Assumes nothing.
 use mathlib.Core.Path.{_≡_, refl, sym, ap, ap₂, _∙_}
 use mathlib.Core.Logic.{_≢_}
-use mathlib.Core.Bool.{Bool, true, false, not, cond, _&&_}
+use mathlib.Core.Bool.{Bool, true, false, not, _&&_}
 use mathlib.Core.List.{List}
-use mathlib.Core.Option.{none, some}
-use Prim.Native.Nat.{ℕ, suc, _+_, _-_, _*_, _/_, _%_, _≤_, _<_}
+use mathlib.Core.Option.{none}
+use Prim.Native.Nat.{ℕ, suc, _+_, _-_, _%_, _≤_, _<_}
 use native.Mathlib.Numerals.{add-one}
 use native.Mathlib.Omega.{arith}
 use lib.Dec.{leb, ltb, eqb}
@@ -20,7 +20,7 @@ use Rattle.laws.specs.Order.{by-order}
 use Rattle.laws.specs.Overlay.{put}
 use Rattle.laws.specs.Search.{lowest-le, lowest-low}
 use Rattle.laws.specs.Tab.{tab, tab-ext, getD-past}
-use Rattle.laws.specs.Tests.{lt-true, lt-false, le-false, true-le, eq-true, eq-false, true-eq, true≢false, cond-true, cond-false, and-true, and-false-left, orElse}
+use Rattle.laws.specs.Tests.{lt-true, lt-false, le-false, true-le, eq-false, true-eq, true≢false, cond-true, cond-false, and-true, and-false-left, orElse}
 use Rattle.laws.specs.Truth.{and-left, and-right, by-test}
 use Rattle.sector_rules.specs.Geometry.{blocks, imageBytes}
 use Rattle.sector_rules.specs.Replies.{reply, done, refusal}

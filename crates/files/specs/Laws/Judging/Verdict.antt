@@ -15,7 +15,7 @@ use Rattle.sector_rules.specs.declared.Fault.{Fault}
 use Rattle.sector_rules.specs.declared.Fault.the-variants.{At, Sound}
 use Rattle.sector_rules.specs.declared.Reply.{Reply}
 use Rattle.sector_rules.specs.Replies.{reply}
-use Rattle.sector_rules.specs.Faults.{refusalAt}
+use Rattle.sector_rules.specs.Faults.{wrongAt, refusalAt}
 use Rattle.sector_rules.specs.Geometry.{sectorBytes, running, imageSector}
 use Rattle.sector_rules.specs.Laws.Base.Geometry.{image-first}
 use Rattle.files.specs.declared.Verdict.{Verdict}
@@ -62,12 +62,17 @@ first-place o h =
 pub first-byte : (l : List ℕ) (o : ℕ) → o < 512 → diskOf l 0 o ≡ getD l o 0
 first-byte l o h = disk-in l 0 o (omega arith) (omega arith) ∙ ap (λ (i : ℕ). getD l i 0) (first-place o h)
 
-pub bytes-stand : (l : List ℕ) (o : ℕ) (xs : List ℕ) → 512 ≤ length l → o + length xs ≤ 512 → standsAt l o xs ≡ bytesAre (diskOf l 0) o xs
+bytes-stand : (l : List ℕ) (o : ℕ) (xs : List ℕ) → 512 ≤ length l → o + length xs ≤ 512 → standsAt l o xs ≡ bytesAre (diskOf l 0) o xs
 unfolding standsAt bytesAre
 bytes-stand l o xs h k =
     ap₂ (λ (x : Bool) (y : List ℕ). x && same y xs)
     (le-true {a = o + length xs} {b = length l} (omega arith))
     (tab-ext (λ (i : ℕ). getD l (o + i) 0) (λ (i : ℕ). diskOf l 0 (o + i)) (length xs) (λ i b. sym (first-byte l (o + i) (omega arith))))
+
+-- a field of fixed bytes, as the code judges it
+pub bytes-fault : (f : Fault) (right : Bool) (l : List ℕ) (o : ℕ) (xs : List ℕ) → 512 ≤ length l → o + length xs ≤ 512
+    → f ≡ wrongAt o right → right ≡ standsAt l o xs → f ≡ wrongAt o (bytesAre (diskOf l 0) o xs)
+bytes-fault f right l o xs h k e q = e ∙ ap (wrongAt o) (q ∙ bytes-stand l o xs h k)
 
 -- ---- refusal 8
 
