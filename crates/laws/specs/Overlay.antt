@@ -131,27 +131,35 @@ put-tab d at g n =
     rw (tab-length g n) (overlay-cong d at n (elementAt (tab g n) 0) g (λ k h. rw zero-add (tab-in g n k h)))
 
 -- a row that goes on where the last one ended
-pub overlay-next : (d : List ℕ) (a n : ℕ) (f g : ℕ → ℕ) (out : List ℕ) → out ≡ overlay d 0 a g → ((k : ℕ) → k < n → f k ≡ g (a + k))
-    → overlay out a n f ≡ overlay d 0 (a + n) g
-overlay-next d a n f g out e same =
-    overlay-is d 0 (a + n) g (overlay out a n f) (overlay-length out a n f ∙ long) in-new (λ k h. absurd (omega arith)) in-high
+pub overlay-on : (d : List ℕ) (at a n : ℕ) (f g : ℕ → ℕ) (out : List ℕ) → out ≡ overlay d at a g → ((k : ℕ) → k < n → f k ≡ g (a + k))
+    → overlay out (at + a) n f ≡ overlay d at (a + n) g
+overlay-on d at a n f g out e same =
+    overlay-is d at (a + n) g (overlay out (at + a) n f) (overlay-length out (at + a) n f ∙ long) in-new in-low in-high
   where
     long : length out ≡ length d
-    long = rw e (overlay-length d 0 a g)
+    long = rw e (overlay-length d at a g)
 
-    old : (k : ℕ) → getD out k 0 ≡ getD (overlay d 0 a g) k 0
+    old : (k : ℕ) → getD out k 0 ≡ getD (overlay d at a g) k 0
     old k = ap (λ (l : List ℕ). getD l k 0) e
 
-    in-high : (k : ℕ) → 0 + (a + n) ≤ k → getD (overlay out a n f) k 0 ≡ getD d k 0
-    in-high k h = overlay-after out a n f k (omega arith) ∙ old k ∙ overlay-after d 0 a g k (omega arith)
+    in-low : (k : ℕ) → k < at → getD (overlay out (at + a) n f) k 0 ≡ getD d k 0
+    in-low k h = overlay-before out (at + a) n f k (omega arith) ∙ old k ∙ overlay-before d at a g k h
 
-    in-new : (k : ℕ) → 0 ≤ k → k < 0 + (a + n) → k < length d → getD (overlay out a n f) k 0 ≡ g (k - 0)
+    in-high : (k : ℕ) → at + (a + n) ≤ k → getD (overlay out (at + a) n f) k 0 ≡ getD d k 0
+    in-high k h = overlay-after out (at + a) n f k (omega arith) ∙ old k ∙ overlay-after d at a g k (omega arith)
+
+    in-new : (k : ℕ) → at ≤ k → k < at + (a + n) → k < length d → getD (overlay out (at + a) n f) k 0 ≡ g (k - at)
     in-new k h l b =
-        by-order k a
-        (λ m. overlay-before out a n f k m ∙ old k ∙ overlay-in d 0 a g k (omega arith) (omega arith) b)
+        by-order k (at + a)
+        (λ m. overlay-before out (at + a) n f k m ∙ old k ∙ overlay-in d at a g k h m b)
         (λ m.
-        let z : a + (k - a) ≡ k - 0 = omega arith in
-        overlay-in out a n f k m (omega arith) (omega (arith, long)) ∙ same (k - a) (omega arith) ∙ ap g z)
+        let z : a + (k - (at + a)) ≡ k - at = omega arith in
+        overlay-in out (at + a) n f k m (omega arith) (omega (arith, long)) ∙ same (k - (at + a)) (omega arith) ∙ ap g z)
+
+-- the same from the front
+pub overlay-next : (d : List ℕ) (a n : ℕ) (f g : ℕ → ℕ) (out : List ℕ) → out ≡ overlay d 0 a g → ((k : ℕ) → k < n → f k ≡ g (a + k))
+    → overlay out a n f ≡ overlay d 0 (a + n) g
+overlay-next d a n f g out e same = ap (λ (i : ℕ). overlay out i n f) (sym (zero-add a)) ∙ overlay-on d 0 a n f g out e same
 
 -- a list that is written whole
 pub overlay-all : (d : List ℕ) (n : ℕ) (g : ℕ → ℕ) → length d ≡ n → overlay d 0 n g ≡ tab g n

@@ -47,9 +47,9 @@ pub enum Found {
 
 // What a single sector gives, judged alone: the cell place of its 512 bytes, or why there are none.
 pub enum Sector {
-    Delivered(usize),
     Missing,
     Repeated,
     Fieldless,
     Damaged,
+    Delivered(usize),
 }

@@ -1,5 +1,5 @@
--- Laws that only proofs of code need. Search (Indexed, Scanned) and Judged (Judged and its instances, SectorsUnpacked) also define what contracts of private
--- functions cite.
+-- Laws that only proofs of code need. Search (Indexed, BySector, Scanned), Sides (SideGives, ImageSideGives, placedByte) and Judged (Noted, Judged, AllJudged,
+-- SectorsUnpacked) also define what contracts of functions cite.
 pub mod Reading
 pub mod Unpacking
 pub mod Packing

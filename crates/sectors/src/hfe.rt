@@ -1,7 +1,6 @@
 // The header and the track table of an HFE image.
 ghost use mathlib.Core.Path.{_≡_};
-ghost use mathlib.Core.Bool.{true};
-ghost use Prim.Native.Nat.{_+_, _<_, _≤_, _^_};
+ghost use Prim.Native.Nat.{_+_, _<_, _^_};
 ghost use lib.ListN.{length};
 ghost use Rattle.cells.specs.Stream.{hfeSide};
 ghost use Rattle.sector_rules.specs.Hfe.{trackPart, flagFault, formatFault, headerFault, entryPlace, trackStart, trackLength, trackBytes, trackGood, tableFault};

@@ -5,6 +5,7 @@ mod packing;
 mod placement;
 mod replies;
 mod search;
+mod sides;
 mod unpacking;
 mod written;
 

@@ -1,6 +1,6 @@
 // Packing a block image into an HFE image.
 ghost use mathlib.Core.Path.{_≡_};
-ghost use Prim.Native.Nat.{ℕ, _<_};
+ghost use Prim.Native.Nat.{_<_};
 ghost use lib.ListN.{length};
 ghost use Rattle.laws.specs.Tab.{tab};
 ghost use Rattle.sector_rules.specs.Geometry.{imageBytes};

@@ -1,10 +1,8 @@
 // Headers, the search for the nine sectors of a side, and data fields.
 ghost use mathlib.Core.Path.{_≡_};
-ghost use mathlib.Core.Bool.{cond};
-ghost use Prim.Native.Nat.{ℕ, _+_, _<_, _≤_, _^_};
-ghost use lib.ListN.{length, getD};
+ghost use Prim.Native.Nat.{_+_, _<_, _^_};
 ghost use Rattle.cells.specs.Stream.{stream, from};
-ghost use Rattle.sector_rules.specs.Search.{crcHolds, headerOf, belongs, findSector, fieldAt, fieldOf, sectorFound};
+ghost use Rattle.sector_rules.specs.Search.{crcHolds, headerOf, fieldAt, fieldOf, sectorFound};
 ghost use Rattle.sector_rules.specs.Laws.Base.Search.{moreFound};
 ghost use Rattle.sectors.specs.Laws.Reading.Search.{Indexed, Scanned};
 use crate::Geometry;
@@ -92,10 +90,10 @@ fn sector_index(header: Header, track: u8, head: u8) -> usize
 }
 
 // The search's answer for each of the nine sectors of a side: each place is tried once.
-pub fn scan(part: &[u8], side: Side, track: u8, head: u8) -> [Found; 9]
+pub fn scan(part: &[u8], side: Side, track: u8, head: u8) -> [Found; Geometry::SECTORS]
     ensures { λ r. ⌜ Scanned r (stream (now (part .entry)) side) track head ⌝ }
 {
-    let mut found = [Found::Nothing; 9];
+    let mut found = [Found::Nothing; Geometry::SECTORS];
     let places = cells::cells_from(side, 0);
     for i in 0..places {
         let k = sector_index(header_at(part, side, i), track, head);

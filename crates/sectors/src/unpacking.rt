@@ -1,18 +1,14 @@
 // Unpacking an HFE image: all sectors are judged before the first byte is written.
 ghost use mathlib.Core.Path.{_≡_};
-ghost use Prim.Native.Nat.{ℕ, _+_, _*_, _<_, _≤_, _^_};
-ghost use lib.ListN.{length, getD};
-ghost use Rattle.laws.specs.Overlay.{overlay};
+ghost use Prim.Native.Nat.{_+_, _*_, _<_};
+ghost use lib.ListN.{length};
 ghost use Rattle.laws.specs.Tab.{tab};
-ghost use Rattle.cells.specs.Stream.{stream};
-ghost use Rattle.sector_rules.specs.Geometry.{imageBytes};
+ghost use Rattle.sector_rules.specs.Geometry.{tracks, sides, sectors, allSectors, imageBytes};
 ghost use Rattle.sector_rules.specs.Hfe.{tableFault};
 ghost use Rattle.sector_rules.specs.Replies.{reply};
-ghost use Rattle.sector_rules.specs.Search.{sectorByte};
-ghost use Rattle.sector_rules.specs.Unpacked.{trackOf, sideOf, rOf, isBad, sectorAt, sectorReply, sectorsReply, unpackedByte, unpackReply, unpackImage};
-ghost use Rattle.sectors.specs.Laws.Reading.Search.{Scanned};
+ghost use Rattle.sector_rules.specs.Unpacked.{trackOf, sideOf, rOf, isBad, sectorReply, unpackedByte, unpackReply, unpackImage};
 ghost use Rattle.sector_rules.specs.Laws.Base.Unpacked.{placeOf};
-ghost use Rattle.sectors.specs.Laws.Unpacking.Judged.{FoundJudged, SideJudged, AllJudged, SectorsUnpacked};
+ghost use Rattle.sectors.specs.Laws.Unpacking.Judged.{Noted, Judged, AllJudged, SectorsUnpacked};
 use crate::Geometry;
 use crate::hfe::header_fault;
 use crate::hfe::table_fault;
@@ -20,11 +16,9 @@ use crate::hfe::track_part;
 use crate::hfe::track_side;
 use crate::replies::done;
 use crate::replies::refused;
-use crate::search::scan;
-use crate::search::sector_found;
-use cells::Side;
+use crate::sides::image_side;
+use crate::sides::write_side;
 use sector_rules::Fault;
-use sector_rules::Found;
 use sector_rules::Reply;
 use sector_rules::Sector;
 
@@ -56,66 +50,9 @@ fn place_of(sector: Sector) -> usize
     }
 }
 
-// Judges nine sectors by the search's answers, and notes the places of their bytes from `at` on.
-fn judge_found(part: &[u8], side: Side, found: [Found; 9], places: &mut [usize], at: usize) -> Fault
-    requires { ⌜ (length (now places) ≡ 1440) × (at + 9 ≤ 1440) ⌝ }
-    ensures { λ r. ⌜ FoundJudged (stream (now (part .entry)) side) found (now (places .entry)) (now (places .exit)) at r ⌝ }
-{
-    for k in 0..Geometry::SECTORS {
-        let f = found[k];
-        let sector = sector_found(part, side, f);
-        if is_bad(sector) {
-            return Fault::At(at + k);
-        }
-        places[at + k] = place_of(sector);
-    }
-    Fault::Sound
-}
-
-// Judges the nine sectors of the n-th side of the disk.
-fn judge_side(hfe: &[u8], n: usize, places: &mut [usize]) -> Fault
-    requires { ⌜ (tableFault (now hfe) ≡ Fault.Sound) × (n < 160) × (length (now places) ≡ 1440) ⌝ }
-    ensures { λ r. ⌜ SideJudged (now (hfe .entry)) n (now (places .entry)) (now (places .exit)) r ⌝ }
-{
-    let track = n / Geometry::SIDES;
-    let head = n % Geometry::SIDES;
-    let part = track_part(hfe, track);
-    let side = track_side(hfe, track, head);
-    let found = scan(part, side, track as u8, head as u8);
-    judge_found(part, side, found, places, Geometry::SECTORS * n)
-}
-
-// The lowest bad sector of the disk; where there is none, `places` has the places of all sectors' bytes.
-fn judge_all(hfe: &[u8], places: &mut [usize]) -> Fault
-    requires { ⌜ (tableFault (now hfe) ≡ Fault.Sound) × (length (now places) ≡ 1440) ⌝ }
-    ensures { λ r. ⌜ AllJudged (now (hfe .entry)) (now (places .exit)) r ⌝ }
-{
-    for n in 0..Geometry::TRACKS * Geometry::SIDES {
-        match judge_side(hfe, n, places) {
-            Fault::At(m) => return Fault::At(m),
-            Fault::Sound => {}
-        }
-    }
-    Fault::Sound
-}
-
-// What sector m gives, judged alone.
-fn judge_sector(hfe: &[u8], m: usize) -> Sector
-    requires { ⌜ (tableFault (now hfe) ≡ Fault.Sound) × (m < 1440) ⌝ }
-    ensures { λ r. ⌜ r ≡ sectorAt (now (hfe .entry)) m ⌝ }
-{
-    let track = m / Geometry::TRACK_SECTORS;
-    let head = m % Geometry::TRACK_SECTORS / Geometry::SECTORS;
-    let part = track_part(hfe, track);
-    let side = track_side(hfe, track, head);
-    let found = scan(part, side, track as u8, head as u8);
-    let f = found[m % Geometry::SECTORS];
-    sector_found(part, side, f)
-}
-
 // A refusal that names sector m by track, side and R.
 fn at_sector(number: usize, m: usize) -> Reply
-    requires { ⌜ m < 1440 ⌝ }
+    requires { ⌜ m < allSectors ⌝ }
     ensures { λ r. ⌜ r ≡ reply number (trackOf m) (sideOf m) (rOf m) ⌝ }
 {
     Reply {
@@ -128,7 +65,7 @@ fn at_sector(number: usize, m: usize) -> Reply
 
 // The reply for what sector m gives.
 fn sector_reply(m: usize, sector: Sector) -> Reply
-    requires { ⌜ m < 1440 ⌝ }
+    requires { ⌜ m < allSectors ⌝ }
     ensures { λ r. ⌜ r ≡ sectorReply m sector ⌝ }
 {
     match sector {
@@ -140,27 +77,48 @@ fn sector_reply(m: usize, sector: Sector) -> Reply
     }
 }
 
-// Writes the 512 bytes whose cells begin at place p into the image from `at` on.
-fn write_sector(part: &[u8], side: Side, p: usize, image: &mut [u8], at: usize)
-    requires { ⌜ at + 512 ≤ length (now image) ⌝ }
-    ensures { λ _. ⌜ now (image .exit) ≡ overlay (now (image .entry)) at 512 (sectorByte (stream (now (part .entry)) side) p) ⌝ }
+// Judges the nine sectors of the n-th side, where those before it are good, and notes the places of their bytes.
+fn judge_side(hfe: &[u8], n: usize, places: &mut [usize]) -> Reply
+    requires { ⌜ (tableFault (now hfe) ≡ Fault.Sound) × (n < tracks * sides) × (length (now places) ≡ allSectors) × Noted (now hfe) (now places) (sectors * n) ⌝ }
+    ensures { λ r. ⌜ Judged (now (hfe .entry)) (now (places .exit)) (sectors * (n + 1)) r ⌝ }
 {
-    for k in 0..Geometry::SECTOR_BYTES {
-        image[at + k] = cells::data_byte(part, side, p, 16 * k);
+    let gives = image_side(hfe, n);
+    for k in 0..Geometry::SECTORS {
+        let sector = gives[k];
+        let m = Geometry::SECTORS * n + k;
+        if is_bad(sector) {
+            return sector_reply(m, sector);
+        }
+        places[m] = place_of(sector);
     }
+    done()
 }
 
-// Writes all sectors' bytes, which are at these places.
-fn write_sectors(hfe: &[u8], places: &[usize], image: &mut [u8])
-    requires { ⌜ (tableFault (now hfe) ≡ Fault.Sound) × (length (now places) ≡ 1440) × (length (now image) ≡ imageBytes) × AllJudged (now hfe) (now places) Fault.Sound ⌝ }
+// Judges all sectors to the first bad one; where none is bad, `places` has the places of all sectors' bytes.
+fn judge_all(hfe: &[u8], places: &mut [usize]) -> Reply
+    requires { ⌜ (tableFault (now hfe) ≡ Fault.Sound) × (length (now places) ≡ allSectors) ⌝ }
+    ensures { λ r. ⌜ AllJudged (now (hfe .entry)) (now (places .exit)) r ⌝ }
+{
+    for n in 0..Geometry::TRACKS * Geometry::SIDES {
+        let reply = judge_side(hfe, n, places);
+        if reply.number != 0 {
+            return reply;
+        }
+    }
+    done()
+}
+
+// Writes all sectors' bytes, which are at these places, side by side.
+fn write_sides(hfe: &[u8], places: &[usize], image: &mut [u8])
+    requires { ⌜ (tableFault (now hfe) ≡ Fault.Sound) × (length (now places) ≡ allSectors) × (length (now image) ≡ imageBytes) × Noted (now hfe) (now places) allSectors ⌝ }
     ensures { λ _. ⌜ now (image .exit) ≡ tab (unpackedByte (now (hfe .entry))) imageBytes ⌝ }
 {
-    for m in 0..Geometry::ALL_SECTORS {
-        let track = m / Geometry::TRACK_SECTORS;
-        let head = m % Geometry::TRACK_SECTORS / Geometry::SECTORS;
+    for n in 0..Geometry::TRACKS * Geometry::SIDES {
+        let track = n / Geometry::SIDES;
+        let head = n % Geometry::SIDES;
         let part = track_part(hfe, track);
         let side = track_side(hfe, track, head);
-        write_sector(part, side, places[m], image, Geometry::SECTOR_BYTES * m);
+        write_side(part, side, places, Geometry::SECTORS * n, image);
     }
 }
 
@@ -170,13 +128,12 @@ fn unpack_sectors(hfe: &[u8], image: &mut [u8]) -> Reply
     ensures { λ r. ⌜ SectorsUnpacked (now (hfe .entry)) (now (image .entry)) (now (image .exit)) r ⌝ }
 {
     let mut places = [0usize; Geometry::ALL_SECTORS];
-    match judge_all(hfe, &mut places) {
-        Fault::At(m) => sector_reply(m, judge_sector(hfe, m)),
-        Fault::Sound => {
-            write_sectors(hfe, &places, image);
-            done()
-        }
+    let reply = judge_all(hfe, &mut places);
+    if reply.number != 0 {
+        return reply;
     }
+    write_sides(hfe, &places, image);
+    reply
 }
 
 // Unpacks an HFE image to a block image. A refusal leaves the block image as it was.

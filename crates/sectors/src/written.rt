@@ -1,13 +1,13 @@
 // The items of a written side.
 ghost use mathlib.Core.Path.{_≡_};
-ghost use mathlib.Core.List.{List, [], _∷_};
+ghost use mathlib.Core.List.{List, _∷_};
 ghost use Prim.Native.Nat.{ℕ, _+_, _-_, _*_, _<_, _≤_};
 ghost use lib.ListN.{length, getD};
 ghost use Rattle.cells.specs.Stream.{packed};
 ghost use Rattle.cells.specs.Written.{writtenCell, bitBefore};
 ghost use Rattle.laws.specs.Tab.{window};
 ghost use Rattle.sector_rules.specs.Geometry.{imageBytes};
-ghost use Rattle.sector_rules.specs.Packed.{fieldCrc, withCrc, headerRow, sectorItem, sectorData, imageSide};
+ghost use Rattle.sector_rules.specs.Packed.{withCrc, headerRow, sectorItem, sectorData, imageSide};
 use crate::Geometry;
 use cells::Item;
 

@@ -1,2 +1,3 @@
--- Stage 2: unpacking, sector by sector and side by side.
+-- Stage 2: unpacking, side by side.
+pub mod Sides
 pub mod Judged

@@ -1,39 +1,32 @@
 -- `judge_all` meets its contract: the sectors of the sides below n are good.
 -- Assumes nothing.
-use mathlib.Core.Path.{_≡_, _∙_}
+use mathlib.Core.Path.{_≡_}
 use Prim.Native.Nat.{_-_, _*_, _≤_}
 use native.Mathlib.Omega.{arith}
 use lib.ListN.{length}
 use borrow.Author.Needs.{needs}
-use Rattle.sector_rules.specs.declared.Fault.the-variants.{Sound}
-use Rattle.sector_rules.specs.Unpacked.{sectorAt}
-use Rattle.sectors.specs.Laws.Unpacking.Judged.{Judged, judged-none, side-more, side-stop}
+use Rattle.sector_rules.specs.Geometry.{tracks, sides, sectors, allSectors}
+use Rattle.sectors.specs.Laws.Unpacking.Judged.{Noted, noted-none, all-good}
 use Rattle.sectors.proofs.unpacking.judge_all.Statement.{statement}
 use Rattle.sectors.proofs.unpacking.judge_all.Tie as tie
 
 abbrev Inv-loop : tie.InvT-loop
-Inv-loop hfe places₀ n₀ places n = (n ≤ 160) × (length places ≡ 1440) × Judged (sectorAt hfe) places places 0 (9 * n) Sound
+Inv-loop hfe places₀ n₀ places n = (n ≤ tracks * sides) × (length places ≡ allSectors) × Noted hfe places (sectors * n)
 
 abbrev μ-loop : tie.MeasureT-loop
-μ-loop hfe places₀ n₀ places n = 160 - n
+μ-loop hfe places₀ n₀ places n = tracks * sides - n
 
 loop-holds : tie.Need-loop-holds Inv-loop μ-loop
-loop-holds c = (omega arith, c .before .before .pre .1, judged-none _ _ _)
+loop-holds c = (omega arith, c .before .before .pre .1, noted-none _ _)
 
 judge-side-requires : tie.Need-judge-side-requires Inv-loop μ-loop
 judge-side-requires c κs = search needs
-
-enum-known-m : tie.Need-enum-known-m Inv-loop μ-loop
-enum-known-m c = search needs
 
 same-length : tie.Need-same-length Inv-loop μ-loop
 same-length c = search needs
 
 returns : tie.Need-returns Inv-loop μ-loop
-returns c = side-stop _ _ _ _ (c .before .before .before .before .before .before .before .before .loop .inv .2) (omega arith) _ (rw (c .before .m .given .1) at (c .before .before .before .before .before .judge-side .ensures))
-
-enum-told : tie.Need-enum-told Inv-loop μ-loop
-enum-told c = search needs
+returns c = record { answer = c .before .before .before .before .judge-side .ensures .bad (c .if1 .taken); good = λ z. absurd (c .if1 .taken z) }
 
 add-n : tie.Need-add-n Inv-loop μ-loop
 add-n c = search needs
@@ -42,13 +35,16 @@ loop-less : tie.Need-loop-less Inv-loop μ-loop
 loop-less c = omega arith
 
 loop-again : tie.Need-loop-again Inv-loop μ-loop
-loop-again c = (omega arith, c .before .before .before .before .judge-side .ensures .long ∙ c .before .before .before .before .before .before .before .loop .inv .1, side-more _ _ _ _ (c .before .before .before .before .before .before .before .loop .inv .2) (rw (c .enum-told .given .1) at (c .before .before .before .before .judge-side .ensures)))
+loop-again c = (omega arith, search needs, c .before .before .before .before .judge-side .ensures .good (c .if1 .left))
+
+done-requires : tie.Need-done-requires Inv-loop μ-loop
+done-requires c κs = search needs
 
 same-length-2 : tie.Need-same-length-2 Inv-loop μ-loop
 same-length-2 c = search needs
 
 returns-2 : tie.Need-returns-2 Inv-loop μ-loop
-returns-2 c = let e : c .before .loop .n ≡ 160 = omega arith in rw e at (c .before .loop .inv .2)
+returns-2 c = let e : sectors * c .before .before .loop .n ≡ allSectors = omega arith in all-good _ _ (rw e at (c .before .before .loop .inv .2)) _ (c .done .ensures)
 
 pub judge-all-spec : {M : Type 1} → statement M
 judge-all-spec =
@@ -58,12 +54,11 @@ judge-all-spec =
     μ-loop
     loop-holds
     judge-side-requires
-    enum-known-m
     same-length
     returns
-    enum-told
     add-n
     loop-less
     loop-again
+    done-requires
     same-length-2
     returns-2)

@@ -1,48 +1,106 @@
--- `judge_side` meets its contract.
+-- `judge_side` meets its contract: the sectors below k are good, and the places of their bytes are noted.
 -- Assumes nothing.
-use Prim.Native.Nat.{_-_}
+use mathlib.Core.Path.{_≡_, sym, _∙_}
+use Prim.Native.Nat.{_+_, _-_, _*_, _≤_}
+use native.Mathlib.Omega.{arith}
+use lib.ListN.{length, length-set}
 use borrow.Author.Needs.{needs}
-use Rattle.sectors.specs.Laws.Unpacking.Judged.{judged-same, side-sector}
+use Rattle.sector_rules.specs.Geometry.{sectors, allSectors}
+use Rattle.sectors.specs.Laws.Unpacking.Judged.{Noted, noted-more, judged-stop, judged-good}
 use Rattle.sectors.proofs.unpacking.judge_side.Statement.{statement}
 use Rattle.sectors.proofs.unpacking.judge_side.Tie as tie
 
-track-part-requires : tie.Need-track-part-requires
-track-part-requires c κs = search needs
+abbrev Inv-loop : tie.InvT-loop
+Inv-loop hfe n places₀ gives k₀ places k = (k ≤ sectors) × (length places ≡ allSectors) × Noted hfe places (sectors * n + k)
 
-track-side-requires : tie.Need-track-side-requires
-track-side-requires c κs = search needs
+abbrev μ-loop : tie.MeasureT-loop
+μ-loop hfe n places₀ gives k₀ places k = sectors - k
 
-cast-scan : tie.Need-cast-scan
-cast-scan c = search needs
+image-side-requires : tie.Need-image-side-requires Inv-loop μ-loop
+image-side-requires c κs = search needs
 
-cast-scan-2 : tie.Need-cast-scan-2
-cast-scan-2 c = search needs
+loop-holds : tie.Need-loop-holds Inv-loop μ-loop
+loop-holds c = let e : sectors * c .before .before .before .args .n + 0 ≡ sectors * c .before .before .before .args .n = omega arith in
+    (omega arith, c .before .before .before .pre .2, rw e (c .before .before .before .pre .3))
 
-scan-requires : tie.Need-scan-requires
-scan-requires c κs = search needs
+mul-sector : tie.Need-mul-sector Inv-loop μ-loop
+mul-sector c = search needs
 
-mul-judge-found : tie.Need-mul-judge-found
-mul-judge-found c = search needs
+array-copy-out-sector : tie.Need-array-copy-out-sector Inv-loop μ-loop
+array-copy-out-sector c = search needs
 
-judge-found-requires : tie.Need-judge-found-requires
-judge-found-requires c κs = search needs
+mul-m : tie.Need-mul-m Inv-loop μ-loop
+mul-m c = search needs
 
-same-length : tie.Need-same-length
+add-m : tie.Need-add-m Inv-loop μ-loop
+add-m c = search needs
+
+is-bad-requires : tie.Need-is-bad-requires Inv-loop μ-loop
+is-bad-requires c κs = search needs
+
+sector-reply-requires : tie.Need-sector-reply-requires Inv-loop μ-loop
+sector-reply-requires c κs = search needs
+
+same-length : tie.Need-same-length Inv-loop μ-loop
 same-length c = search needs
 
-returns : tie.Need-returns
-returns c = judged-same _ _ _ _ _ _ _ (side-sector _ _ _ _ _ (c .before .before .before .before .before .before .track-part .ensures) (c .before .before .before .before .before .track-side .ensures) (c .before .before .before .before .scan .ensures)) (c .before .before .judge-found .ensures)
+returns : tie.Need-returns Inv-loop μ-loop
+returns c = judged-stop _ _ _ (c .before .before .before .before .before .loop .inv .2) _ (c .before .before .before .before .before .before .image-side .ensures .each (c .before .before .before .before .before .loop .k) (omega arith)) (omega arith) (sym (c .before .before .is-bad .ensures) ∙ c .before .if1 .taken) _ _ (c .sector-reply .ensures)
+
+place-of-requires : tie.Need-place-of-requires Inv-loop μ-loop
+place-of-requires c κs = search needs
+
+mul-places : tie.Need-mul-places Inv-loop μ-loop
+mul-places c = search needs
+
+slice-write-places : tie.Need-slice-write-places Inv-loop μ-loop
+slice-write-places c = search needs
+
+add-k : tie.Need-add-k Inv-loop μ-loop
+add-k c = search needs
+
+loop-less : tie.Need-loop-less Inv-loop μ-loop
+loop-less c = omega arith
+
+loop-again : tie.Need-loop-again Inv-loop μ-loop
+loop-again c = (
+  omega arith,
+  simp length-set (c .before .before .before .before .before .loop .inv .1),
+  rw (c .place-of .ensures) (noted-more _ _ (sectors * c .before .before .before .before .before .before .before .before .before .args .n + c .before .before .before .before .before .loop .k) (c .before .before .before .before .before .loop .inv .2) _ (c .before .before .before .before .before .before .image-side .ensures .each (c .before .before .before .before .before .loop .k) (omega arith)) (omega arith) (sym (c .before .before .is-bad .ensures) ∙ c .before .if1 .left) (sectors * c .before .before .before .before .before .before .before .before .before .args .n + (c .before .before .before .before .before .loop .k + 1)) (omega arith)),
+)
+
+done-requires : tie.Need-done-requires Inv-loop μ-loop
+done-requires c κs = search needs
+
+same-length-2 : tie.Need-same-length-2 Inv-loop μ-loop
+same-length-2 c = search needs
+
+returns-2 : tie.Need-returns-2 Inv-loop μ-loop
+returns-2 c = let e : sectors * c .before .before .before .before .before .before .args .n + c .before .before .loop .k ≡ sectors * (c .before .before .before .before .before .before .args .n + 1) = omega arith in
+    judged-good _ _ _ (rw e at (c .before .before .loop .inv .2)) _ (c .done .ensures)
 
 pub judge-side-spec : {M : Type 1} → statement M
 judge-side-spec =
     tie.close
     (tie.spec
-    track-part-requires
-    track-side-requires
-    cast-scan
-    cast-scan-2
-    scan-requires
-    mul-judge-found
-    judge-found-requires
+    Inv-loop
+    μ-loop
+    image-side-requires
+    loop-holds
+    mul-sector
+    array-copy-out-sector
+    mul-m
+    add-m
+    is-bad-requires
+    sector-reply-requires
     same-length
-    returns)
+    returns
+    place-of-requires
+    mul-places
+    slice-write-places
+    add-k
+    loop-less
+    loop-again
+    done-requires
+    same-length-2
+    returns-2)

@@ -75,10 +75,14 @@ module _ (t s : ℕ) where
       and-none true = refl
       and-none false = refl
 
--- the answers for the nine sectors of a side, R from 1
-pub record Scanned (r : List Found) (c : List ℕ) (t s : ℕ) : Type 0 where
+-- an answer for each of the nine sectors of a side, R from 1
+pub record BySector {A : Type 0} (none : A) (r : List A) (give : ℕ → A) : Type 0 where
   pub long : length r ≡ sectors
-  pub each : (k : ℕ) → k < sectors → getD r k Nothing ≡ findSector c t s (k + 1)
+  pub each : (k : ℕ) → k < sectors → getD r k none ≡ give k
+
+-- the search's answers
+abbrev pub Scanned : List Found → List ℕ → ℕ → ℕ → Type 0
+Scanned r c t s = BySector Nothing r (λ (k : ℕ). findSector c t s (k + 1))
 
 -- the answers after one more place
 module _ (c : List ℕ) (t s i r : ℕ) (header : Header) (is : header ≡ headerOf (from c i)) (x : Indexed r header t s) where

@@ -8,8 +8,8 @@ use borrow.Author.Needs.{needs}
 use Rattle.laws.specs.Overlay.{overlay, overlay-none, overlay-more}
 use Rattle.cells.specs.Stream.{stream}
 use Rattle.sector_rules.specs.Search.{sectorByte}
-use Rattle.sectors.proofs.unpacking.write_sector.Statement.{statement}
-use Rattle.sectors.proofs.unpacking.write_sector.Tie as tie
+use Rattle.sectors.proofs.sides.write_sector.Statement.{statement}
+use Rattle.sectors.proofs.sides.write_sector.Tie as tie
 
 abbrev Inv-loop : tie.InvT-loop
 Inv-loop part side p image₀ at k₀ image k = (k ≤ 512) × (length image ≡ length image₀) × (image ≡ overlay image₀ at k (sectorByte (stream part side) p))

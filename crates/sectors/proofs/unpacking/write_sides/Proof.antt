@@ -1,0 +1,76 @@
+-- `write_sides` meets its contract: the sides below n are written.
+-- Assumes nothing.
+use mathlib.Core.Path.{_≡_, ap, _∙_}
+use Prim.Native.Nat.{ℕ, _+_, _-_, _*_, _≤_}
+use native.Mathlib.Omega.{arith}
+use lib.ListN.{length}
+use borrow.Author.Needs.{needs}
+use Rattle.laws.specs.Overlay.{overlay, overlay-none, overlay-next, overlay-all, overlay-length}
+use Rattle.sector_rules.specs.Geometry.{tracks, sides, sectors, sectorBytes, imageBytes}
+use Rattle.sector_rules.specs.Unpacked.{unpackedByte}
+use Rattle.sectors.specs.Laws.Unpacking.Sides.{side-byte}
+use Rattle.sectors.proofs.unpacking.write_sides.Statement.{statement}
+use Rattle.sectors.proofs.unpacking.write_sides.Tie as tie
+
+abbrev Inv-loop : tie.InvT-loop
+Inv-loop hfe places image₀ n₀ image n = (n ≤ tracks * sides) × (length image ≡ imageBytes) × (image ≡ overlay image₀ 0 (sectorBytes * (sectors * n)) (unpackedByte hfe))
+
+abbrev μ-loop : tie.MeasureT-loop
+μ-loop hfe places image₀ n₀ image n = tracks * sides - n
+
+loop-holds : tie.Need-loop-holds Inv-loop μ-loop
+loop-holds c = (omega arith, c .before .before .before .pre .2, overlay-none _ _ _)
+
+track-part-requires : tie.Need-track-part-requires Inv-loop μ-loop
+track-part-requires c κs = search needs
+
+track-side-requires : tie.Need-track-side-requires Inv-loop μ-loop
+track-side-requires c κs = search needs
+
+mul-write-side : tie.Need-mul-write-side Inv-loop μ-loop
+mul-write-side c = search needs
+
+write-side-requires : tie.Need-write-side-requires Inv-loop μ-loop
+write-side-requires c κs = search needs
+
+add-n : tie.Need-add-n Inv-loop μ-loop
+add-n c = search needs
+
+loop-less : tie.Need-loop-less Inv-loop μ-loop
+loop-less c = omega arith
+
+loop-again : tie.Need-loop-again Inv-loop μ-loop
+loop-again c = let h = c .before .before .before .before .before .before .before .before .before .before .before .args .hfe .now in
+    let n = c .before .before .before .before .before .before .before .loop .n in
+    let q : sectorBytes * (sectors * n) + sectorBytes * sectors ≡ sectorBytes * (sectors * (n + 1)) = omega arith in (
+      omega arith,
+      ap length (c .before .before .write-side .ensures) ∙ overlay-length _ _ _ _ ∙ c .before .before .before .before .before .before .before .loop .inv .1,
+      c .before .before .write-side .ensures
+          ∙ overlay-next _ (sectorBytes * (sectors * n)) (sectorBytes * sectors) _ (unpackedByte h) _ (c .before .before .before .before .before .before .before .loop .inv .2)
+          (side-byte h n _ _ (c .before .before .before .before .before .track-part .ensures) (c .before .before .before .before .track-side .ensures) _ (c .before .before .before .before .before .before .before .before .before .before .before .pre .3 .each) (omega arith))
+          ∙ ap (λ (j : ℕ). overlay (c .before .before .before .before .before .before .before .before .before .before .before .args .image .now) 0 j (unpackedByte h)) q,
+    )
+
+same-length : tie.Need-same-length Inv-loop μ-loop
+same-length c = search needs
+
+returns : tie.Need-returns Inv-loop μ-loop
+returns c = let e : sectorBytes * (sectors * c .before .loop .n) ≡ imageBytes = omega arith in
+    c .before .loop .inv .2 ∙ rw e (overlay-all _ _ _ (c .before .before .before .before .before .pre .2))
+
+pub write-sides-spec : {M : Type 1} → statement M
+write-sides-spec =
+    tie.close
+    (tie.spec
+    Inv-loop
+    μ-loop
+    loop-holds
+    track-part-requires
+    track-side-requires
+    mul-write-side
+    write-side-requires
+    add-n
+    loop-less
+    loop-again
+    same-length
+    returns)

@@ -1,0 +1,99 @@
+-- One side: what its nine sectors give, and their bytes as they are written into the image.
+-- Assumes nothing.
+use mathlib.Core.List.{List}
+use mathlib.Core.Path.{_≡_, sym, _∙_}
+use Prim.Native.Nat.{ℕ, _+_, _*_, _/_, _%_, _<_}
+use native.Mathlib.Omega.{arith}
+use lib.ListN.{length, getD, set}
+use lib.Seq.{getD-set-same, getD-set-other}
+use Rattle.laws.specs.Overlay.{overlay, overlay-on}
+use Rattle.laws.specs.Tab.{tab-in}
+use Rattle.laws.specs.Tests.{by-equal}
+use Rattle.cells.specs.Stream.{stream, hfeSide}
+use Rattle.cells.specs.declared.Side.{Side}
+use Rattle.sector_rules.specs.declared.Found.{Found}
+use Rattle.sector_rules.specs.declared.Found.the-variants.{Nothing}
+use Rattle.sector_rules.specs.declared.Sector.{Sector}
+use Rattle.sector_rules.specs.declared.Sector.the-variants.{Delivered, Missing}
+use Rattle.sector_rules.specs.Geometry.{tracks, sides, sectors, sectorBytes}
+use Rattle.sector_rules.specs.Search.{sectorFound, sectorOf, sectorByte, bytesOf}
+use Rattle.sector_rules.specs.Hfe.{trackLength, trackPart, sideStream}
+use Rattle.sector_rules.specs.Unpacked.{trackOf, sideOf, sectorBytesAt, sectorAt, unpackedByte}
+use Rattle.sectors.specs.Laws.Reading.Search.{BySector, Scanned}
+
+-- what the nine sectors of a side with the cells c give
+abbrev pub SideGives : List Sector → List ℕ → ℕ → ℕ → Type 0
+SideGives r c t s = BySector Missing r (λ (k : ℕ). sectorOf c t s (k + 1))
+
+-- what the nine sectors of the n-th side of an HFE image give
+abbrev pub ImageSideGives : List Sector → List ℕ → ℕ → Type 0
+ImageSideGives r h n = BySector Missing r (λ (k : ℕ). sectorAt h (sectors * n + k))
+
+-- byte k of sectors that stand one after another, whose bytes are at the places from at on
+unfoldable pub placedByte : List ℕ → List ℕ → ℕ → ℕ → ℕ
+placedByte c places at k = sectorByte c (getD places (at + k / sectorBytes) 0) (k % sectorBytes)
+
+-- ---- what the sectors give
+
+-- one more answer
+pub gives-more : (r : List Sector) (give : ℕ → Sector) (k : ℕ) (v : Sector) → k < length r
+    → ((j : ℕ) → j < k → getD r j Missing ≡ give j) → v ≡ give k → (j : ℕ) → j < k + 1 → getD (set r k v) j Missing ≡ give j
+gives-more r give k v l old e j h =
+    by-equal j k
+    (λ (q : j ≡ k). rw q (getD-set-same r k v Missing l ∙ e))
+    (λ (q : j ≡ k → ⊥). getD-set-other r k j v Missing q ∙ old j (omega arith))
+
+-- the search's answer gives what the sector gives
+pub found-gives : (found : List Found) (c : List ℕ) (t s k : ℕ) → Scanned found c t s → k < sectors
+    → sectorFound c (getD found k Nothing) ≡ sectorOf c t s (k + 1)
+unfolding sectorOf
+found-gives found c t s k x h = rw (x .each k h)
+
+-- ---- the n-th side of an HFE image, by the part and the side that the code hands on
+
+module _ (h : List ℕ) (n : ℕ) (part : List ℕ) (side : Side) (is-part : part ≡ trackPart h (n / sides)) (is-side : side ≡ hfeSide (n % sides) (trackLength h (n / sides))) where
+  -- its cells are those of each of its nine sectors
+  stream-is : (k : ℕ) → k < sectors → stream part side ≡ sideStream h (trackOf (sectors * n + k)) (sideOf (sectors * n + k))
+  unfolding sideStream
+  stream-is k l =
+      let t : (sectors * n + k) / 18 ≡ n / sides = omega arith in
+      let s : (sectors * n + k) % 18 / sectors ≡ n % sides = omega arith in
+      rw (t, s, is-part, is-side)
+
+  sector-is : (k : ℕ) → k < sectors → sectorOf (stream part side) (n / sides) (n % sides) (k + 1) ≡ sectorAt h (sectors * n + k)
+  unfolding sectorAt
+  sector-is k l =
+      let t : (sectors * n + k) / 18 ≡ n / sides = omega arith in
+      let s : (sectors * n + k) % 18 / sectors ≡ n % sides = omega arith in
+      let r : (sectors * n + k) % sectors ≡ k = omega arith in
+      rw (← stream-is k l, t, s, r)
+
+  -- and what the sectors of its cells give is what they give
+  pub image-gives : (r : List Sector) → SideGives r (stream part side) (n / sides) (n % sides) → ImageSideGives r h n
+  image-gives r x = record { long = x .long; each = λ k l. x .each k l ∙ sector-is k l }
+
+  -- byte k of the side in the image
+  pub side-byte : (places : List ℕ) → ((m : ℕ) → m < tracks * sides * sectors → sectorAt h m ≡ Delivered (getD places m 0)) → n < tracks * sides
+      → (k : ℕ) → k < sectorBytes * sectors → placedByte (stream part side) places (sectors * n) k ≡ unpackedByte h (sectorBytes * (sectors * n) + k)
+  unfolding unpackedByte sectorBytesAt bytesOf placedByte
+  side-byte places noted b k l =
+      let m : (sectorBytes * (sectors * n) + k) / sectorBytes ≡ sectors * n + k / sectorBytes = omega arith in
+      let o : (sectorBytes * (sectors * n) + k) % sectorBytes ≡ k % sectorBytes = omega arith in
+      rw (m, o, noted (sectors * n + k / sectorBytes) (omega arith), stream-is (k / sectorBytes) (omega arith))
+      (sym (tab-in (sectorByte (sideStream h (trackOf (sectors * n + k / sectorBytes)) (sideOf (sectors * n + k / sectorBytes))) (getD places (sectors * n + k / sectorBytes) 0)) sectorBytes (k % sectorBytes) (omega arith)))
+
+-- ---- one more sector of a side is written
+
+pub side-more : (c places d out : List ℕ) (at k : ℕ) → out ≡ overlay d (sectorBytes * at) (sectorBytes * k) (placedByte c places at)
+    → overlay out (sectorBytes * (at + k)) sectorBytes (sectorByte c (getD places (at + k) 0))
+    ≡ overlay d (sectorBytes * at) (sectorBytes * (k + 1)) (placedByte c places at)
+unfolding placedByte
+side-more c places d out at k e =
+    let a : sectorBytes * (at + k) ≡ sectorBytes * at + sectorBytes * k = omega arith in
+    let b : sectorBytes * (k + 1) ≡ sectorBytes * k + sectorBytes = omega arith in
+    rw (a, b)
+    (overlay-on d (sectorBytes * at) (sectorBytes * k) sectorBytes (sectorByte c (getD places (at + k) 0)) (placedByte c places at) out e
+    (λ j l.
+    let q : (sectorBytes * k + j) / sectorBytes ≡ k = omega arith in
+    let r : (sectorBytes * k + j) % sectorBytes ≡ j = omega arith in
+    rw (q, r)))

@@ -1,0 +1,64 @@
+// One side of a track: what its nine sectors give, and the bytes of those that are delivered.
+ghost use mathlib.Core.Path.{_≡_};
+ghost use Prim.Native.Nat.{_+_, _*_, _<_, _≤_};
+ghost use lib.ListN.{length};
+ghost use Rattle.laws.specs.Overlay.{overlay};
+ghost use Rattle.cells.specs.Stream.{stream};
+ghost use Rattle.sector_rules.specs.Geometry.{tracks, sides, sectors, sectorBytes, allSectors, imageBytes};
+ghost use Rattle.sector_rules.specs.Hfe.{tableFault};
+ghost use Rattle.sector_rules.specs.Search.{sectorByte};
+ghost use Rattle.sectors.specs.Laws.Unpacking.Sides.{SideGives, ImageSideGives, placedByte};
+use crate::Geometry;
+use crate::hfe::track_part;
+use crate::hfe::track_side;
+use crate::search::scan;
+use crate::search::sector_found;
+use cells::Side;
+use sector_rules::Fault;
+use sector_rules::Sector;
+
+// What the nine sectors of a side give, each judged alone, R from 1.
+pub fn side_sectors(part: &[u8], side: Side, track: u8, head: u8) -> [Sector; Geometry::SECTORS]
+    ensures { λ r. ⌜ SideGives r (stream (now (part .entry)) side) track head ⌝ }
+{
+    let found = scan(part, side, track, head);
+    let mut gives = [Sector::Missing; Geometry::SECTORS];
+    for k in 0..Geometry::SECTORS {
+        let f = found[k];
+        gives[k] = sector_found(part, side, f);
+    }
+    gives
+}
+
+// What the nine sectors of the n-th side of an HFE image give: image sectors 9n to 9n + 8.
+pub fn image_side(hfe: &[u8], n: usize) -> [Sector; Geometry::SECTORS]
+    requires { ⌜ (tableFault (now hfe) ≡ Fault.Sound) × (n < tracks * sides) ⌝ }
+    ensures { λ r. ⌜ ImageSideGives r (now (hfe .entry)) n ⌝ }
+{
+    let track = n / Geometry::SIDES;
+    let head = n % Geometry::SIDES;
+    let part = track_part(hfe, track);
+    let side = track_side(hfe, track, head);
+    side_sectors(part, side, track as u8, head as u8)
+}
+
+// Writes the 512 bytes whose cells begin at place p into the image from `at` on.
+fn write_sector(part: &[u8], side: Side, p: usize, image: &mut [u8], at: usize)
+    requires { ⌜ at + sectorBytes ≤ length (now image) ⌝ }
+    ensures { λ _. ⌜ now (image .exit) ≡ overlay (now (image .entry)) at sectorBytes (sectorByte (stream (now (part .entry)) side) p) ⌝ }
+{
+    for k in 0..Geometry::SECTOR_BYTES {
+        image[at + k] = cells::data_byte(part, side, p, 16 * k);
+    }
+}
+
+// Writes nine sectors of a side, whose bytes are at the places from `at` on, as image sectors from `at` on.
+pub fn write_side(part: &[u8], side: Side, places: &[usize], at: usize, image: &mut [u8])
+    requires { ⌜ (length (now places) ≡ allSectors) × (at + sectors ≤ allSectors) × (length (now image) ≡ imageBytes) ⌝ }
+    ensures { λ _. ⌜ now (image .exit) ≡ overlay (now (image .entry)) (sectorBytes * at) (sectorBytes * sectors) (placedByte (stream (now (part .entry)) side) (now (places .entry)) at) ⌝ }
+{
+    for k in 0..Geometry::SECTORS {
+        let m = at + k;
+        write_sector(part, side, places[m], image, Geometry::SECTOR_BYTES * m);
+    }
+}
