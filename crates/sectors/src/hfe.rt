@@ -11,7 +11,7 @@ use cells::Side;
 use sector_rules::Fault;
 
 // The unit in which table and tracks are placed.
-const UNIT: usize = 512;
+pub const UNIT: usize = 512;
 
 // Revision, tracks, sides, encoding and bit rate.
 fn format_fault(hfe: &[u8]) -> Fault

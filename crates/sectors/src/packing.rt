@@ -1,17 +1,20 @@
-// Packing a block image into an HFE image.
+// Packing a block image into an HFE image: from its first byte to its last.
 ghost use mathlib.Core.Path.{_≡_};
-ghost use Prim.Native.Nat.{_<_};
+ghost use Prim.Native.Nat.{_+_, _-_, _*_, _<_, _≤_, min};
 ghost use lib.ListN.{length};
+ghost use Rattle.laws.specs.Overlay.{overlay};
 ghost use Rattle.laws.specs.Tab.{tab};
-ghost use Rattle.sector_rules.specs.Geometry.{imageBytes};
-ghost use Rattle.sector_rules.specs.Packed.{headerByte, tableByte, trackByte, hfeByte, packReply, packHfe};
+ghost use Rattle.sector_rules.specs.Geometry.{tracks, sides, imageBytes};
+ghost use Rattle.sector_rules.specs.Hfe.{unitBytes};
+ghost use Rattle.sector_rules.specs.Packed.{headerByte, tableByte, hfeByte, hfeBytes, sideItems, trackUnits, firstUnit, packReply, packHfe};
+ghost use Rattle.sectors.specs.Laws.Packing.Runs.{runBytes, runItems, runByte, tracksByte};
 use crate::Geometry;
+use crate::hfe::UNIT;
 use crate::replies::done;
 use crate::replies::refused;
-use crate::written::side_byte;
+use crate::written::SIDE_ITEMS;
+use crate::written::write_items;
 use sector_rules::Reply;
-
-const UNIT: usize = 512;
 
 // Units of a track, and the unit of the first track.
 const TRACK_UNITS: usize = 49;
@@ -19,23 +22,20 @@ const TRACK_UNITS: usize = 49;
 const FIRST_UNIT: usize = 2;
 
 // Bytes of a side.
-const SIDE_BYTES: usize = 12500;
+const SIDE_BYTES: usize = 2 * SIDE_ITEMS;
 
 const HFE_BYTES: usize = UNIT * (FIRST_UNIT + TRACK_UNITS * Geometry::TRACKS);
+
+// The bytes of a unit that belong to one side, and the items that they spell.
+const RUN: usize = UNIT / Geometry::SIDES;
+
+const RUN_ITEMS: usize = RUN / 2;
 
 // What is not named is FF.
 const FILL: u8 = 0xFF;
 
-// The header up to the table offset; the rest is FF. Tracks and sides are the disk kind's.
-const HEADER: [u8; 20] = [
-    b'H',
-    b'X',
-    b'C',
-    b'P',
-    b'I',
-    b'C',
-    b'F',
-    b'E',
+// The header after the signature, up to the table offset; the rest is FF. Tracks and sides are the disk kind's.
+const HEADER_REST: [u8; 12] = [
     0x00,
     Geometry::TRACKS as u8,
     Geometry::SIDES as u8,
@@ -50,16 +50,19 @@ const HEADER: [u8; 20] = [
     0x00,
 ];
 
-// Byte k of the header.
-fn header_byte(k: usize) -> u8
-    ensures { λ x. ⌜ x ≡ headerByte k ⌝ }
+// Writes the header's unit.
+fn write_header(hfe: &mut [u8])
+    requires { ⌜ length (now hfe) ≡ hfeBytes ⌝ }
+    ensures { λ _. ⌜ now (hfe .exit) ≡ overlay (now (hfe .entry)) 0 unitBytes headerByte ⌝ }
 {
-    if k < 20 { HEADER[k] } else { FILL }
+    fields::copy_into(hfe, 0, b"HXCPICFE");
+    fields::copy_into(hfe, 8, &HEADER_REST);
+    fields::fill(hfe, 20, UNIT - 20, FILL);
 }
 
 // Byte j of the track table.
 fn table_byte(j: usize) -> u8
-    requires { ⌜ j < 512 ⌝ }
+    requires { ⌜ j < unitBytes ⌝ }
     ensures { λ x. ⌜ x ≡ tableByte j ⌝ }
 {
     if j < 4 * Geometry::TRACKS {
@@ -75,41 +78,62 @@ fn table_byte(j: usize) -> u8
     FILL
 }
 
-// Byte o of a track's units.
-fn track_byte(image: &[u8], t: usize, o: usize) -> u8
-    requires { ⌜ (length (now image) ≡ imageBytes) × (t < 80) × (o < 25088) ⌝ }
-    ensures { λ x. ⌜ x ≡ trackByte (now (image .entry)) t o ⌝ }
+// Writes the table's unit.
+fn write_table(hfe: &mut [u8])
+    requires { ⌜ length (now hfe) ≡ hfeBytes ⌝ }
+    ensures { λ _. ⌜ now (hfe .exit) ≡ overlay (now (hfe .entry)) unitBytes unitBytes tableByte ⌝ }
 {
-    let b = 256 * (o / UNIT) + o % 256;
-    if b < SIDE_BYTES {
-        return side_byte(image, t, o % UNIT / 256, b);
+    for j in 0..UNIT {
+        hfe[UNIT + j] = table_byte(j);
     }
-    FILL
 }
 
-// Byte k of the HFE image.
-fn hfe_byte(image: &[u8], k: usize) -> u8
-    requires { ⌜ (length (now image) ≡ imageBytes) × (k < 2008064) ⌝ }
-    ensures { λ x. ⌜ x ≡ hfeByte (now (image .entry)) k ⌝ }
+// How many items unit u of a track has of a side.
+fn run_items(u: usize) -> usize
+    requires { ⌜ u < trackUnits ⌝ }
+    ensures { λ n. ⌜ n ≡ min runItems (sideItems - runItems * u) ⌝ }
 {
-    if k < UNIT {
-        return header_byte(k);
+    let left = SIDE_ITEMS - RUN_ITEMS * u;
+    if RUN_ITEMS < left { RUN_ITEMS } else { left }
+}
+
+// Writes what unit u of a track has of side s, from `at` on: items, and FF after the side's last one.
+fn write_run(image: &[u8], t: usize, s: usize, u: usize, hfe: &mut [u8], at: usize)
+    requires { ⌜ (length (now image) ≡ imageBytes) × (t < tracks) × (s < sides) × (u < trackUnits) × (at + runBytes ≤ length (now hfe)) ⌝ }
+    ensures { λ _. ⌜ now (hfe .exit) ≡ overlay (now (hfe .entry)) at runBytes (runByte (now (image .entry)) t s u) ⌝ }
+{
+    let n = run_items(u);
+    write_items(image, t, s, RUN_ITEMS * u, n, hfe, at);
+    fields::fill(hfe, at + 2 * n, RUN - 2 * n, FILL);
+}
+
+// Writes the units of all tracks: 256 bytes of side 0, then 256 of side 1.
+fn write_tracks(image: &[u8], hfe: &mut [u8])
+    requires { ⌜ (length (now image) ≡ imageBytes) × (length (now hfe) ≡ hfeBytes) ⌝ }
+    ensures { λ _. ⌜ now (hfe .exit) ≡ overlay (now (hfe .entry)) (firstUnit * unitBytes) (trackUnits * tracks * unitBytes) (tracksByte (now (image .entry))) ⌝ }
+{
+    for w in 0..Geometry::SIDES * (TRACK_UNITS * Geometry::TRACKS) {
+        let unit = w / Geometry::SIDES;
+        let at = FIRST_UNIT * UNIT + RUN * w;
+        write_run(
+            image,
+            unit / TRACK_UNITS,
+            w % Geometry::SIDES,
+            unit % TRACK_UNITS,
+            hfe,
+            at,
+        );
     }
-    if k < FIRST_UNIT * UNIT {
-        return table_byte(k - UNIT);
-    }
-    let o = k - FIRST_UNIT * UNIT;
-    track_byte(image, o / (TRACK_UNITS * UNIT), o % (TRACK_UNITS * UNIT))
 }
 
 // Writes all bytes of the HFE image.
 fn write_hfe(image: &[u8], hfe: &mut [u8])
-    requires { ⌜ (length (now image) ≡ imageBytes) × (length (now hfe) ≡ 2008064) ⌝ }
-    ensures { λ _. ⌜ now (hfe .exit) ≡ tab (hfeByte (now (image .entry))) 2008064 ⌝ }
+    requires { ⌜ (length (now image) ≡ imageBytes) × (length (now hfe) ≡ hfeBytes) ⌝ }
+    ensures { λ _. ⌜ now (hfe .exit) ≡ tab (hfeByte (now (image .entry))) hfeBytes ⌝ }
 {
-    for k in 0..HFE_BYTES {
-        hfe[k] = hfe_byte(image, k);
-    }
+    write_header(hfe);
+    write_table(hfe);
+    write_tracks(image, hfe);
 }
 
 // Packs a block image into an HFE image. A refusal leaves the HFE image as it was.

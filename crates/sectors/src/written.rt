@@ -3,13 +3,17 @@ ghost use mathlib.Core.Path.{_≡_};
 ghost use mathlib.Core.List.{List, _∷_};
 ghost use Prim.Native.Nat.{ℕ, _+_, _-_, _*_, _<_, _≤_};
 ghost use lib.ListN.{length, getD};
-ghost use Rattle.cells.specs.Stream.{packed};
-ghost use Rattle.cells.specs.Written.{writtenCell, bitBefore};
+ghost use Rattle.cells.specs.Written.{bitBefore};
+ghost use Rattle.laws.specs.Overlay.{overlay};
 ghost use Rattle.laws.specs.Tab.{window};
-ghost use Rattle.sector_rules.specs.Geometry.{imageBytes};
-ghost use Rattle.sector_rules.specs.Packed.{withCrc, headerRow, sectorItem, sectorData, imageSide};
+ghost use Rattle.sector_rules.specs.Geometry.{tracks, sides, imageBytes};
+ghost use Rattle.sector_rules.specs.Packed.{withCrc, headerRow, sectorItem, sectorData, imageSide, sideItems};
+ghost use Rattle.sectors.specs.Laws.Packing.Runs.{itemsByte};
 use crate::Geometry;
 use cells::Item;
+
+// Items of a side.
+pub const SIDE_ITEMS: usize = 6250;
 
 const GAP: u8 = 0x4E;
 
@@ -176,13 +180,24 @@ fn bit_before(image: &[u8], t: usize, s: usize, q: usize) -> u8
     cells::last_bit(side_item(image, t, s, q - 1))
 }
 
-// Byte b of a written side, as it is stored.
-pub fn side_byte(image: &[u8], t: usize, s: usize, b: usize) -> u8
-    requires { ⌜ (length (now image) ≡ imageBytes) × (t < 80) × (s < 2) ⌝ }
-    ensures { λ x. ⌜ x ≡ packed (writtenCell (imageSide (now (image .entry)) t s)) b ⌝ }
+// Writes n items of a side from item `first` on, two bytes each, into the HFE image from `at` on. The bit before an item is carried along.
+pub fn write_items(
+    image: &[u8],
+    t: usize,
+    s: usize,
+    first: usize,
+    n: usize,
+    hfe: &mut [u8],
+    at: usize,
+)
+    requires { ⌜ (length (now image) ≡ imageBytes) × (t < tracks) × (s < sides) × (first + n ≤ sideItems) × (at + 2 * n ≤ length (now hfe)) ⌝ }
+    ensures { λ _. ⌜ now (hfe .exit) ≡ overlay (now (hfe .entry)) at (2 * n) (itemsByte (imageSide (now (image .entry)) t s) first) ⌝ }
 {
-    let q = b / 2;
-    let item = side_item(image, t, s, q);
-    let before = bit_before(image, t, s, q);
-    cells::item_byte(before, item, b % 2 == 1)
+    let mut before = bit_before(image, t, s, first);
+    for i in 0..n {
+        let item = side_item(image, t, s, first + i);
+        hfe[at + 2 * i] = cells::item_byte(before, item, false);
+        hfe[at + 2 * i + 1] = cells::item_byte(before, item, true);
+        before = cells::last_bit(item);
+    }
 }

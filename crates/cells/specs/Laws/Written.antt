@@ -1,8 +1,8 @@
 -- Laws of a written row: its cells, the sync bytes that stand in it, and what is read of it.
 -- Assumes nothing.
-use mathlib.Core.Path.{_≡_, refl, sym, ap, _∙_}
-use mathlib.Core.Bool.{Bool, true, false, cond}
-use Prim.Native.Nat.{ℕ, zero, suc, _+_, _-_, _*_, _/_, _%_, _^_, _≤_, _<_}
+use mathlib.Core.Path.{_≡_, refl, sym, _∙_}
+use mathlib.Core.Bool.{Bool, true, false}
+use Prim.Native.Nat.{ℕ, zero, suc, _+_, _-_, _*_, _/_, _%_, _^_, _<_}
 use native.Mathlib.Nat.{one-mul, zero-add, div-one}
 use native.Mathlib.Omega.{arith}
 use lib.Dec.{eqb, lit≤}
@@ -141,17 +141,6 @@ packed-item items b =
     let q : (8 * b + k) / 16 ≡ b / 2 = omega arith in
     let r : (8 * b + k) % 16 ≡ 8 * (b % 2) + k = omega arith in
     rw (q, r))
-
--- the same, for the second half of an item or the first
-pub packed-half : (items : ℕ → Item) (b : ℕ)
-    → packed (writtenCell items) b ≡ packed (itemCell (bitBefore items (b / 2)) (items (b / 2))) (cond (eqb (b % 2) 1) 1 0)
-packed-half items b =
-    packed-item items b ∙ ap (packed (itemCell (bitBefore items (b / 2)) (items (b / 2)))) (half (b % 2) (omega arith))
-  where
-    half : (n : ℕ) → n < 2 → n ≡ cond (eqb n 1) 1 0
-    half zero h = refl
-    half (suc zero) h = refl
-    half (suc (suc n)) h = absurd (omega arith)
 
 -- the bit before the first item, and before a later one
 pub before-first : (items : ℕ → Item) (q : ℕ) → q ≡ 0 → bitBefore items q ≡ 0

@@ -1,2 +1,3 @@
 -- Stage 3: packing: the items of a side, the rows with a CRC, the bytes of the image.
 pub mod Items
+pub mod Runs

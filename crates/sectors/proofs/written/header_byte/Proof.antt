@@ -1,7 +1,6 @@
 -- `header_byte` meets its contract.
 -- Assumes nothing.
 use mathlib.Core.Path.{sym}
-use Prim.Native.Nat.{_-_}
 use native.Mathlib.Omega.{arith}
 use borrow.Author.Needs.{needs}
 use Rattle.sector_rules.specs.Laws.Base.Packed.{crc-high, crc-low}

@@ -1,14 +1,11 @@
 -- Laws of the parts of a written side and of the written image that only the writer tells apart.
 -- Assumes nothing.
-use mathlib.Core.Bool.{true}
 use mathlib.Core.List.{List, [], _∷_, _++_}
 use mathlib.Core.Path.{_≡_, refl, sym, _∙_}
-use Prim.Native.Nat.{ℕ, zero, suc, _+_, _-_, _*_, _/_, _%_, _≤_, _<_}
+use Prim.Native.Nat.{ℕ, zero, suc, _+_, _-_, _/_, _%_, _≤_, _<_}
 use native.Mathlib.Omega.{arith}
-use lib.Dec.{eqb}
 use lib.ListN.{length, getD, take, drop, List·getD-eq-default}
 use borrow.Author.Tests.{le-ltb, eq-eqb, ne-eqb}
-use Rattle.laws.specs.Below.{all, all-eq}
 use Rattle.laws.specs.Words.{lowByte}
 use Rattle.laws.specs.Tab.{window, window-in, window-length, window-part}
 use Rattle.cells.specs.Crc.{crcStart, crcFrom, crc}
@@ -18,7 +15,7 @@ use Rattle.sector_rules.specs.Replies.{reply}
 use Rattle.sector_rules.specs.Geometry.{imageBytes}
 use Rattle.sector_rules.specs.Hfe.{signature}
 use Rattle.sector_rules.specs.Search.{dataMark}
-use Rattle.sector_rules.specs.Packed.{hfeBytes, fillByte, headerRest, headerByte, tableByte, trackByte, packReply, fieldCrc, withCrc, headerRow, gapByte, sectorItem, sideItem}
+use Rattle.sector_rules.specs.Packed.{hfeBytes, fillByte, headerRest, headerByte, tableByte, packReply, fieldCrc, withCrc, headerRow, gapByte, sectorItem, sideItem}
 use Rattle.sector_rules.specs.Laws.Base.Packed.{span-left, span-right, past-lead, crc-before, crc-high, crc-low}
 
 -- ---- the items of a side, part by part
@@ -105,18 +102,7 @@ module _ (image : List ℕ) (at : ℕ) where
 
 -- ---- the bytes of the image
 
-header-same : all (λ (i : ℕ). eqb (getD (signature ++ headerRest) i 0) (getD (signature ++ headerRest) i fillByte)) 20 ≡ true
-unfolding all signature headerRest lowByte
-header-same = refl
-
--- the header as it is named, and what follows
-pub header-in : (k : ℕ) → k < 20 → getD (signature ++ headerRest) k 0 ≡ headerByte k
-unfolding headerByte
-header-in k h = all-eq (λ (i : ℕ). getD (signature ++ headerRest) i 0) (λ (i : ℕ). getD (signature ++ headerRest) i fillByte) 20 all-same k h
-  where
-    all-same : all (λ (i : ℕ). eqb (getD (signature ++ headerRest) i 0) (getD (signature ++ headerRest) i fillByte)) 20 ≡ true
-    all-same = header-same
-
+-- past the header as it is named
 pub header-out : (k : ℕ) → 20 ≤ k → headerByte k ≡ fillByte
 unfolding headerByte signature headerRest lowByte
 header-out k h = List·getD-eq-default (signature ++ headerRest) fillByte h
@@ -126,12 +112,6 @@ module _ (j : ℕ) where
   pub table-past : 320 ≤ j → tableByte j ≡ fillByte
   unfolding tableByte
   table-past h = rw (le-ltb j 320 h)
-
--- past a side's end
-module _ (image : List ℕ) where
-  pub track-out : (t o : ℕ) → 12500 ≤ 256 * (o / 512) + o % 256 → trackByte image t o ≡ fillByte
-  unfolding trackByte
-  track-out t o h = rw (le-ltb (256 * (o / 512) + o % 256) 12500 h)
 
 -- refusals
 module _ (n m : ℕ) where

@@ -1,0 +1,52 @@
+-- `write_run` meets its contract: items, and FF after the last one.
+-- Assumes nothing.
+use mathlib.Core.Path.{_∙_}
+use Rattle.sectors.specs.Laws.Packing.Runs.{run-written}
+use borrow.Author.Needs.{needs}
+use Rattle.sectors.proofs.packing.write_run.Statement.{statement}
+use Rattle.sectors.proofs.packing.write_run.Tie as tie
+
+run-items-requires : tie.Need-run-items-requires
+run-items-requires c κs = search needs
+
+mul-write-items : tie.Need-mul-write-items
+mul-write-items c = search needs
+
+write-items-requires : tie.Need-write-items-requires
+write-items-requires c κs = search needs
+
+mul-fill : tie.Need-mul-fill
+mul-fill c = search needs
+
+add-fill : tie.Need-add-fill
+add-fill c = search needs
+
+mul-fill-2 : tie.Need-mul-fill-2
+mul-fill-2 c = search needs
+
+sub-fill : tie.Need-sub-fill
+sub-fill c = search needs
+
+fill-requires : tie.Need-fill-requires
+fill-requires c κs = search needs
+
+same-length : tie.Need-same-length
+same-length c = search needs
+
+returns : tie.Need-returns
+returns c = c .before .before .fill .ensures ∙ run-written _ _ _ _ _ _ _ _ (c .before .before .before .before .before .before .before .before .before .before .before .pre .3) (c .before .before .before .before .before .before .before .before .run-items .ensures) (c .before .before .before .before .before .before .write-items .ensures)
+
+pub write-run-spec : {M : Type 1} → statement M
+write-run-spec =
+    tie.close
+    (tie.spec
+    run-items-requires
+    mul-write-items
+    write-items-requires
+    mul-fill
+    add-fill
+    mul-fill-2
+    sub-fill
+    fill-requires
+    same-length
+    returns)

@@ -1,0 +1,160 @@
+-- Laws of the writer: the two stored bytes of an item, the runs of a side's bytes in the units of a track, and the image as these parts in order.
+-- Assumes nothing.
+use mathlib.Core.Bool.{cond}
+use mathlib.Core.List.{List}
+use mathlib.Core.Path.{_≡_, refl, sym, ap, _∙_}
+use Prim.Native.Nat.{ℕ, _+_, _-_, _*_, _/_, _%_, _≤_, _<_, min}
+use native.Mathlib.Omega.{arith}
+use lib.Dec.{ltb}
+use lib.ListN.{length, set}
+use borrow.Author.Tests.{lt-ltb, le-ltb}
+use Rattle.laws.specs.Below.{all, all-eq}
+use Rattle.laws.specs.Overlay.{overlay, put, overlay-more, overlay-cong, overlay-on, overlay-next, overlay-all}
+use Rattle.laws.specs.Tab.{tab, elementAt}
+use Rattle.laws.specs.Words.{lowByte}
+use Rattle.cells.specs.Mfm.{bitOf}
+use Rattle.cells.specs.Stream.{packed}
+use Rattle.cells.specs.Written.{byteOf, itemCell, bitBefore, writtenCell}
+use Rattle.cells.specs.Laws.Written.{packed-item, before-later}
+use Rattle.cells.specs.declared.Item.{Item}
+use Rattle.sector_rules.specs.Geometry.{tracks, sides}
+use Rattle.sector_rules.specs.Hfe.{signature, unitBytes}
+use Rattle.sector_rules.specs.Packed.{imageSide, sideItems, sideBytes, trackUnits, firstUnit, hfeBytes, fillByte, headerRest, headerByte, tableByte, trackByte, hfeByte}
+use Rattle.sector_rules.specs.Laws.Base.Packed.{hfe-header, hfe-table, hfe-track}
+use Rattle.sectors.specs.Laws.Packing.Items.{header-out}
+
+-- the bytes of a unit that belong to one side, and the items that they spell
+abbrev pub runBytes : ℕ
+runBytes = unitBytes / sides
+
+abbrev pub runItems : ℕ
+runItems = runBytes / 2
+
+-- byte k of a row of items from item first on, as it is stored
+unfoldable pub itemsByte : (ℕ → Item) → ℕ → ℕ → ℕ
+itemsByte items first k = packed (writtenCell items) (2 * first + k)
+
+-- byte k of what unit u of a track has of side s
+unfoldable pub runByte : List ℕ → ℕ → ℕ → ℕ → ℕ → ℕ
+runByte image t s u k = cond (ltb (runBytes * u + k) sideBytes) (packed (writtenCell (imageSide image t s)) (runBytes * u + k)) fillByte
+
+-- byte k of the units of all tracks
+unfoldable pub tracksByte : List ℕ → ℕ → ℕ
+tracksByte image k = hfeByte image (firstUnit * unitBytes + k)
+
+-- ---- items
+
+module _ (items : ℕ → Item) (q p : ℕ) (item : Item) (is-bit : p ≡ bitBefore items q) (is-item : item ≡ items q) where
+  half : (b o : ℕ) → o < 2 → b ≡ 2 * q + o → packed (itemCell p item) o ≡ packed (writtenCell items) b
+  half b o l e =
+      let d : b / 2 ≡ q = omega arith in
+      let r : b % 2 ≡ o = omega arith in
+      sym (packed-item items b ∙ rw (d, r, is-bit, is-item))
+
+  -- the bit that the next item follows
+  pub bit-next : (n : ℕ) → n ≡ q + 1 → bitOf (byteOf item) 7 ≡ bitBefore items n
+  bit-next n e =
+      let z : n - 1 ≡ q = omega arith in
+      sym (before-later items n (omega arith) ∙ rw (z, is-item))
+
+  -- one more item
+  pub items-more : (d out : List ℕ) (at first i x y : ℕ) → q ≡ first + i → at + (2 * i + 1) < length d → out ≡ overlay d at (2 * i) (itemsByte items first)
+      → x ≡ packed (itemCell p item) 0 → y ≡ packed (itemCell p item) 1
+      → set (set out (at + 2 * i) x) (at + 2 * i + 1) y ≡ overlay d at (2 * (i + 1)) (itemsByte items first)
+  unfolding itemsByte
+  items-more d out at first i x y eq l e ex ey =
+      let a : at + 2 * i + 1 ≡ at + (2 * i + 1) = omega arith in
+      let b : 2 * (i + 1) ≡ 2 * i + 1 + 1 = omega arith in
+      rw (a, b)
+      (overlay-more d at (2 * i + 1) (itemsByte items first) (set out (at + 2 * i) x) y l
+      (overlay-more d at (2 * i) (itemsByte items first) out x (omega arith) e (ex ∙ half (2 * first + 2 * i) 0 (omega arith) (omega arith)))
+      (ey ∙ half (2 * first + (2 * i + 1)) 1 (omega arith) (omega arith)))
+
+-- ---- runs
+
+module _ (image : List ℕ) (t s u : ℕ) where
+  run-in : (k : ℕ) → runBytes * u + k < sideBytes → itemsByte (imageSide image t s) (runItems * u) k ≡ runByte image t s u k
+  unfolding itemsByte runByte
+  run-in k l =
+      let a : 2 * (runItems * u) + k ≡ runBytes * u + k = omega arith in
+      rw (a, lt-ltb (runBytes * u + k) sideBytes l)
+
+  run-out : (k : ℕ) → sideBytes ≤ runBytes * u + k → runByte image t s u k ≡ fillByte
+  unfolding runByte
+  run-out k l = rw (le-ltb (runBytes * u + k) sideBytes l)
+
+  -- items, and FF after the side's last one
+  pub run-written : (d out : List ℕ) (at n : ℕ) → u < trackUnits → n ≡ min runItems (sideItems - runItems * u)
+      → out ≡ overlay d at (2 * n) (itemsByte (imageSide image t s) (runItems * u))
+      → overlay out (at + 2 * n) (runBytes - 2 * n) (λ (k : ℕ). fillByte) ≡ overlay d at runBytes (runByte image t s u)
+  run-written d out at n l m e =
+      let z : 2 * n + (runBytes - 2 * n) ≡ runBytes = omega arith in
+      overlay-on d at (2 * n) (runBytes - 2 * n) (λ (k : ℕ). fillByte) (runByte image t s u) out
+      (e ∙ overlay-cong d at (2 * n) (itemsByte (imageSide image t s) (runItems * u)) (runByte image t s u) (λ k b. run-in k (omega arith)))
+      (λ k b. sym (run-out (2 * n + k) (omega arith)))
+      ∙ ap (λ (j : ℕ). overlay d at j (runByte image t s u)) z
+
+-- ---- the units of the tracks, half by half
+
+module _ (image : List ℕ) (w : ℕ) where
+  run-is : (k : ℕ) → k < runBytes → runByte image (w / sides / trackUnits) (w % sides) (w / sides % trackUnits) k ≡ tracksByte image (runBytes * w + k)
+  unfolding tracksByte runByte trackByte
+  run-is k l =
+      let y : firstUnit * unitBytes + (runBytes * w + k) - 1024 ≡ runBytes * w + k = omega arith in
+      let t : (runBytes * w + k) / 25088 ≡ w / sides / trackUnits = omega arith in
+      let o : (runBytes * w + k) % 25088 ≡ 512 * (w / sides % trackUnits) + 256 * (w % sides) + k = omega arith in
+      let u : (512 * (w / sides % trackUnits) + 256 * (w % sides) + k) / 512 ≡ w / sides % trackUnits = omega arith in
+      let s : (512 * (w / sides % trackUnits) + 256 * (w % sides) + k) % 512 / 256 ≡ w % sides = omega arith in
+      let r : (512 * (w / sides % trackUnits) + 256 * (w % sides) + k) % 256 ≡ k = omega arith in
+      sym (hfe-track image (firstUnit * unitBytes + (runBytes * w + k)) (omega arith) (omega arith) ∙ rw (y, t, o, u, s, r))
+
+  pub tracks-more : (d out : List ℕ) → out ≡ overlay d (firstUnit * unitBytes) (runBytes * w) (tracksByte image)
+      → overlay out (firstUnit * unitBytes + runBytes * w) runBytes (runByte image (w / sides / trackUnits) (w % sides) (w / sides % trackUnits))
+      ≡ overlay d (firstUnit * unitBytes) (runBytes * (w + 1)) (tracksByte image)
+  tracks-more d out e =
+      let z : runBytes * w + runBytes ≡ runBytes * (w + 1) = omega arith in
+      overlay-on d (firstUnit * unitBytes) (runBytes * w) runBytes (runByte image (w / sides / trackUnits) (w % sides) (w / sides % trackUnits)) (tracksByte image) out e run-is
+      ∙ ap (λ (j : ℕ). overlay d (firstUnit * unitBytes) j (tracksByte image)) z
+
+-- ---- the header's unit
+
+signature-is : (k : ℕ) → k < 8 → elementAt signature 0 k ≡ headerByte k
+unfolding all elementAt signature headerByte headerRest lowByte
+signature-is = all-eq (λ (k : ℕ). elementAt signature 0 k) headerByte 8 refl
+
+rest-is : (k : ℕ) → k < 12 → elementAt headerRest 0 k ≡ headerByte (8 + k)
+unfolding all elementAt signature headerByte headerRest lowByte
+rest-is = all-eq (λ (k : ℕ). elementAt headerRest 0 k) (λ (k : ℕ). headerByte (8 + k)) 12 refl
+
+put-signature : (d : List ℕ) → put d 0 signature ≡ overlay d 0 8 (elementAt signature 0)
+unfolding put signature
+put-signature d = refl
+
+put-rest : (d : List ℕ) → put d 8 headerRest ≡ overlay d 8 12 (elementAt headerRest 0)
+unfolding put headerRest
+put-rest d = refl
+
+-- signature, the rest of the header as it is named, and FF
+pub header-written : (d out next : List ℕ) → out ≡ put d 0 signature → next ≡ put out 8 headerRest
+    → overlay next 20 (unitBytes - 20) (λ (k : ℕ). fillByte) ≡ overlay d 0 unitBytes headerByte
+header-written d out next e f =
+    overlay-next d 20 492 (λ (k : ℕ). fillByte) headerByte next
+    (f ∙ put-rest out ∙ overlay-next d 8 12 (elementAt headerRest 0) headerByte out
+    (e ∙ put-signature d ∙ overlay-cong d 0 8 (elementAt signature 0) headerByte signature-is) rest-is)
+    (λ k l. sym (header-out (20 + k) (omega arith)))
+
+-- ---- the image: header, table and tracks
+
+pub image-written : (image d h1 h2 h3 : List ℕ) → length d ≡ hfeBytes → h1 ≡ overlay d 0 unitBytes headerByte → h2 ≡ overlay h1 unitBytes unitBytes tableByte
+    → h3 ≡ overlay h2 (firstUnit * unitBytes) (trackUnits * tracks * unitBytes) (tracksByte image) → h3 ≡ tab (hfeByte image) hfeBytes
+unfolding tracksByte
+image-written image d h1 h2 h3 long e1 e2 e3 =
+    e3
+    ∙ overlay-next d 1024 2007040 (tracksByte image) (hfeByte image) h2
+    (e2 ∙ overlay-next d 512 512 tableByte (hfeByte image) h1
+    (e1 ∙ overlay-cong d 0 512 headerByte (hfeByte image) (λ k l. sym (hfe-header image k l)))
+    (λ k l.
+    let z : 512 + k - 512 ≡ k = omega arith in
+    sym (hfe-table image (512 + k) (omega arith) (omega arith) ∙ rw z)))
+    (λ k l. refl)
+    ∙ overlay-all d hfeBytes (hfeByte image) long
