@@ -36,7 +36,7 @@ use Rattle.file_rules.specs.Laws.InnerModel.Invariant.{partsOf, Inv}
 use Rattle.file_rules.specs.Laws.Base.Whole.{Valid, With, with-is, record-is, freeCount-is, partBlock-is}
 use Rattle.file_rules.specs.Map.{recordAt, isSystem, isOther, bears, isPart, within, freeCount, partBlock, fileByte}
 use Rattle.file_rules.specs.Model.{NamedFile, HeldFile, heldBlocks, dirBlocks, usable, freeWord, slotOf, bytesOf, dirByte, content, named, heldEntry, heldEntries, heldData}
-use Rattle.file_rules.specs.Sizes.{blockBytes, slotBytes, blockSlots, slotCount, mapStart, nameMost, freeSectors}
+use Rattle.file_rules.specs.Sizes.{blockBytes, slotBytes, blockSlots, slotCount, mapStart, nameMost, freeSectors, blocksOf, wholeBlocks, bytesOver}
 use Rattle.file_rules.specs.Written.{fixedByte, headerByte, storedByte, part, blocksFor}
 
 -- ---- tests of records
@@ -80,7 +80,7 @@ module _ (name : List ℕ) (date size : ℕ) where
 
 -- ---- how many blocks a file has
 
-parts-some : (m : Inner) (k : ℕ) (x : NamedFile) → m .slots k ≡ some x → 0 < k → partsOf m k ≡ up (slotBytes + length (x .content)) blockBytes
+parts-some : (m : Inner) (k : ℕ) (x : NamedFile) → m .slots k ≡ some x → 0 < k → partsOf m k ≡ blocksOf (slotBytes + length (x .content))
 unfolding partsOf heldBlocks blocksFor
 parts-some m zero x e p = absurd (omega arith)
 parts-some m (suc k) x e p = ap heldBlocks e
@@ -90,20 +90,20 @@ unfolding partsOf heldBlocks
 parts-none m zero e p = absurd (omega arith)
 parts-none m (suc k) e p = ap heldBlocks e
 
-parts-dir : (m : Inner) → up (suc (m .peak) * slotBytes) blockBytes ≡ partsOf m 0
+parts-dir : (m : Inner) → blocksOf (suc (m .peak) * slotBytes) ≡ partsOf m 0
 unfolding partsOf up dirBlocks
 parts-dir m = omega arith
 
 -- ---- the header's bytes
 
 module _ (m : Inner) where
-  at-34 : m .peak ≤ 460 → at16 (header m) 34 ≡ suc (m .peak) * slotBytes / blockBytes
+  at-34 : m .peak ≤ 460 → at16 (header m) 34 ≡ wholeBlocks (suc (m .peak))
   unfolding at16 bigEndian header headerByte patch
-  at-34 h = high2-at (suc (m .peak) * slotBytes / blockBytes) (omega arith)
+  at-34 h = high2-at (wholeBlocks (suc (m .peak))) (omega arith)
 
-  at-36 : at16 (header m) 36 ≡ suc (m .peak) * slotBytes % blockBytes
+  at-36 : at16 (header m) 36 ≡ bytesOver (suc (m .peak))
   unfolding at16 bigEndian header headerByte patch
-  at-36 = high2-at (suc (m .peak) * slotBytes % blockBytes) (omega arith)
+  at-36 = high2-at (bytesOver (suc (m .peak))) (omega arith)
 
   at-20 : at16 (header m) 20 ≡ freeWord (m .peak) (fileBlocks m)
   unfolding at16 bigEndian header headerByte patch freeWord
@@ -149,10 +149,10 @@ module _ (m : Inner) (v : Inv m) where
   head16 : (o : ℕ) → o + 1 < mapStart → at16 (d 0) o ≡ at16 (header m) o
   head16 o h = at16-is (d 0) o ∙ ap₂ (λ (x y : ℕ). x * 256 + y) (P .head o (omega arith)) (P .head (o + 1) h) ∙ sym (at16-is (header m) o)
 
-  word34 : at16 (d 0) 34 ≡ suc (m .peak) * slotBytes / blockBytes
+  word34 : at16 (d 0) 34 ≡ wholeBlocks (suc (m .peak))
   word34 = head16 34 (omega arith) ∙ at-34 m (v .peak-most)
 
-  word36 : at16 (d 0) 36 ≡ suc (m .peak) * slotBytes % blockBytes
+  word36 : at16 (d 0) 36 ≡ bytesOver (suc (m .peak))
   word36 = head16 36 (omega arith) ∙ at-36 m
 
   pub dirBytes-is : dirBytes d ≡ suc (m .peak) * slotBytes
@@ -420,7 +420,7 @@ module _ (m : Inner) (v : Inv m) where
         and-true (le-true {a = slotBytes} {b = (slotEntry d k .length)} (omega arith))
         (and-true (le-true {a = 1} {b = (slotEntry d k .named)} (omega (arith, v .slot-name k x e .0)))
         (and-true (le-true {a = (slotEntry d k .named)} {b = nameMost} (omega (arith, v .slot-name k x e .1)))
-        (and-true newName-right (parts-right k (up ((slotEntry d k .length)) blockBytes) (ap (λ (n : ℕ). up n blockBytes) size ∙ sym (parts-some m k x e pos))))))
+        (and-true newName-right (parts-right k (blocksOf (slotEntry d k .length)) (ap blocksOf size ∙ sym (parts-some m k x e pos))))))
 
   vacant-right : (f : ℕ) → 0 < f → (l : HeldFile) → m .slots f ≡ l → cond (ltb f (dirEnd d) && held d f) (entryRight d f) (unborne d f) ≡ true
   unfolding isSome
@@ -438,7 +438,7 @@ module _ (m : Inner) (v : Inv m) where
   unfolding fileRight
   file-right f =
       by-equal f 0
-      (λ z. cond-true _ _ (eq-true z) ∙ parts-right 0 (up (dirBytes d) blockBytes) (ap (λ (n : ℕ). up n blockBytes) dirBytes-is ∙ parts-dir m))
+      (λ z. cond-true _ _ (eq-true z) ∙ parts-right 0 (blocksOf (dirBytes d)) (ap blocksOf dirBytes-is ∙ parts-dir m))
       (λ z. cond-false _ _ (eq-false z) ∙ vacant-right f (omega arith) (m .slots f) refl)
 
   files-right : fileFault d ≡ slotCount

@@ -16,7 +16,7 @@ use Rattle.sector_rules.specs.Replies.{reply}
 use Rattle.sector_rules.specs.declared.Fault.the-variants.{At, Sound}
 use Rattle.sector_rules.specs.Faults.{faultBelow, refusalAt}
 use Rattle.sector_rules.specs.Geometry.{blocks}
-use Rattle.file_rules.specs.Sizes.{blockBytes, slotCount}
+use Rattle.file_rules.specs.Sizes.{blockBytes, slotCount, blocksOf}
 use Rattle.file_rules.specs.Disk.{Disk}
 use Rattle.file_rules.specs.Map.{recordAt, within}
 use Rattle.file_rules.specs.Directory.{dirBytes, dirEnd}
@@ -48,7 +48,7 @@ files-right d e =
     let z : _≡_ {A = ℕ} 0 1 = cc in absurd (omega arith))
     (λ h. h)
 
-dir-right : (d : Disk) → slotCount ≤ fileFault d → partsRight d 0 (up (dirBytes d) blockBytes) ≡ true
+dir-right : (d : Disk) → slotCount ≤ fileFault d → partsRight d 0 (blocksOf (dirBytes d)) ≡ true
 unfolding fileFault fileRight
 dir-right d h = not-false (fileRight d 0) (lowest-all (λ (f : ℕ). not (fileRight d f)) slotCount h 0 (omega arith))
 
@@ -58,4 +58,4 @@ end-within d e =
     let a : orElse (refusal9 d) (orElse (refusal10 d) (refusal11 d)) ≡ none = or-none-right (refusal8 d) _ e in
     let b : orElse (refusal10 d) (refusal11 d) ≡ none = or-none-right (refusal9 d) _ a in
     let c : refusal10 d ≡ none = or-none-left (refusal10 d) (refusal11 d) b in
-    omega (arith, parts-most d 0 (up (dirBytes d) blockBytes) (dir-right d (files-right d c)))
+    omega (arith, parts-most d 0 (blocksOf (dirBytes d)) (dir-right d (files-right d c)))

@@ -30,7 +30,7 @@ use Rattle.file_rules.specs.declared.Record.the-variants.{Free, System, File, O
 use Rattle.file_rules.specs.declared.Entry.{Entry}
 use Rattle.files.specs.declared.Verdict.{Verdict}
 use Rattle.files.specs.declared.Verdict.the-variants.{Passed, Refused}
-use Rattle.file_rules.specs.Sizes.{blockBytes, slotBytes, slotCount, nameMost}
+use Rattle.file_rules.specs.Sizes.{blockBytes, slotBytes, slotCount, nameMost, blocksOf, freeSectors}
 use Rattle.file_rules.specs.Disk.{Disk}
 use Rattle.file_rules.specs.Map.{freeCount, recordAt, bears, isPart, within}
 use Rattle.file_rules.specs.Directory.{nameEq, nameOf, entryOf, slotEntry, slotName, held, dirBytes, dirEnd}
@@ -181,35 +181,35 @@ module _ (d : Disk) (k : ℕ) (e : Entry) (q : e ≡ slotEntry d k) where
   three true false c n p = refl
   three false b c n p = refl
 
-  entry-tests : entryRight d k ≡ (sizes && (names && partsRight d k (up (e .length) blockBytes)))
+  entry-tests : entryRight d k ≡ (sizes && (names && partsRight d k (blocksOf (e .length))))
   unfolding entryRight newName slotName nameOf
   entry-tests =
       rw q
       (three (leb slotBytes (slotEntry d k .length)) (leb 1 (slotEntry d k .named)) (leb (slotEntry d k .named) nameMost) (newName d k)
-      (partsRight d k (up (slotEntry d k .length) blockBytes)))
+      (partsRight d k (blocksOf (slotEntry d k .length))))
 
   pub entry-sizes-wrong : sizes ≡ false → false ≡ entryRight d k
-  entry-sizes-wrong t = sym (entry-tests ∙ and-false-left (names && partsRight d k (up (e .length) blockBytes)) t)
+  entry-sizes-wrong t = sym (entry-tests ∙ and-false-left (names && partsRight d k (blocksOf (e .length))) t)
 
   pub entry-name-wrong : sizes ≡ true → names ≡ false → false ≡ entryRight d k
   entry-name-wrong t u =
-      sym (entry-tests ∙ and-false-right sizes (and-false-left (partsRight d k (up (e .length) blockBytes)) u))
+      sym (entry-tests ∙ and-false-right sizes (and-false-left (partsRight d k (blocksOf (e .length))) u))
 
-  pub entry-parts : sizes ≡ true → names ≡ true → (p : Bool) → p ≡ partsRight d k (up (e .length) blockBytes) → p ≡ entryRight d k
+  pub entry-parts : sizes ≡ true → names ≡ true → (p : Bool) → p ≡ partsRight d k (blocksOf (e .length)) → p ≡ entryRight d k
   entry-parts t u p v =
-      v ∙ sym (entry-tests ∙ ap₂ (λ (x y : Bool). x && (y && partsRight d k (up (e .length) blockBytes))) t u)
+      v ∙ sym (entry-tests ∙ ap₂ (λ (x y : Bool). x && (y && partsRight d k (blocksOf (e .length)))) t u)
 
 -- ---- a file
 
 module _ (d : Disk) where
-  pub file-zero : (n : ℕ) → n ≡ dirBytes d → partsRight d 0 (up n blockBytes) ≡ fileRight d 0
+  pub file-zero : (n : ℕ) → n ≡ dirBytes d → partsRight d 0 (blocksOf n) ≡ fileRight d 0
   unfolding fileRight
-  file-zero n e = ap (λ (x : ℕ). partsRight d 0 (up x blockBytes)) e
+  file-zero n e = ap (λ (x : ℕ). partsRight d 0 (blocksOf x)) e
 
   module _ (f : ℕ) (n : f ≢ 0) where
     by-slot : fileRight d f ≡ cond (ltb f (dirEnd d) && held d f) (entryRight d f) (unborne d f)
     unfolding fileRight
-    by-slot = cond-false (partsRight d 0 (up (dirBytes d) blockBytes)) (cond (ltb f (dirEnd d) && held d f) (entryRight d f) (unborne d f)) (eq-false n)
+    by-slot = cond-false (partsRight d 0 (blocksOf (dirBytes d))) (cond (ltb f (dirEnd d) && held d f) (entryRight d f) (unborne d f)) (eq-false n)
 
     pub file-listed : (ltb f (dirEnd d) && held d f) ≡ true → entryRight d f ≡ fileRight d f
     file-listed t = sym (by-slot ∙ cond-true (entryRight d f) (unborne d f) t)
@@ -253,15 +253,15 @@ module _ (d : Disk) (b : ℕ) where
   passed-files e h = rw (← e) (lowest-passed b slotCount 10 h)
 
 module _ (d : Disk) (w c : ℕ) (ew : w ≡ at16 (d 0) 20) (ec : c ≡ freeCount d) where
-  free-is : eqb w (blockSectors * c) ≡ freeRight d
+  free-is : eqb w (freeSectors c) ≡ freeRight d
   unfolding freeRight
   free-is = rw (ew, ec)
 
-  pub passed-free : w ≡ blockSectors * c → Passed ≡ verdictOf (refusal11 d)
+  pub passed-free : w ≡ freeSectors c → Passed ≡ verdictOf (refusal11 d)
   unfolding refusal11 verdictOf
   passed-free h = ap verdictOf (sym (cond-true none (some (refusal 11)) (sym free-is ∙ eq-true h)))
 
-  pub refused-free : w ≢ blockSectors * c → Refused (refusal 11) ≡ verdictOf (refusal11 d)
+  pub refused-free : w ≢ freeSectors c → Refused (refusal 11) ≡ verdictOf (refusal11 d)
   unfolding refusal11 verdictOf
   refused-free h = ap verdictOf (sym (cond-false none (some (refusal 11)) (sym free-is ∙ eq-false h)))
 

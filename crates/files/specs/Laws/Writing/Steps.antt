@@ -24,7 +24,7 @@ use Rattle.file_rules.specs.Directory.{entryByte}
 use Rattle.file_rules.specs.Disk.{Disk, diskOf, imageOf}
 use Rattle.files.specs.Laws.Writing.Stored.{Near, near-step, patched, patched-block}
 use Rattle.file_rules.specs.Map.{decode, numberAt, recordAt, isFree, freeAt, freeCount}
-use Rattle.file_rules.specs.Sizes.{blockBytes, slotBytes, nameMost, mapStart, recordBytes}
+use Rattle.file_rules.specs.Sizes.{blockBytes, slotBytes, nameMost, mapStart, recordBytes, freeSectors, wholeBlocks, bytesOver}
 use Rattle.file_rules.specs.Written.{storedByte, part, zeros, setBlock, setWord, setFree, setEnd, stepUpdate}
 
 -- the record fits its three bytes
@@ -119,7 +119,7 @@ module _ (d e : Disk) (near : Near d e) where
 
   pub near-free : Near (setFree d) (setFree e)
   unfolding setFree
-  near-free b o hb ho = near-word 20 (blockSectors * freeCount d) b o hb ho ∙ ap (λ (n : ℕ). setWord e 20 (blockSectors * n) b o) near-count
+  near-free b o hb ho = near-word 20 (freeSectors (freeCount d)) b o hb ho ∙ ap (λ (n : ℕ). setWord e 20 (freeSectors n) b o) near-count
 
   pub near-update : Near (stepUpdate d) (stepUpdate e)
   unfolding stepUpdate at32 bigEndian
@@ -131,12 +131,12 @@ module _ (d e : Disk) (near : Near d e) where
 pub near-end : (d e : Disk) → Near d e → (k : ℕ) → Near (setEnd d k) (setEnd e k)
 unfolding setEnd
 near-end d e near k =
-    near-word (setWord d 34 (k * slotBytes / blockBytes)) (setWord e 34 (k * slotBytes / blockBytes)) (near-word d e near 34 (k * slotBytes / blockBytes)) 36 (k * slotBytes % blockBytes)
+    near-word (setWord d 34 (wholeBlocks k)) (setWord e 34 (wholeBlocks k)) (near-word d e near 34 (wholeBlocks k)) 36 (bytesOver k)
 
 -- two words, one after the other
-pub end-written : (l₀ l₁ l₂ : List ℕ) (k : ℕ) → l₁ ≡ imageOf (setWord (diskOf l₀) 34 (k * slotBytes / blockBytes))
-    → l₂ ≡ imageOf (setWord (diskOf l₁) 36 (k * slotBytes % blockBytes)) → l₂ ≡ imageOf (setEnd (diskOf l₀) k)
+pub end-written : (l₀ l₁ l₂ : List ℕ) (k : ℕ) → l₁ ≡ imageOf (setWord (diskOf l₀) 34 (wholeBlocks k))
+    → l₂ ≡ imageOf (setWord (diskOf l₁) 36 (bytesOver k)) → l₂ ≡ imageOf (setEnd (diskOf l₀) k)
 unfolding setEnd
 end-written l₀ l₁ l₂ k p q =
-    near-step (λ (d : Disk). setWord d 36 (k * slotBytes % blockBytes)) (λ d e n. near-word d e n 36 (k * slotBytes % blockBytes)) l₁ l₂
-    (setWord (diskOf l₀) 34 (k * slotBytes / blockBytes)) p q
+    near-step (λ (d : Disk). setWord d 36 (bytesOver k)) (λ d e n. near-word d e n 36 (bytesOver k)) l₁ l₂
+    (setWord (diskOf l₀) 34 (wholeBlocks k)) p q
