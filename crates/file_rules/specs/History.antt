@@ -1,5 +1,5 @@
 -- history: demand 3 as one statement, for every format that is accepted, whatever the image held, and every list of calls.
--- Assumes nothing: these are definitions. The proof is `history` in Laws/History.antt.
+-- Assumes nothing: these are definitions. The proof is `history` in Laws/Theorem/History.antt.
 use mathlib.Core.Path.{_≡_}
 use mathlib.Core.Bool.{true, cond}
 use mathlib.Core.List.{List, []}
