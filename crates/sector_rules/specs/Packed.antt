@@ -15,7 +15,7 @@ use Rattle.cells.specs.declared.Item.the-variants.{Plain, Sync, Index}
 use Rattle.sector_rules.specs.declared.Reply.{Reply}
 use Rattle.sector_rules.specs.Replies.{done, wrongHfe, wrongLength}
 use Rattle.sector_rules.specs.Geometry.{tracks, sides, sectors, trackSectors, sectorBytes, imageBytes}
-use Rattle.sector_rules.specs.Search.{headerMark, dataMark}
+use Rattle.sector_rules.specs.Search.{headerMark, dataMark, sizeCode}
 use Rattle.sector_rules.specs.Hfe.{signature, unitBytes}
 
 -- ---- a side
@@ -42,27 +42,37 @@ withCrc xs = xs ++ tab (highByte 2 (fieldCrc xs)) 2
 
 -- FE C H R N
 abbrev pub headerRow : ℕ → ℕ → ℕ → List ℕ
-headerRow t s r = headerMark ∷ (t ∷ (s ∷ (r ∷ (2 ∷ []))))
+headerRow t s r = headerMark ∷ (t ∷ (s ∷ (r ∷ (sizeCode ∷ []))))
 
 -- gaps are 4E
 abbrev pub gapByte : ℕ
 gapByte = 0x4E
+
+-- the items of a header and of a data field: the mark, C, H, R and N or the data, and the CRC
+abbrev pub headerItems : ℕ
+headerItems = 1 + 4 + 2
+
+abbrev pub fieldItems : ℕ
+fieldItems = 1 + sectorBytes + 2
 
 -- the items of a sector with the data d: 12 of 00, three sync, FE C H R N and CRC, 22 of 4E, 12 of 00, three sync, FB, the data and CRC, then 4E
 unfoldable pub sectorItem : ℕ → ℕ → ℕ → List ℕ → ℕ → Item
 sectorItem t s r d =
     span 12 (each (Plain 0))
     (span 3 (each Sync)
-    (span 7 (row (withCrc (headerRow t s r)))
+    (span headerItems (row (withCrc (headerRow t s r)))
     (span 22 (each (Plain gapByte))
     (span 12 (each (Plain 0))
     (span 3 (each Sync)
-    (span (1 + sectorBytes + 2) (row (withCrc (dataMark ∷ d)))
+    (span fieldItems (row (withCrc (dataMark ∷ d)))
     (each (Plain gapByte))))))))
 
--- a sector has 658 of them, so that 84 of 4E are its last
+-- a sector has 59 of them before its data field, and 658 in all, so that 84 of 4E are its last
+abbrev pub fieldStart : ℕ
+fieldStart = 12 + 3 + headerItems + 22 + 12 + 3
+
 abbrev pub sectorItems : ℕ
-sectorItems = 12 + 3 + 7 + 22 + 12 + 3 + (1 + sectorBytes + 2) + 84
+sectorItems = fieldStart + fieldItems + 84
 
 -- the items of a side whose sector R has the data d R: 80 of 4E, 12 of 00, three C2, FC, 50 of 4E, nine sectors, then 4E
 unfoldable pub sideItem : ℕ → ℕ → (ℕ → List ℕ) → ℕ → Item
@@ -75,6 +85,10 @@ sideItem t s d =
     (span (sectors * sectorItems) (λ (o : ℕ). sectorItem t s (o / sectorItems + 1) (d (o / sectorItems + 1)) (o % sectorItems))
     (each (Plain gapByte)))))))
 
+-- 146 of them are before the first sector
+abbrev pub leadItems : ℕ
+leadItems = 80 + 12 + 3 + 1 + 50
+
 -- a side has 6,250 bytes, so 12,500 bytes of cells
 abbrev pub sideItems : ℕ
 sideItems = 6250
@@ -82,9 +96,13 @@ sideItems = 6250
 abbrev pub sideBytes : ℕ
 sideBytes = 2 * sideItems
 
--- the bytes of sector R of this track and side in the block image
+-- the image sector that is sector R of this track and side
+abbrev pub imageSectorOf : ℕ → ℕ → ℕ → ℕ
+imageSectorOf t s r = trackSectors * t + sectors * s + (r - 1)
+
+-- its bytes in the block image
 unfoldable pub sectorData : List ℕ → ℕ → ℕ → ℕ → List ℕ
-sectorData image t s r = window image (sectorBytes * (trackSectors * t + sectors * s + (r - 1))) sectorBytes
+sectorData image t s r = window image (sectorBytes * imageSectorOf t s r) sectorBytes
 
 -- the items of a side of the block image
 unfoldable pub imageSide : List ℕ → ℕ → ℕ → ℕ → Item

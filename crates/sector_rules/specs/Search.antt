@@ -30,6 +30,10 @@ headerMark = 0xFE
 abbrev pub dataMark : ℕ
 dataMark = 0xFB
 
+-- N, by which a header names a sector of 512 bytes
+abbrev pub sizeCode : ℕ
+sizeCode = 2
+
 -- a header's cells: three sync bytes, the mark, C, H, R, N and a CRC
 abbrev pub headerCells : ℕ
 headerCells = 160
@@ -50,9 +54,9 @@ idOf f = record { c = dataByte f 64; h = dataByte f 80; r = dataByte f 96; n = d
 unfoldable pub headerOf : List ℕ → Header
 headerOf f = cond (isHeader f) (Is (idOf f)) Absent
 
--- a header belongs to the sector if C is the track, H the side, R the sector and N 2
+-- a header belongs to the sector if C is the track, H the side, R the sector and N that of 512 bytes
 abbrev pub belongs : ℕ → ℕ → ℕ → Header → Bool
-belongs t s r (Is id) = eqb (id .c) t && eqb (id .h) s && eqb (id .n) 2 && eqb (id .r) r
+belongs t s r (Is id) = eqb (id .c) t && eqb (id .h) s && eqb (id .n) sizeCode && eqb (id .r) r
 belongs t s r Absent = false
 
 -- a header of sector R of this track and side stands at cell place i

@@ -3,6 +3,7 @@ ghost use mathlib.Core.Path.{_≡_};
 ghost use Prim.Native.Nat.{_+_, _<_, _^_};
 ghost use lib.ListN.{length};
 ghost use Rattle.cells.specs.Stream.{hfeSide};
+ghost use Rattle.sector_rules.specs.Geometry.{tracks, sides};
 ghost use Rattle.sector_rules.specs.Hfe.{trackPart, flagFault, formatFault, headerFault, entryPlace, trackStart, trackLength, trackBytes, trackGood, tableFault};
 use crate::Geometry;
 use crate::faults::or_fault;
@@ -10,7 +11,7 @@ use crate::faults::wrong_at;
 use cells::Side;
 use sector_rules::Fault;
 
-// The unit in which table and tracks are placed.
+// The unit in which header, table and tracks are placed.
 pub const UNIT: usize = 512;
 
 // Revision, tracks, sides, encoding and bit rate.
@@ -109,7 +110,7 @@ pub fn table_fault(hfe: &[u8]) -> Fault
 
 // The part of the image that begins at the track's offset.
 pub fn track_part(hfe: &[u8], t: usize) -> &[u8]
-    requires { ⌜ (t < 80) × (tableFault (now hfe) ≡ Fault.Sound) ⌝ }
+    requires { ⌜ (t < tracks) × (tableFault (now hfe) ≡ Fault.Sound) ⌝ }
     ensures { λ r. ⌜ now r ≡ trackPart (now (hfe .entry)) t ⌝ }
 {
     let start = track_start(hfe, t);
@@ -119,7 +120,7 @@ pub fn track_part(hfe: &[u8], t: usize) -> &[u8]
 
 // Where a side lies in the track's part.
 pub fn track_side(hfe: &[u8], t: usize, head: usize) -> Side
-    requires { ⌜ (t < 80) × (head < 2) ⌝ }
+    requires { ⌜ (t < tracks) × (head < sides) ⌝ }
     ensures { λ r. ⌜ r ≡ hfeSide head (trackLength (now (hfe .entry)) t) ⌝ }
 {
     cells::hfe_side(head as u8, track_length(hfe, t))

@@ -34,8 +34,13 @@ const RUN_ITEMS: usize = RUN / 2;
 // What is not named is FF.
 const FILL: u8 = 0xFF;
 
+// Where the signature ends, and the header as it is named.
+const SIGNATURE_END: usize = 8;
+
+const HEADER_END: usize = 20;
+
 // The header after the signature, up to the table offset; the rest is FF. Tracks and sides are the disk kind's.
-const HEADER_REST: [u8; 12] = [
+const HEADER_REST: [u8; HEADER_END - SIGNATURE_END] = [
     0x00,
     Geometry::TRACKS as u8,
     Geometry::SIDES as u8,
@@ -56,8 +61,8 @@ fn write_header(hfe: &mut [u8])
     ensures { λ _. ⌜ now (hfe .exit) ≡ overlay (now (hfe .entry)) 0 unitBytes headerByte ⌝ }
 {
     fields::copy_into(hfe, 0, b"HXCPICFE");
-    fields::copy_into(hfe, 8, &HEADER_REST);
-    fields::fill(hfe, 20, UNIT - 20, FILL);
+    fields::copy_into(hfe, SIGNATURE_END, &HEADER_REST);
+    fields::fill(hfe, HEADER_END, UNIT - HEADER_END, FILL);
 }
 
 // Byte j of the track table.

@@ -10,7 +10,7 @@ use sector_rules::Reply;
 use sector_rules::RunningSector;
 
 // The side (0x80 marks side 1) and the place of each running sector of a track.
-pub const SIDE_PLACE: [u8; 18] = [
+pub const SIDE_PLACE: [u8; Geometry::TRACK_SECTORS] = [
     0x00,
     0x03,
     0x06,
@@ -32,7 +32,7 @@ pub const SIDE_PLACE: [u8; 18] = [
 ];
 
 // The same table backward, on track 0.
-pub const BACKWARD: [u8; 18] = [
+pub const BACKWARD: [u8; Geometry::TRACK_SECTORS] = [
     0x00,
     0x06,
     0x0C,

@@ -12,6 +12,14 @@ use sector_rules::Header;
 use sector_rules::Id;
 use sector_rules::Sector;
 
+// The marks after three sync bytes.
+pub const HEADER_MARK: u8 = 0xFE;
+
+pub const DATA_MARK: u8 = 0xFB;
+
+// N, by which a header names a sector of 512 bytes.
+pub const SIZE_CODE: u8 = 2;
+
 // Cells of a header, from its first sync byte to its CRC.
 const HEADER_CELLS: usize = 160;
 
@@ -44,7 +52,7 @@ pub fn header_at(part: &[u8], side: Side, i: usize) -> Header
         return Header::Absent;
     }
     if cells::three_sync(part, side, i) {
-        if cells::data_byte(part, side, i, 48) == 0xFE {
+        if cells::data_byte(part, side, i, 48) == HEADER_MARK {
             if crc_holds(part, side, i, 8) {
                 return Header::Is(Id {
                     c: cells::data_byte(part, side, i, 64),
@@ -76,7 +84,7 @@ fn sector_index(header: Header, track: u8, head: u8) -> usize
     match header {
         Header::Is(id) => {
             let sector = id.r;
-            if (id.c == track) & (id.h == head) & (id.n == 2) {
+            if (id.c == track) & (id.h == head) & (id.n == SIZE_CODE) {
                 if 1 <= sector {
                     if sector <= LAST_SECTOR {
                         return (sector - 1) as usize;
@@ -110,12 +118,13 @@ fn field_at(part: &[u8], side: Side, j: usize) -> Sector
     requires { ⌜ j < 2 ^ 33 ⌝ }
     ensures { λ r. ⌜ r ≡ fieldAt (stream (now (part .entry)) side) j ⌝ }
 {
+    let bytes = j + 64;
     if cells::cells_from(side, j) < FIELD_CELLS {
         return Sector::Fieldless;
     }
-    if cells::data_byte(part, side, j, 48) == 0xFB {
+    if cells::data_byte(part, side, j, 48) == DATA_MARK {
         if crc_holds(part, side, j, FIELD_BYTES) {
-            return Sector::Delivered(j + 64);
+            return Sector::Delivered(bytes);
         }
         return Sector::Damaged;
     }

@@ -6,16 +6,23 @@ ghost use lib.ListN.{length, getD};
 ghost use Rattle.cells.specs.Written.{bitBefore};
 ghost use Rattle.laws.specs.Overlay.{overlay};
 ghost use Rattle.laws.specs.Tab.{window};
-ghost use Rattle.sector_rules.specs.Geometry.{tracks, sides, imageBytes};
-ghost use Rattle.sector_rules.specs.Packed.{withCrc, headerRow, sectorItem, sectorData, imageSide, sideItems};
+ghost use Rattle.sector_rules.specs.Geometry.{tracks, sides, sectors, sectorBytes, trackSectors, imageBytes};
+ghost use Rattle.sector_rules.specs.Search.{dataMark};
+ghost use Rattle.sector_rules.specs.Packed.{headerItems, fieldItems, fieldStart, leadItems, imageSectorOf, withCrc, headerRow, sectorItem, sectorData, imageSide, sideItems};
 ghost use Rattle.sectors.specs.Laws.Packing.Runs.{itemsByte};
 use crate::Geometry;
+use crate::search::DATA_MARK;
+use crate::search::HEADER_MARK;
+use crate::search::SIZE_CODE;
 use cells::Item;
 
 // Items of a side.
 pub const SIDE_ITEMS: usize = 6250;
 
 const GAP: u8 = 0x4E;
+
+// What a sync mark spells, as the CRC takes it.
+const SYNC_BYTE: u8 = 0xA1;
 
 // Where the parts of a side's lead end: gap, zeros, index marks, their byte, and the gap before the first sector.
 const INDEX_GAP: usize = 80;
@@ -51,18 +58,27 @@ const SECTOR_ITEMS: usize = FIELD_END + 84;
 
 // Where sector R of a side begins in the block image.
 fn sector_start(t: usize, s: usize, r: usize) -> usize
-    requires { ⌜ (t < 80) × (s < 2) × (1 ≤ r) × (r ≤ 9) ⌝ }
-    ensures { λ k. ⌜ k ≡ 512 * (18 * t + 9 * s + (r - 1)) ⌝ }
+    requires { ⌜ (t < tracks) × (s < sides) × (1 ≤ r) × (r ≤ sectors) ⌝ }
+    ensures { λ k. ⌜ k ≡ sectorBytes * imageSectorOf t s r ⌝ }
 {
     Geometry::SECTOR_BYTES * (Geometry::TRACK_SECTORS * t + Geometry::SECTORS * s + (r - 1))
 }
 
 // Byte k of a header from its mark on, with its CRC.
 fn header_byte(t: usize, s: usize, r: usize, k: usize) -> u8
-    requires { ⌜ (t < 80) × (s < 2) × (r ≤ 9) × (k < 7) ⌝ }
+    requires { ⌜ (t < tracks) × (s < sides) × (r ≤ sectors) × (k < headerItems) ⌝ }
     ensures { λ x. ⌜ x ≡ getD (withCrc (headerRow t s r)) k 0 ⌝ }
 {
-    let row = [0xA1, 0xA1, 0xA1, 0xFE, t as u8, s as u8, r as u8, 2];
+    let row = [
+        SYNC_BYTE,
+        SYNC_BYTE,
+        SYNC_BYTE,
+        HEADER_MARK,
+        t as u8,
+        s as u8,
+        r as u8,
+        SIZE_CODE,
+    ];
     if k < 5 {
         return row[3 + k];
     }
@@ -76,20 +92,18 @@ fn header_byte(t: usize, s: usize, r: usize, k: usize) -> u8
 
 // Byte k of a data field from its mark on, with its CRC; its 512 bytes stand in the image from `at` on.
 fn field_byte(image: &[u8], at: usize, k: usize) -> u8
-    requires { ⌜ (at + 512 ≤ length (now image)) × (k < 515) ⌝ }
-    ensures { λ x. ⌜ x ≡ getD (withCrc (0xFB ∷ window (now (image .entry)) at 512)) k 0 ⌝ }
+    requires { ⌜ (at + sectorBytes ≤ length (now image)) × (k < fieldItems) ⌝ }
+    ensures { λ x. ⌜ x ≡ getD (withCrc (dataMark ∷ window (now (image .entry)) at sectorBytes)) k 0 ⌝ }
 {
     if k == 0 {
-        return 0xFB;
+        return DATA_MARK;
     }
     if k <= Geometry::SECTOR_BYTES {
         return image[at + (k - 1)];
     }
     let end = at + Geometry::SECTOR_BYTES;
-    let crc = cells::crc_row(
-        cells::crc_row(cells::START, b"\xA1\xA1\xA1\xFB"),
-        &image[at..end],
-    );
+    let lead = [SYNC_BYTE, SYNC_BYTE, SYNC_BYTE, DATA_MARK];
+    let crc = cells::crc_row(cells::crc_row(cells::START, &lead), &image[at..end]);
     if k == HIGH_CRC {
         (crc / 256) as u8
     } else {
@@ -99,7 +113,7 @@ fn field_byte(image: &[u8], at: usize, k: usize) -> u8
 
 // Item o of sector R, before its data field.
 fn header_item(t: usize, s: usize, r: usize, o: usize) -> Item
-    requires { ⌜ (t < 80) × (s < 2) × (r ≤ 9) × (o < 59) ⌝ }
+    requires { ⌜ (t < tracks) × (s < sides) × (r ≤ sectors) × (o < fieldStart) ⌝ }
     ensures { λ x. ⌜ ((d : List ℕ) → x ≡ sectorItem t s r d o) ⌝ }
 {
     if o < ZEROS {
@@ -122,7 +136,7 @@ fn header_item(t: usize, s: usize, r: usize, o: usize) -> Item
 
 // Item o of sector R of a side.
 fn sector_item(image: &[u8], t: usize, s: usize, r: usize, o: usize) -> Item
-    requires { ⌜ (length (now image) ≡ imageBytes) × (t < 80) × (s < 2) × (1 ≤ r) × (r ≤ 9) ⌝ }
+    requires { ⌜ (length (now image) ≡ imageBytes) × (t < tracks) × (s < sides) × (1 ≤ r) × (r ≤ sectors) ⌝ }
     ensures { λ x. ⌜ x ≡ sectorItem t s r (sectorData (now (image .entry)) t s r) o ⌝ }
 {
     if o < FIELD_START {
@@ -136,7 +150,7 @@ fn sector_item(image: &[u8], t: usize, s: usize, r: usize, o: usize) -> Item
 
 // Item q of a side, before its first sector.
 fn lead_item(q: usize) -> Item
-    requires { ⌜ q < 146 ⌝ }
+    requires { ⌜ q < leadItems ⌝ }
     ensures { λ x. ⌜ ((image : List ℕ) (t s : ℕ) → x ≡ imageSide image t s q) ⌝ }
 {
     if q < INDEX_GAP {
@@ -156,7 +170,7 @@ fn lead_item(q: usize) -> Item
 
 // Item q of a side.
 fn side_item(image: &[u8], t: usize, s: usize, q: usize) -> Item
-    requires { ⌜ (length (now image) ≡ imageBytes) × (t < 80) × (s < 2) ⌝ }
+    requires { ⌜ (length (now image) ≡ imageBytes) × (t < tracks) × (s < sides) ⌝ }
     ensures { λ x. ⌜ x ≡ imageSide (now (image .entry)) t s q ⌝ }
 {
     if q < LEAD {
@@ -171,7 +185,7 @@ fn side_item(image: &[u8], t: usize, s: usize, q: usize) -> Item
 
 // The bit before item q of a side; before the first it counts as 0.
 fn bit_before(image: &[u8], t: usize, s: usize, q: usize) -> u8
-    requires { ⌜ (length (now image) ≡ imageBytes) × (t < 80) × (s < 2) ⌝ }
+    requires { ⌜ (length (now image) ≡ imageBytes) × (t < tracks) × (s < sides) ⌝ }
     ensures { λ x. ⌜ x ≡ bitBefore (imageSide (now (image .entry)) t s) q ⌝ }
 {
     if q == 0 {

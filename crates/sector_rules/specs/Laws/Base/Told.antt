@@ -198,7 +198,7 @@ module _ (h : List ℕ) where
       (λ l.
       let b : isBad (sectorAt h (firstBad h)) ≡ true = lowest-hit (λ (m : ℕ). isBad (sectorAt h m)) allSectors l in
       true≢false (eqb (sectorReply (firstBad h) (sectorAt h (firstBad h)) .number) 0)
-      (eq-true (ap (λ (r : Reply). r .number) (sym (cond-true (sectorReply (firstBad h) (sectorAt h (firstBad h))) done (lt-true l))) ∙ e))
+      (eq-true (ap (λ (r : Reply). r .number) (sym (cond-true (sectorReply (firstBad h) (sectorAt h (firstBad h))) _ (lt-true l))) ∙ e))
       (bad-number (firstBad h) (sectorAt h (firstBad h)) b))
       (λ l. l)
 

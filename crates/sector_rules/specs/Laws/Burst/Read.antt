@@ -18,7 +18,7 @@ use Rattle.cells.specs.Laws.Sync.{three-cell}
 use Rattle.sector_rules.specs.declared.Id.{Id}
 use Rattle.sector_rules.specs.declared.Header.the-variants.{Is}
 use Rattle.sector_rules.specs.declared.Sector.the-variants.{Delivered}
-use Rattle.sector_rules.specs.Search.{isHeader, idOf, belongs, fieldAt}
+use Rattle.sector_rules.specs.Search.{isHeader, idOf, belongs, fieldAt, sizeCode}
 use Rattle.sector_rules.specs.Damage.{Binary}
 use Rattle.sector_rules.specs.Laws.Base.Told.{field-mark, header-syncs, header-mark}
 
@@ -69,12 +69,12 @@ fields-read c d bc bd j y p q tc td ec ed e r =
 -- the bytes of a header that belongs to the sector
 pub belongs-id : (t s r : ℕ) (i : Id) → belongs t s r (Is i) ≡ true → i ≡ record { c = t; h = s; r = r; n = 2 }
 belongs-id t s r i e =
-    let a₁ = and-left (eqb (i .c) t && eqb (i .h) s && eqb (i .n) 2) (eqb (i .r) r) e in
-    let a₂ = and-left (eqb (i .c) t && eqb (i .h) s) (eqb (i .n) 2) a₁ in
+    let a₁ = and-left (eqb (i .c) t && eqb (i .h) s && eqb (i .n) sizeCode) (eqb (i .r) r) e in
+    let a₂ = and-left (eqb (i .c) t && eqb (i .h) s) (eqb (i .n) sizeCode) a₁ in
     let ec : i .c ≡ t = true-eq (and-left (eqb (i .c) t) (eqb (i .h) s) a₂) in
     let eh : i .h ≡ s = true-eq (and-right (eqb (i .c) t) (eqb (i .h) s) a₂) in
-    let er : i .r ≡ r = true-eq (and-right (eqb (i .c) t && eqb (i .h) s && eqb (i .n) 2) (eqb (i .r) r) e) in
-    let en : i .n ≡ 2 = true-eq (and-right (eqb (i .c) t && eqb (i .h) s) (eqb (i .n) 2) a₁) in
+    let er : i .r ≡ r = true-eq (and-right (eqb (i .c) t && eqb (i .h) s && eqb (i .n) sizeCode) (eqb (i .r) r) e) in
+    let en : i .n ≡ sizeCode = true-eq (and-right (eqb (i .c) t && eqb (i .h) s) (eqb (i .n) sizeCode) a₁) in
     λ k. record { c = ec k; h = eh k; r = er k; n = en k }
 
 -- a cell that is read is one of the n

@@ -15,7 +15,7 @@ use Rattle.cells.specs.Sync.{threeSync}
 use Rattle.cells.specs.Theorems.{triple-only}
 use Rattle.sector_rules.specs.declared.Sector.the-variants.{Delivered}
 use Rattle.sector_rules.specs.Geometry.{allSectors, imageBytes}
-use Rattle.sector_rules.specs.Search.{headerCells, gapCells, isHeader, headerAt, fieldAt, fieldOf, sectorOf}
+use Rattle.sector_rules.specs.Search.{headerMark, dataMark, headerCells, gapCells, isHeader, headerAt, fieldAt, fieldOf, sectorOf}
 use Rattle.sector_rules.specs.Hfe.{sideStream}
 use Rattle.sector_rules.specs.Unpacked.{sectorAt, sectorBytesAt}
 use Rattle.sector_rules.specs.Packed.{hfeBytes, packHfe, sectorData, sideItem}
@@ -31,7 +31,7 @@ use Rattle.sector_rules.specs.Laws.Damage.FieldDamage.{fields-same, head
 field-no-header : (c : List ℕ) (j p : ℕ) → fieldAt c j ≡ Delivered p → isHeader (from c j) ≡ false
 field-no-header c j p e =
     by-test (isHeader (from c j))
-    (λ u. let z : _≡_ {A = ℕ} 0xFB 0xFE = sym (field-mark c j p e) ∙ header-mark (from c j) u in absurd (omega arith))
+    (λ u. let z : dataMark ≡ headerMark = sym (field-mark c j p e) ∙ header-mark (from c j) u in absurd (omega arith))
     (λ u. u)
 
 -- ---- two sides

@@ -20,7 +20,7 @@ use Rattle.cells.specs.Laws.Stream.{from-zero}
 use Rattle.cells.specs.Laws.Number.{bytes-list}
 use Rattle.sector_rules.specs.declared.Found.the-variants.{One}
 use Rattle.sector_rules.specs.declared.Sector.the-variants.{Delivered, Fieldless}
-use Rattle.sector_rules.specs.Search.{crcHolds, dataMark, headerAt, placesBelow, foundOf, findSector, fieldAt, fieldOf, sectorFound, sectorOf, sectorByte, bytesOf}
+use Rattle.sector_rules.specs.Search.{crcHolds, dataMark, headerCells, gapCells, headerAt, placesBelow, foundOf, findSector, fieldAt, fieldOf, sectorFound, sectorOf, sectorByte, bytesOf}
 use Rattle.sector_rules.specs.Packed.{fieldCrc, withCrc, sectorItem, sideItem}
 use Rattle.sector_rules.specs.Laws.Base.Search.{crc-two, first-is}
 use Rattle.sector_rules.specs.Laws.Base.Packed.{sector-field, sector-mark, fieldCrc-lt, crc-before, crc-high, crc-low}
@@ -152,9 +152,9 @@ module _ (t s : ℕ) (d : ℕ → List ℕ) (k : ℕ) (hk : k < 9) (len : length
   field-back =
       let e : 16 * (146 + 658 * k + 12) + 160 + 544 ≡ 16 * (146 + 658 * k + 56) = omega arith in
       let l : 8288 ≤ length (from (writtenSide t s d) (16 * (146 + 658 * k + 56))) = rw (room t s d (16 * (146 + 658 * k + 56))) (omega arith) in
-      let m : dataByte (from (writtenSide t s d) (16 * (146 + 658 * k + 56))) 48 ≡ 0xFB = row-byte 0 (lit< tt) (16 * (146 + 658 * k + 56)) 48 (omega arith) in
+      let m : dataByte (from (writtenSide t s d) (16 * (146 + 658 * k + 56))) 48 ≡ dataMark = row-byte 0 (lit< tt) (16 * (146 + 658 * k + 56)) 48 (omega arith) in
       let r : 16 * (146 + 658 * k + 56) + 64 ≡ 16 * (146 + 658 * k + 60) = omega arith in
-      first-is (λ (j : ℕ). threeSync (from (writtenSide t s d) j)) (fieldAt (writtenSide t s d)) Fieldless 689 (16 * (146 + 658 * k + 12) + 160) 544 (lit< tt) gap
+      first-is (λ (j : ℕ). threeSync (from (writtenSide t s d) j)) (fieldAt (writtenSide t s d)) Fieldless (gapCells + 1) (16 * (146 + 658 * k + 12) + headerCells) 544 (lit< tt) gap
       (rw e three-here)
       ∙ rw (e, le-leb _ _ l, eq-eqb _ _ m, field-holds, r)
 

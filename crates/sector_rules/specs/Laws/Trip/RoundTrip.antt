@@ -24,9 +24,10 @@ use Rattle.cells.specs.Laws.Packed.{packed-bit}
 use Rattle.cells.specs.Laws.Written.{written-length, writtenCell-bit}
 use Rattle.sector_rules.specs.declared.Fault.the-variants.{Sound}
 use Rattle.sector_rules.specs.Replies.{done}
+use Rattle.sector_rules.specs.Geometry.{sectorBytes, allSectors, imageBytes}
 use Rattle.sector_rules.specs.Hfe.{signature, formatFault, flagFault, headerFault, entryPlace, trackStart, trackLength, trackBytes, trackGood, tableFault, trackPart, sideStream}
-use Rattle.sector_rules.specs.Unpacked.{leastHfe, isBad, sectorAt, sectorBytesAt, firstBad, sectorsReply, unpackReply, unpackedByte}
-use Rattle.sector_rules.specs.Packed.{hfeBytes, headerRest, headerByte, tableByte, trackByte, hfeByte, packHfe, sectorData, imageSide, sideItem}
+use Rattle.sector_rules.specs.Unpacked.{leastHfe, trackOf, sideOf, rOf, isBad, sectorAt, sectorBytesAt, firstBad, sectorsReply, unpackReply, unpackedByte}
+use Rattle.sector_rules.specs.Packed.{hfeBytes, headerRest, headerByte, tableByte, trackByte, hfeByte, packHfe, imageSectorOf, sectorData, imageSide, sideItem}
 use Rattle.sector_rules.specs.RoundTrip.{RoundTrip}
 use Rattle.sector_rules.specs.Laws.Base.Hfe.{fault-none}
 use Rattle.sector_rules.specs.Laws.Base.Packed.{table-0, table-1, table-2, table-3, track-in, hfe-header, hfe-table, hfe-track, pack-done, hfe-after}
@@ -180,20 +181,23 @@ module _ (image : List ℕ) where
   -- ---- the sectors
 
   module _ (small : (k : ℕ) → getD image k 0 < 256) where
-    data-long : (t s r : ℕ) → length (sectorData image t s r) ≡ 512
+    data-long : (t s r : ℕ) → length (sectorData image t s r) ≡ sectorBytes
     unfolding sectorData
-    data-long t s r = window-length image _ 512
+    data-long t s r = window-length image _ sectorBytes
+
+    window-small : (i j : ℕ) → getD (window image i sectorBytes) j 0 < 256
+    window-small i j =
+        by-order j sectorBytes
+        (λ l. rw (window-in image i sectorBytes j l) (small _))
+        (λ l.
+        let b : length (window image i sectorBytes) ≤ j = rw (window-length image i sectorBytes) l in
+        rw (getD-past (window image i sectorBytes) j b) (lit< tt))
 
     data-small : (t s r j : ℕ) → getD (sectorData image t s r) j 0 < 256
     unfolding sectorData
-    data-small t s r j =
-        by-order j 512
-        (λ l. rw (window-in image (512 * (18 * t + 9 * s + (r - 1))) 512 j l) (small _))
-        (λ l.
-        let b : length (window image (512 * (18 * t + 9 * s + (r - 1))) 512) ≤ j = rw (window-length image (512 * (18 * t + 9 * s + (r - 1))) 512) l in
-        rw (getD-past (window image (512 * (18 * t + 9 * s + (r - 1))) 512) j b) (lit< tt))
+    data-small t s r j = window-small _ j
 
-    module _ (m : ℕ) (hm : m < 1440) where
+    module _ (m : ℕ) (hm : m < allSectors) where
       at-side : sideStream packedImage (m / 18) (m % 18 / 9) ≡ writtenSide (m / 18) (m % 18 / 9) (sectorData image (m / 18) (m % 18 / 9))
       at-side = stream-back (m / 18) (m % 18 / 9) (omega arith) (omega arith)
 
@@ -205,15 +209,15 @@ module _ (image : List ℕ) where
       sector-bytes : sectorBytesAt packedImage m ≡ window image (512 * m) 512
       unfolding sectorBytesAt sectorAt sectorData
       sector-bytes =
-          let e : 18 * (m / 18) + 9 * (m % 18 / 9) + (m % 9 + 1 - 1) ≡ m = omega arith in
+          let e : imageSectorOf (trackOf m) (sideOf m) (rOf m) ≡ m = omega arith in
           rw at-side
           (bytes-back (m / 18) (m % 18 / 9) (omega arith) (omega arith) (sectorData image (m / 18) (m % 18 / 9)) (m % 9) (omega arith) (data-long _ _ _) (data-small _ _ _) ∙ rw e)
 
     sectors-done : sectorsReply packedImage ≡ done
     unfolding sectorsReply firstBad
-    sectors-done = rw (lowest-none (λ (m : ℕ). isBad (sectorAt packedImage m)) 1440 good-sector)
+    sectors-done = rw (lowest-none (λ (m : ℕ). isBad (sectorAt packedImage m)) allSectors good-sector)
 
-    byte-back : (k : ℕ) → k < 737280 → unpackedByte packedImage k ≡ getD image k 0
+    byte-back : (k : ℕ) → k < imageBytes → unpackedByte packedImage k ≡ getD image k 0
     unfolding unpackedByte
     byte-back k h =
         let e : 512 * (k / 512) + k % 512 ≡ k = omega arith in
@@ -232,5 +236,5 @@ round-trip image hfe old li small lh lo =
       rw x r,
       rw x
           (image-after (packedImage image) old done r
-          ∙ sym (eq-tab image (unpackedByte (packedImage image)) 737280 li (λ k h. sym (byte-back image small k h)))),
+          ∙ sym (eq-tab image (unpackedByte (packedImage image)) imageBytes li (λ k h. sym (byte-back image small k h)))),
     )

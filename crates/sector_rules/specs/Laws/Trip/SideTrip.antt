@@ -22,7 +22,7 @@ use Rattle.cells.specs.Laws.Stream.{from-length}
 use Rattle.cells.specs.Laws.Number.{byte-from, bytes-list}
 use Rattle.cells.specs.Laws.Sync.{sync-from}
 use Rattle.cells.specs.Laws.Written.{byte-at, sync-here, written-length}
-use Rattle.sector_rules.specs.Search.{crcHolds, headerMark, isHeader, idOf, headerOf, headerAt, first}
+use Rattle.sector_rules.specs.Search.{crcHolds, headerMark, dataMark, sizeCode, isHeader, idOf, headerOf, headerAt, first}
 use Rattle.sector_rules.specs.Packed.{span, fieldCrc, withCrc, headerRow, sectorItem, sideItem, sideItems}
 use Rattle.sector_rules.specs.Laws.Base.Search.{crc-two}
 use Rattle.sector_rules.specs.Laws.Base.Packed.{sector-sync, side-sector, fieldCrc-lt}
@@ -131,7 +131,7 @@ header-true c t s r i e =
     let h = header-split c t s r i e in (
       header-syncs (from c i) (h .0),
       header-mark (from c i) (h .0),
-      eqb-true _ _ (and-right (eqb (dataByte (from c i) 64) t && eqb (dataByte (from c i) 80) s && eqb (dataByte (from c i) 112) 2) _ (h .1)),
+      eqb-true _ _ (and-right (eqb (dataByte (from c i) 64) t && eqb (dataByte (from c i) 80) s && eqb (dataByte (from c i) 112) sizeCode) _ (h .1)),
     )
 
 module _ (t s : ℕ) (d : ℕ → List ℕ) where
@@ -146,7 +146,7 @@ module _ (t s : ℕ) (d : ℕ → List ℕ) where
       let w : z .0 + 1 ≡ r = sym (byte-at-item t s d (z .0) 18 (z .1) (lit< tt) (omega arith) i 96 (omega arith)) ∙ x .2 in
       omega arith)
       (λ l.
-      let w : _≡_ {A = ℕ} 0xFB 0xFE = sym (byte-at-item t s d (z .0) 59 (z .1) (lit< tt) (lit< tt) i 48 (omega arith)) ∙ x .1 in
+      let w : dataMark ≡ headerMark = sym (byte-at-item t s d (z .0) 59 (z .1) (lit< tt) (lit< tt) i 48 (omega arith)) ∙ x .1 in
       absurd (omega arith))
       (z .2)
 
@@ -205,7 +205,7 @@ module _ (t s : ℕ) (ht : t < 256) (hs : s < 256) (d : ℕ → List ℕ) (k : �
   unfolding headerAt headerOf isHeader idOf item sectorItem span withCrc f place
   there =
       let l : 160 ≤ length f = rw (room t s d place) (omega arith) in
-      let m : dataByte f 48 ≡ 0xFE = at 3 (lit< tt) (lit< tt) in
+      let m : dataByte f 48 ≡ headerMark = at 3 (lit< tt) (lit< tt) in
       let b₄ : dataByte f 64 ≡ t = at 4 (lit< tt) ht in
       let b₅ : dataByte f 80 ≡ s = at 5 (lit< tt) hs in
       let b₆ : dataByte f 96 ≡ k + 1 = at 6 (lit< tt) (omega arith) in

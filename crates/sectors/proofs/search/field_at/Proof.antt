@@ -7,6 +7,9 @@ use Rattle.sectors.specs.Laws.Reading.Search.{field-past, field-fits}
 use Rattle.sectors.proofs.search.field_at.Statement.{statement}
 use Rattle.sectors.proofs.search.field_at.Tie as tie
 
+add-bytes : tie.Need-add-bytes
+add-bytes c = search needs
+
 cells-from-requires : tie.Need-cells-from-requires
 cells-from-requires c κs = search needs
 
@@ -18,9 +21,6 @@ data-byte-requires c κs = search needs
 
 crc-holds-requires : tie.Need-crc-holds-requires
 crc-holds-requires c κs = search needs
-
-add-t8 : tie.Need-add-t8
-add-t8 c = search needs
 
 returns-2 : tie.Need-returns-2
 returns-2 c = sym (field-fits _ _ (rw (← c .before .before .before .before .before .cells-from .ensures .0 _) (c .before .before .before .before .if1 .left))
@@ -37,11 +37,11 @@ pub field-at-spec : {M : Type 1} → statement M
 field-at-spec =
     tie.close
     (tie.spec
+    add-bytes
     cells-from-requires
     returns
     data-byte-requires
     crc-holds-requires
-    add-t8
     returns-2
     returns-3
     returns-4)

@@ -10,13 +10,14 @@ use Rattle.cells.specs.Laws.Stream.{from-zero}
 use Rattle.cells.specs.Stream.{stream}
 use Rattle.sectors.specs.Laws.Reading.Search.{scan-none, scan-all, scan-no, scan-yes}
 use Rattle.sector_rules.specs.declared.Found.the-variants.{Nothing}
+use Rattle.sector_rules.specs.Geometry.{sectors}
 use Rattle.sector_rules.specs.Search.{headerAt, placesBelow, foundOf}
 use Rattle.sectors.proofs.search.scan.Statement.{statement}
 use Rattle.sectors.proofs.search.scan.Tie as tie
 
 abbrev Inv-loop : tie.InvT-loop
-Inv-loop part side track head found₀ places i₀ found i = (i ≤ places) × (places ≡ length (stream part side)) × (length found ≡ 9)
-    × ((k : ℕ) → k < 9 → getD found k Nothing ≡ foundOf (placesBelow (headerAt (stream part side) track head (k + 1)) i))
+Inv-loop part side track head found₀ places i₀ found i = (i ≤ places) × (places ≡ length (stream part side)) × (length found ≡ sectors)
+    × ((k : ℕ) → k < sectors → getD found k Nothing ≡ foundOf (placesBelow (headerAt (stream part side) track head (k + 1)) i))
 
 abbrev μ-loop : tie.MeasureT-loop
 μ-loop part side track head found₀ places i₀ found i = places - i

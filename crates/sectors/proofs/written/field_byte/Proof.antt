@@ -4,6 +4,7 @@ use mathlib.Core.Path.{_≡_, sym}
 use Prim.Native.Nat.{_+_, _-_}
 use native.Mathlib.Omega.{arith}
 use borrow.Author.Needs.{needs}
+use Rattle.sector_rules.specs.Geometry.{sectorBytes}
 use Rattle.sectors.specs.Laws.Packing.Items.{row-mark, row-data, row-high, row-low, field-crc}
 use Rattle.sectors.proofs.written.field_byte.Statement.{statement}
 use Rattle.sectors.proofs.written.field_byte.Tie as tie
@@ -53,13 +54,13 @@ cast-result-2 c = search needs
 returns-3 : tie.Need-returns-3
 returns-3 c = let image = c .before .before .before .before .before .before .before .before .args .image .now in
     let at = c .before .before .before .before .before .before .before .before .args .at in
-    let e : at + 512 - at ≡ 512 = omega arith in
+    let e : at + sectorBytes - at ≡ sectorBytes = omega arith in
     rw (c .before .crc-row2 .ensures, c .before .before .before .crc-row .ensures, e, field-crc image at (omega arith)) (sym (row-high image at _ (omega arith)))
 
 returns-4 : tie.Need-returns-4
 returns-4 c = let image = c .before .before .before .before .before .before .before .before .args .image .now in
     let at = c .before .before .before .before .before .before .before .before .args .at in
-    let e : at + 512 - at ≡ 512 = omega arith in
+    let e : at + sectorBytes - at ≡ sectorBytes = omega arith in
     rw (c .before .crc-row2 .ensures, c .before .before .before .crc-row .ensures, e, field-crc image at (omega arith)) (sym (row-low image at _ (omega arith)))
 
 pub field-byte-spec : {M : Type 1} → statement M

@@ -2,7 +2,7 @@
 -- Assumes nothing.
 use mathlib.Core.List.{List, [], _∷_, _++_}
 use mathlib.Core.Path.{_≡_, refl, sym, _∙_}
-use Prim.Native.Nat.{ℕ, zero, suc, _+_, _-_, _/_, _%_, _≤_, _<_}
+use Prim.Native.Nat.{ℕ, zero, suc, _+_, _-_, _*_, _/_, _%_, _≤_, _<_}
 use native.Mathlib.Omega.{arith}
 use lib.ListN.{length, getD, take, drop, List·getD-eq-default}
 use borrow.Author.Tests.{le-ltb, eq-eqb, ne-eqb}
@@ -12,7 +12,7 @@ use Rattle.cells.specs.Crc.{crcStart, crcFrom, crc}
 use Rattle.cells.specs.Laws.Crc.{crcFrom-append}
 use Rattle.cells.specs.declared.Item.the-variants.{Plain, Index}
 use Rattle.sector_rules.specs.Replies.{reply}
-use Rattle.sector_rules.specs.Geometry.{imageBytes}
+use Rattle.sector_rules.specs.Geometry.{tracks, sectorBytes, imageBytes}
 use Rattle.sector_rules.specs.Hfe.{signature}
 use Rattle.sector_rules.specs.Search.{dataMark}
 use Rattle.sector_rules.specs.Packed.{hfeBytes, fillByte, headerRest, headerByte, tableByte, packReply, fieldCrc, withCrc, headerRow, gapByte, sectorItem, sideItem}
@@ -64,11 +64,11 @@ pub header-crc : (t s r : ℕ) → crcFrom crcStart (0xA1 ∷ (0xA1 ∷ (0xA1 �
 unfolding fieldCrc crc
 header-crc t s r = refl
 
-pub field-crc : (image : List ℕ) (at : ℕ) → at + 512 ≤ length image
-    → crcFrom (crcFrom crcStart (0xA1 ∷ (0xA1 ∷ (0xA1 ∷ (0xFB ∷ []))))) (take 512 (drop at image)) ≡ fieldCrc (dataMark ∷ window image at 512)
+pub field-crc : (image : List ℕ) (at : ℕ) → at + sectorBytes ≤ length image
+    → crcFrom (crcFrom crcStart (0xA1 ∷ (0xA1 ∷ (0xA1 ∷ (dataMark ∷ []))))) (take sectorBytes (drop at image)) ≡ fieldCrc (dataMark ∷ window image at sectorBytes)
 unfolding fieldCrc crc
 field-crc image at h =
-    sym (crcFrom-append crcStart (0xA1 ∷ (0xA1 ∷ (0xA1 ∷ (0xFB ∷ [])))) (take 512 (drop at image))) ∙ rw (window-part image at 512 h)
+    sym (crcFrom-append crcStart (0xA1 ∷ (0xA1 ∷ (0xA1 ∷ (dataMark ∷ [])))) (take sectorBytes (drop at image))) ∙ rw (window-part image at sectorBytes h)
 
 -- the bytes of a header row, as they stand in the row that code makes
 pub row-header : (t s r k : ℕ) → k < 5
@@ -80,24 +80,24 @@ row-header t s r k h =
 -- the bytes of a data field
 module _ (image : List ℕ) (at : ℕ) where
   abbrev field : List ℕ
-  field = dataMark ∷ window image at 512
+  field = dataMark ∷ window image at sectorBytes
 
   field-length : length field ≡ 513
-  field-length = omega (arith, window-length image at 512)
+  field-length = omega (arith, window-length image at sectorBytes)
 
-  pub row-mark : getD (withCrc (dataMark ∷ window image at 512)) 0 0 ≡ 0xFB
+  pub row-mark : getD (withCrc (dataMark ∷ window image at sectorBytes)) 0 0 ≡ dataMark
   row-mark = crc-before field 0 (omega (arith, field-length))
 
-  pub row-data : (k : ℕ) → (k ≡ 0 → ⊥) → k ≤ 512 → at + 512 ≤ length image → getD (withCrc (dataMark ∷ window image at 512)) k 0 ≡ getD image (at + (k - 1)) 0
+  pub row-data : (k : ℕ) → (k ≡ 0 → ⊥) → k ≤ sectorBytes → at + sectorBytes ≤ length image → getD (withCrc (dataMark ∷ window image at sectorBytes)) k 0 ≡ getD image (at + (k - 1)) 0
   row-data zero n h l = absurd (n refl)
   row-data (suc k) n h l =
       let e : suc k - 1 ≡ k = omega arith in
-      crc-before field (suc k) (omega (arith, field-length)) ∙ rw e (window-in image at 512 k (omega arith))
+      crc-before field (suc k) (omega (arith, field-length)) ∙ rw e (window-in image at sectorBytes k (omega arith))
 
-  pub row-high : (k : ℕ) → k ≡ 513 → getD (withCrc (dataMark ∷ window image at 512)) k 0 ≡ fieldCrc (dataMark ∷ window image at 512) / 256
+  pub row-high : (k : ℕ) → k ≡ 513 → getD (withCrc (dataMark ∷ window image at sectorBytes)) k 0 ≡ fieldCrc (dataMark ∷ window image at sectorBytes) / 256
   row-high k e = crc-high field k (omega (arith, field-length))
 
-  pub row-low : (k : ℕ) → k ≡ 514 → getD (withCrc (dataMark ∷ window image at 512)) k 0 ≡ fieldCrc (dataMark ∷ window image at 512) % 256
+  pub row-low : (k : ℕ) → k ≡ 514 → getD (withCrc (dataMark ∷ window image at sectorBytes)) k 0 ≡ fieldCrc (dataMark ∷ window image at sectorBytes) % 256
   row-low k e = crc-low field k (omega (arith, field-length))
 
 -- ---- the bytes of the image
@@ -109,9 +109,9 @@ header-out k h = List·getD-eq-default (signature ++ headerRest) fillByte h
 
 -- past the last entry
 module _ (j : ℕ) where
-  pub table-past : 320 ≤ j → tableByte j ≡ fillByte
+  pub table-past : 4 * tracks ≤ j → tableByte j ≡ fillByte
   unfolding tableByte
-  table-past h = rw (le-ltb j 320 h)
+  table-past h = rw (le-ltb j (4 * tracks) h)
 
 -- refusals
 module _ (n m : ℕ) where

@@ -45,6 +45,7 @@ tracksByte image k = hfeByte image (firstUnit * unitBytes + k)
 -- ---- items
 
 module _ (items : ℕ → Item) (q p : ℕ) (item : Item) (is-bit : p ≡ bitBefore items q) (is-item : item ≡ items q) where
+  -- a half of the item, as it is stored
   half : (b o : ℕ) → o < 2 → b ≡ 2 * q + o → packed (itemCell p item) o ≡ packed (writtenCell items) b
   half b o l e =
       let d : b / 2 ≡ q = omega arith in
@@ -73,6 +74,7 @@ module _ (items : ℕ → Item) (q p : ℕ) (item : Item) (is-bit : p ≡ bitBef
 -- ---- runs
 
 module _ (image : List ℕ) (t s u : ℕ) where
+  -- before the side's end, and past it
   run-in : (k : ℕ) → runBytes * u + k < sideBytes → itemsByte (imageSide image t s) (runItems * u) k ≡ runByte image t s u k
   unfolding itemsByte runByte
   run-in k l =
@@ -97,17 +99,19 @@ module _ (image : List ℕ) (t s u : ℕ) where
 -- ---- the units of the tracks, half by half
 
 module _ (image : List ℕ) (w : ℕ) where
+  -- run w is the w-th half of a unit
   run-is : (k : ℕ) → k < runBytes → runByte image (w / sides / trackUnits) (w % sides) (w / sides % trackUnits) k ≡ tracksByte image (runBytes * w + k)
   unfolding tracksByte runByte trackByte
   run-is k l =
-      let y : firstUnit * unitBytes + (runBytes * w + k) - 1024 ≡ runBytes * w + k = omega arith in
-      let t : (runBytes * w + k) / 25088 ≡ w / sides / trackUnits = omega arith in
-      let o : (runBytes * w + k) % 25088 ≡ 512 * (w / sides % trackUnits) + 256 * (w % sides) + k = omega arith in
-      let u : (512 * (w / sides % trackUnits) + 256 * (w % sides) + k) / 512 ≡ w / sides % trackUnits = omega arith in
-      let s : (512 * (w / sides % trackUnits) + 256 * (w % sides) + k) % 512 / 256 ≡ w % sides = omega arith in
-      let r : (512 * (w / sides % trackUnits) + 256 * (w % sides) + k) % 256 ≡ k = omega arith in
+      let y : firstUnit * unitBytes + (runBytes * w + k) - firstUnit * unitBytes ≡ runBytes * w + k = omega arith in
+      let t : (runBytes * w + k) / (trackUnits * unitBytes) ≡ w / sides / trackUnits = omega arith in
+      let o : (runBytes * w + k) % (trackUnits * unitBytes) ≡ unitBytes * (w / sides % trackUnits) + runBytes * (w % sides) + k = omega arith in
+      let u : (unitBytes * (w / sides % trackUnits) + runBytes * (w % sides) + k) / unitBytes ≡ w / sides % trackUnits = omega arith in
+      let s : (unitBytes * (w / sides % trackUnits) + runBytes * (w % sides) + k) % unitBytes / runBytes ≡ w % sides = omega arith in
+      let r : (unitBytes * (w / sides % trackUnits) + runBytes * (w % sides) + k) % runBytes ≡ k = omega arith in
       sym (hfe-track image (firstUnit * unitBytes + (runBytes * w + k)) (omega arith) (omega arith) ∙ rw (y, t, o, u, s, r))
 
+  -- one more run
   pub tracks-more : (d out : List ℕ) → out ≡ overlay d (firstUnit * unitBytes) (runBytes * w) (tracksByte image)
       → overlay out (firstUnit * unitBytes + runBytes * w) runBytes (runByte image (w / sides / trackUnits) (w % sides) (w / sides % trackUnits))
       ≡ overlay d (firstUnit * unitBytes) (runBytes * (w + 1)) (tracksByte image)
@@ -138,23 +142,24 @@ put-rest d = refl
 pub header-written : (d out next : List ℕ) → out ≡ put d 0 signature → next ≡ put out 8 headerRest
     → overlay next 20 (unitBytes - 20) (λ (k : ℕ). fillByte) ≡ overlay d 0 unitBytes headerByte
 header-written d out next e f =
-    overlay-next d 20 492 (λ (k : ℕ). fillByte) headerByte next
+    overlay-next d 20 (unitBytes - 20) (λ (k : ℕ). fillByte) headerByte next
     (f ∙ put-rest out ∙ overlay-next d 8 12 (elementAt headerRest 0) headerByte out
     (e ∙ put-signature d ∙ overlay-cong d 0 8 (elementAt signature 0) headerByte signature-is) rest-is)
     (λ k l. sym (header-out (20 + k) (omega arith)))
 
 -- ---- the image: header, table and tracks
 
+-- the three parts in order are the image
 pub image-written : (image d h1 h2 h3 : List ℕ) → length d ≡ hfeBytes → h1 ≡ overlay d 0 unitBytes headerByte → h2 ≡ overlay h1 unitBytes unitBytes tableByte
     → h3 ≡ overlay h2 (firstUnit * unitBytes) (trackUnits * tracks * unitBytes) (tracksByte image) → h3 ≡ tab (hfeByte image) hfeBytes
 unfolding tracksByte
 image-written image d h1 h2 h3 long e1 e2 e3 =
     e3
-    ∙ overlay-next d 1024 2007040 (tracksByte image) (hfeByte image) h2
-    (e2 ∙ overlay-next d 512 512 tableByte (hfeByte image) h1
-    (e1 ∙ overlay-cong d 0 512 headerByte (hfeByte image) (λ k l. sym (hfe-header image k l)))
+    ∙ overlay-next d (firstUnit * unitBytes) (trackUnits * tracks * unitBytes) (tracksByte image) (hfeByte image) h2
+    (e2 ∙ overlay-next d unitBytes unitBytes tableByte (hfeByte image) h1
+    (e1 ∙ overlay-cong d 0 unitBytes headerByte (hfeByte image) (λ k l. sym (hfe-header image k l)))
     (λ k l.
-    let z : 512 + k - 512 ≡ k = omega arith in
-    sym (hfe-table image (512 + k) (omega arith) (omega arith) ∙ rw z)))
+    let z : unitBytes + k - unitBytes ≡ k = omega arith in
+    sym (hfe-table image (unitBytes + k) (omega arith) (omega arith) ∙ rw z)))
     (λ k l. refl)
     ∙ overlay-all d hfeBytes (hfeByte image) long

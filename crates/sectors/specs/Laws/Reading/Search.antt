@@ -19,7 +19,7 @@ use Rattle.sector_rules.specs.declared.Found.{Found}
 use Rattle.sector_rules.specs.declared.Found.the-variants.{Nothing}
 use Rattle.sector_rules.specs.declared.Sector.the-variants.{Delivered, Fieldless, Damaged}
 use Rattle.sector_rules.specs.Geometry.{sectors}
-use Rattle.sector_rules.specs.Search.{crcHolds, headerMark, dataMark, headerCells, fieldCells, isHeader, idOf, headerOf, belongs, headerAt, placesBelow, foundOf, findSector, first, fieldAt}
+use Rattle.sector_rules.specs.Search.{crcHolds, headerMark, dataMark, sizeCode, headerCells, fieldCells, isHeader, idOf, headerOf, belongs, headerAt, placesBelow, foundOf, findSector, first, fieldAt}
 use Rattle.sector_rules.specs.Laws.Base.Search.{moreFound, found-yes, found-no}
 
 -- ---- headers
@@ -48,11 +48,11 @@ module _ (t s : ℕ) where
   index-absent = record { most = omega arith; each = λ k h. sym (ne-eqb k sectors (λ (e : k ≡ sectors). omega arith)) }
 
   -- a header of another track, side or size
-  pub index-else : (id : Id) → (eqb (id .c) t && eqb (id .h) s && eqb (id .n) 2) ≡ false → Indexed sectors (Is id) t s
+  pub index-else : (id : Id) → (eqb (id .c) t && eqb (id .h) s && eqb (id .n) sizeCode) ≡ false → Indexed sectors (Is id) t s
   index-else id e = record { most = omega arith; each = λ k h. rw e (sym (ne-eqb k sectors (λ (q : k ≡ sectors). omega arith))) }
 
   -- a header of this track and side, with R in or out of range
-  pub index-in : (id : Id) → (eqb (id .c) t && eqb (id .h) s && eqb (id .n) 2) ≡ true → 1 ≤ id .r → id .r ≤ sectors → Indexed (id .r - 1) (Is id) t s
+  pub index-in : (id : Id) → (eqb (id .c) t && eqb (id .h) s && eqb (id .n) sizeCode) ≡ true → 1 ≤ id .r → id .r ≤ sectors → Indexed (id .r - 1) (Is id) t s
   index-in id e l h = record { most = omega arith; each = λ k b. rw e (same k) }
     where
       same : (k : ℕ) → eqb (id .r) (k + 1) ≡ eqb k (id .r - 1)
@@ -68,7 +68,7 @@ module _ (t s : ℕ) where
         each =
             λ k h.
             let z : eqb (id .r) (k + 1) ≡ false = ne-eqb _ _ (n k h) in
-            rw z (and-none (eqb (id .c) t && eqb (id .h) s && eqb (id .n) 2) ∙ sym (ne-eqb k sectors (λ (q : k ≡ sectors). omega arith)));
+            rw z (and-none (eqb (id .c) t && eqb (id .h) s && eqb (id .n) sizeCode) ∙ sym (ne-eqb k sectors (λ (q : k ≡ sectors). omega arith)));
       }
     where
       and-none : (b : Bool) → (b && false) ≡ false

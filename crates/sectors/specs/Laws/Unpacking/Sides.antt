@@ -15,7 +15,7 @@ use Rattle.sector_rules.specs.declared.Found.{Found}
 use Rattle.sector_rules.specs.declared.Found.the-variants.{Nothing}
 use Rattle.sector_rules.specs.declared.Sector.{Sector}
 use Rattle.sector_rules.specs.declared.Sector.the-variants.{Delivered, Missing}
-use Rattle.sector_rules.specs.Geometry.{tracks, sides, sectors, sectorBytes}
+use Rattle.sector_rules.specs.Geometry.{tracks, sides, sectors, allSectors, sectorBytes}
 use Rattle.sector_rules.specs.Search.{sectorFound, sectorOf, sectorByte, bytesOf}
 use Rattle.sector_rules.specs.Hfe.{trackLength, trackPart, sideStream}
 use Rattle.sector_rules.specs.Unpacked.{trackOf, sideOf, sectorBytesAt, sectorAt, unpackedByte}
@@ -56,15 +56,15 @@ module _ (h : List ℕ) (n : ℕ) (part : List ℕ) (side : Side) (is-part : par
   stream-is : (k : ℕ) → k < sectors → stream part side ≡ sideStream h (trackOf (sectors * n + k)) (sideOf (sectors * n + k))
   unfolding sideStream
   stream-is k l =
-      let t : (sectors * n + k) / 18 ≡ n / sides = omega arith in
-      let s : (sectors * n + k) % 18 / sectors ≡ n % sides = omega arith in
+      let t : trackOf (sectors * n + k) ≡ n / sides = omega arith in
+      let s : sideOf (sectors * n + k) ≡ n % sides = omega arith in
       rw (t, s, is-part, is-side)
 
   sector-is : (k : ℕ) → k < sectors → sectorOf (stream part side) (n / sides) (n % sides) (k + 1) ≡ sectorAt h (sectors * n + k)
   unfolding sectorAt
   sector-is k l =
-      let t : (sectors * n + k) / 18 ≡ n / sides = omega arith in
-      let s : (sectors * n + k) % 18 / sectors ≡ n % sides = omega arith in
+      let t : trackOf (sectors * n + k) ≡ n / sides = omega arith in
+      let s : sideOf (sectors * n + k) ≡ n % sides = omega arith in
       let r : (sectors * n + k) % sectors ≡ k = omega arith in
       rw (← stream-is k l, t, s, r)
 
@@ -73,7 +73,7 @@ module _ (h : List ℕ) (n : ℕ) (part : List ℕ) (side : Side) (is-part : par
   image-gives r x = record { long = x .long; each = λ k l. x .each k l ∙ sector-is k l }
 
   -- byte k of the side in the image
-  pub side-byte : (places : List ℕ) → ((m : ℕ) → m < tracks * sides * sectors → sectorAt h m ≡ Delivered (getD places m 0)) → n < tracks * sides
+  pub side-byte : (places : List ℕ) → ((m : ℕ) → m < allSectors → sectorAt h m ≡ Delivered (getD places m 0)) → n < tracks * sides
       → (k : ℕ) → k < sectorBytes * sectors → placedByte (stream part side) places (sectors * n) k ≡ unpackedByte h (sectorBytes * (sectors * n) + k)
   unfolding unpackedByte sectorBytesAt bytesOf placedByte
   side-byte places noted b k l =
@@ -84,6 +84,7 @@ module _ (h : List ℕ) (n : ℕ) (part : List ℕ) (side : Side) (is-part : par
 
 -- ---- one more sector of a side is written
 
+-- the bytes of the next sector follow those of the last
 pub side-more : (c places d out : List ℕ) (at k : ℕ) → out ≡ overlay d (sectorBytes * at) (sectorBytes * k) (placedByte c places at)
     → overlay out (sectorBytes * (at + k)) sectorBytes (sectorByte c (getD places (at + k) 0))
     ≡ overlay d (sectorBytes * at) (sectorBytes * (k + 1)) (placedByte c places at)
