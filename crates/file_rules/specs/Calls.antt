@@ -86,7 +86,7 @@ format image args =
 
 -- ---- check
 
--- nothing more
+-- 1 and 8 to 11 alone
 unfoldable pub check : List ℕ → Reply
 check image = onSound image (λ (r : Reply). r) (λ (d : Disk). done)
 
@@ -108,6 +108,7 @@ entries d (suc n) = entries d n ++ cond (held d n) (tab (slotByte d n) slotBytes
 unfoldable pub listSound : Disk → List ℕ → Outcome
 listSound d buf = deliver (entries d (dirEnd d)) buf
 
+-- 1 and 8 to 11 before that
 unfoldable pub list : List ℕ → List ℕ → Outcome
 list image buf = onSound image (kept buf) (λ (d : Disk). listSound d buf)
 
@@ -122,6 +123,7 @@ readSound d name buf =
     (cond (ltb (findName d name) (dirEnd d)) (deliver (dataOf d (findName d name)) buf) (kept buf (refusal 14)))
     (kept buf (refusal 12))
 
+-- 1 and 8 to 11 before that
 unfoldable pub read : List ℕ → List ℕ → List ℕ → Outcome
 read image name buf = onSound image (kept buf) (λ (d : Disk). readSound d name buf)
 
@@ -164,6 +166,7 @@ addSound d name date content =
 unfoldable pub imaged : Changed → Written
 imaged c = record { answer = c .answer; image = imageOf (c .disk) }
 
+-- 1 and 8 to 11 before that
 unfoldable pub add : List ℕ → List ℕ → ℕ → List ℕ → Written
 add image name date content = onSound image (unwritten image) (λ (d : Disk). imaged (addSound d name date content))
 
@@ -181,5 +184,6 @@ removeSound d name =
     (refused d (refusal 14)))
     (refused d (refusal 12))
 
+-- 1 and 8 to 11 before that
 unfoldable pub remove : List ℕ → List ℕ → Written
 remove image name = onSound image (unwritten image) (λ (d : Disk). imaged (removeSound d name))

@@ -1,16 +1,29 @@
 -- values-to-check: the values that document 01, "Values to check", has proved together, as one statement of the definitions.
--- The table of placements is the sector layer's.
+-- The table of placements is the sector layer's. record-values: the kinds of map record by their bytes.
 -- Assumes nothing.
 use mathlib.Core.Path.{_≡_, refl}
 use mathlib.Core.List.{[], _∷_}
-use Rattle.laws.specs.Tab.{elementAt}
-use Rattle.laws.specs.Words.{bigEndian, highFirst}
+use Rattle.laws.specs.Tab.{tab, elementAt}
+use Rattle.laws.specs.Words.{bigEndian, highFirst, highByte}
 use Rattle.sector_rules.specs.Values.{placements, placed, listed, placement-values}
-use Rattle.file_rules.specs.declared.Record.the-variants.{File}
-use Rattle.file_rules.specs.Map.{decode}
+use Rattle.file_rules.specs.declared.Record.the-variants.{Free, System, File, Other}
+use Rattle.file_rules.specs.Map.{decode, numberOf, encode}
 use Rattle.file_rules.specs.Sizes.{recordBytes}
 
 -- every row's image sector is the definition's, and the record reads as the paper says
 pub values-to-check : (placed placements ≡ listed placements) × (decode (highFirst (0x2A ∷ 0x50 ∷ 0x13 ∷ []) 0 recordBytes) ≡ File 0x2A5 0x013)
 unfolding decode highFirst bigEndian elementAt
 values-to-check = (placement-values, refl)
+
+-- record-values: a record of each kind by its three bytes, as it is read, and as it is written
+pub record-values :
+    (decode (highFirst (0xFD ∷ 0xFF ∷ 0xFF ∷ []) 0 recordBytes) ≡ Free)
+    × (decode (highFirst (0xF8 ∷ 0x00 ∷ 0x00 ∷ []) 0 recordBytes) ≡ System)
+    × (decode (highFirst (0xF7 ∷ 0xFF ∷ 0xFF ∷ []) 0 recordBytes) ≡ File 0xF7F 0xFFF)
+    × (decode (highFirst (0xF8 ∷ 0x00 ∷ 0x01 ∷ []) 0 recordBytes) ≡ Other)
+    × (decode (highFirst (0xFD ∷ 0xFF ∷ 0xFE ∷ []) 0 recordBytes) ≡ Other)
+    × (tab (encode Free) recordBytes ≡ 0xFD ∷ 0xFF ∷ 0xFF ∷ [])
+    × (tab (encode System) recordBytes ≡ 0xF8 ∷ 0x00 ∷ 0x00 ∷ [])
+    × (tab (encode (File 0x2A5 0x013)) recordBytes ≡ 0x2A ∷ 0x50 ∷ 0x13 ∷ [])
+unfolding decode encode numberOf highFirst highByte bigEndian elementAt tab
+record-values = (refl, refl, refl, refl, refl, refl, refl, refl)

@@ -1,4 +1,4 @@
--- What the parts of unpacking hand on, and laws of unpacking.
+-- Laws of unpacking: the place of a sector's bytes, and the replies in order.
 -- Assumes nothing.
 use mathlib.Core.Bool.{true, false, cond, false≢true}
 use mathlib.Core.List.{List}

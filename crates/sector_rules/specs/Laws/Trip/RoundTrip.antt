@@ -29,7 +29,7 @@ use Rattle.sector_rules.specs.Hfe.{signature, formatFault, flagFault, he
 use Rattle.sector_rules.specs.Unpacked.{leastHfe, trackOf, sideOf, rOf, isBad, sectorAt, sectorBytesAt, firstBad, sectorsReply, unpackReply, unpackedByte}
 use Rattle.sector_rules.specs.Packed.{hfeBytes, headerRest, headerByte, tableByte, trackByte, hfeByte, packHfe, imageSectorOf, sectorData, imageSide, sideItem}
 use Rattle.sector_rules.specs.RoundTrip.{RoundTrip}
-use Rattle.sector_rules.specs.Laws.Base.Hfe.{fault-none}
+use Rattle.sector_rules.specs.Laws.Base.Faults.{fault-none}
 use Rattle.sector_rules.specs.Laws.Base.Packed.{table-0, table-1, table-2, table-3, track-in, hfe-header, hfe-table, hfe-track, pack-done, hfe-after}
 use Rattle.sector_rules.specs.Laws.Base.Unpacked.{sound-reply, image-after}
 use Rattle.sector_rules.specs.Laws.Trip.SideTrip.{writtenSide}

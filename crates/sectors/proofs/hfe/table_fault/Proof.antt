@@ -7,7 +7,7 @@ use native.Mathlib.Omega.{arith}
 use borrow.Author.Needs.{needs}
 use borrow.Author.Count.{below-more}
 use Rattle.sector_rules.specs.Hfe.{trackGood, tableFault}
-use Rattle.sector_rules.specs.Laws.Base.Hfe.{fault-none}
+use Rattle.sector_rules.specs.Laws.Base.Faults.{fault-none}
 use Rattle.sectors.specs.Laws.Reading.Tables.{fault-some}
 use Rattle.sectors.proofs.hfe.table_fault.Statement.{statement}
 use Rattle.sectors.proofs.hfe.table_fault.Tie as tie

@@ -1,4 +1,4 @@
--- The law of the faults.
+-- A judgement that finds nothing.
 -- Assumes nothing.
 use mathlib.Core.Bool.{Bool, false}
 use mathlib.Core.Path.{_≡_}
