@@ -1,17 +1,20 @@
 // Add: a file's blocks and slot are written, and the directory grows where its end is taken.
 ghost use mathlib.Core.Path.{_≡_};
 ghost use mathlib.Core.Option.{none};
-ghost use Prim.Native.Nat.{_<_, _≤_};
+ghost use Prim.Native.Nat.{suc, _<_, _≤_};
 ghost use lib.Dec.{leb};
 ghost use lib.ListN.{length};
-ghost use Rattle.sector_rules.specs.Geometry.{imageBytes};
+ghost use Rattle.sector_rules.specs.Geometry.{blocks, imageBytes};
+ghost use Rattle.file_rules.specs.Sizes.{nameMost};
 ghost use Rattle.file_rules.specs.Disk.{diskOf, imageOf};
-ghost use Rattle.file_rules.specs.Map.{freeCount};
+ghost use Rattle.file_rules.specs.Map.{sequences, freeCount};
 ghost use Rattle.file_rules.specs.Directory.{entryFor, dirEnd};
 ghost use Rattle.file_rules.specs.Check.{judged};
 ghost use Rattle.file_rules.specs.Written.{blocksFor};
 ghost use Rattle.file_rules.specs.Calls as Calls;
 ghost use Rattle.file_rules.specs.Calls.{opensBlock, growDir, endAfter, needed, addAt, addSound};
+ghost use Rattle.files.specs.Laws.Loading.Loaded.{Mapped};
+ghost use Rattle.files.specs.Laws.Writing.InStep.{InStep};
 ghost use Rattle.files.specs.Laws.Calling.Judged.{Gave};
 use crate::Verdict;
 use crate::blocks::blocks_of;
@@ -19,9 +22,14 @@ use crate::checking::judge;
 use crate::directory::find_name;
 use crate::directory::vacant_slot;
 use crate::header::dir_end;
-use crate::map::free_count;
+use crate::map::count_free;
+use crate::map::load_map;
+use crate::parts::file_blocks;
 use crate::reading::name_right;
 use crate::sizes::BLOCK_SLOTS;
+use crate::sizes::MapNumbers;
+use crate::sizes::NAME_MOST;
+use crate::sizes::NO_BLOCK;
 use crate::sizes::SLOT_BYTES;
 use crate::steps::entry_bytes;
 use crate::steps::give_blocks;
@@ -37,15 +45,15 @@ use sectors::refused;
 // The blocks of a file with so many bytes of data: its first 64 bytes are counted too.
 fn blocks_for(size: usize) -> usize
     requires { ⌜ size ≤ imageBytes ⌝ }
-    ensures { λ r. ⌜ (r ≡ blocksFor size) × (r ≤ 481) ⌝ }
+    ensures { λ r. ⌜ (r ≡ blocksFor size) × (r ≤ suc blocks) ⌝ }
 {
     blocks_of(SLOT_BYTES + size)
 }
 
 // A slot at the directory's end that begins a block takes the lowest free block for the directory.
-fn grow_dir(image: &mut [u8], k: usize, end: usize)
-    requires { ⌜ (length (now image) ≡ imageBytes) × (k < 4096) × (end ≡ dirEnd (diskOf (now image))) ⌝ }
-    ensures { λ _. ⌜ now (image .exit) ≡ imageOf (growDir (diskOf (now (image .entry))) k) ⌝ }
+fn grow_dir(image: &mut [u8], map: &mut MapNumbers, k: usize, end: usize)
+    requires { ⌜ InStep (now map) (now image) × (k < sequences) × (end ≡ dirEnd (diskOf (now image))) ⌝ }
+    ensures { λ _. ⌜ (now (image .exit) ≡ imageOf (growDir (diskOf (now (image .entry))) k)) × InStep (now (map .exit)) (now (image .exit)) ⌝ }
 {
     if k != end {
         return;
@@ -53,12 +61,12 @@ fn grow_dir(image: &mut [u8], k: usize, end: usize)
     if k % BLOCK_SLOTS != 0 {
         return;
     }
-    give_blocks(image, 0, k / BLOCK_SLOTS, 1, b"", b"");
+    give_blocks(image, map, 0, k / BLOCK_SLOTS, 1, b"", b"");
 }
 
 // The directory grows by a slot where k was its end.
 fn end_after(image: &mut [u8], k: usize, end: usize)
-    requires { ⌜ (length (now image) ≡ imageBytes) × (k < 4096) ⌝ }
+    requires { ⌜ (length (now image) ≡ imageBytes) × (k < sequences) ⌝ }
     ensures { λ _. ⌜ now (image .exit) ≡ imageOf (endAfter k end (diskOf (now (image .entry)))) ⌝ }
 {
     if k != end {
@@ -68,25 +76,25 @@ fn end_after(image: &mut [u8], k: usize, end: usize)
 }
 
 // A file is added in slot k: the directory's block, the file's blocks, the slot, then the header.
-fn add_at(image: &mut [u8], k: usize, e: Entry, content: &[u8])
-    requires { ⌜ (length (now image) ≡ imageBytes) × (k < 4096) × (length (now content) ≤ imageBytes) ⌝ }
+fn add_at(image: &mut [u8], map: &mut MapNumbers, k: usize, e: Entry, content: &[u8])
+    requires { ⌜ InStep (now map) (now image) × (k < sequences) × (length (now content) ≤ imageBytes) ⌝ }
     ensures { λ _. ⌜ now (image .exit) ≡ imageOf (addAt (diskOf (now (image .entry))) k e (now (content .entry))) ⌝ }
 {
     let end = dir_end(image);
     let head = entry_bytes(e);
-    grow_dir(image, k, end);
-    give_blocks(image, k, 0, blocks_for(content.len()), &head, content);
-    write_entry(image, k, e);
+    grow_dir(image, map, k, end);
+    give_blocks(image, map, k, 0, blocks_for(content.len()), &head, content);
+    write_entry(image, map, k, e);
     end_after(image, k, end);
-    settle(image);
+    settle(image, map);
 }
 
 // The entry of a new file.
 fn entry_for(name: &[u8], date: u32, size: usize) -> Entry
-    requires { ⌜ (length (now name) ≤ 36) × (size ≤ imageBytes) ⌝ }
+    requires { ⌜ (length (now name) ≤ nameMost) × (size ≤ imageBytes) ⌝ }
     ensures { λ r. ⌜ r ≡ entryFor (now (name .entry)) date size ⌝ }
 {
-    let mut row = [0u8; 36];
+    let mut row = [0u8; NAME_MOST];
     fields::copy_into(&mut row, 0, name);
     Entry {
         name: row,
@@ -105,13 +113,14 @@ fn opens_block(image: &[u8], k: usize) -> bool
 
 // Whether there are blocks enough for a file of so many bytes in slot k. More bytes than the disk has never fit;
 // that is asked first, since 64 more than the size could wrap.
-fn has_room(image: &[u8], k: usize, size: usize) -> bool
+fn has_room(image: &[u8], map: &MapNumbers, k: usize, size: usize) -> bool
+    requires { ⌜ Mapped (now map) (diskOf (now image)) ⌝ }
     ensures { λ r. ⌜ r ≡ leb (needed (diskOf (now (image .entry))) k size) (freeCount (diskOf (now (image .entry)))) ⌝ }
 {
     if Geometry::IMAGE_BYTES < size {
         return false;
     }
-    let free = free_count(image);
+    let free = count_free(map);
     let wanted = blocks_for(size);
     if opens_block(image, k) {
         return wanted + 1 <= free;
@@ -120,23 +129,31 @@ fn has_room(image: &[u8], k: usize, size: usize) -> bool
 }
 
 // Adds a file to a sound disk, or 12, 13 or 15.
-fn add_sound(image: &mut [u8], name: &[u8], date: u32, content: &[u8]) -> Reply
-    requires { ⌜ (length (now image) ≡ imageBytes) × (judged (diskOf (now image)) ≡ none) ⌝ }
+fn add_sound(
+    image: &mut [u8],
+    map: &mut MapNumbers,
+    name: &[u8],
+    date: u32,
+    content: &[u8],
+) -> Reply
+    requires { ⌜ InStep (now map) (now image) × (judged (diskOf (now image)) ≡ none) ⌝ }
     ensures { λ r. ⌜ Gave (addSound (diskOf (now (image .entry))) (now (name .entry)) date (now (content .entry))) r (now (image .exit)) ⌝ }
 {
     if !name_right(name) {
         return refused(12, 0);
     }
-    let found = find_name(image, name);
+    let mut dir = [NO_BLOCK; Geometry::BLOCKS];
+    file_blocks(map, 0, &mut dir);
+    let found = find_name(image, &dir, name);
     if found < dir_end(image) {
         return refused(13, found);
     }
-    let k = vacant_slot(image);
-    if !has_room(image, k, content.len()) {
+    let k = vacant_slot(image, &dir);
+    if !has_room(image, map, k, content.len()) {
         return refused(15, 0);
     }
     let e = entry_for(name, date, content.len());
-    add_at(image, k, e, content);
+    add_at(image, map, k, e, content);
     done()
 }
 
@@ -147,8 +164,10 @@ pub fn add(image: &mut [u8], name: &[u8], date: u32, content: &[u8]) -> Reply
     if image.len() != Geometry::IMAGE_BYTES {
         return refused(1, 2);
     }
-    match judge(image) {
+    let mut map = [0u32; Geometry::BLOCKS];
+    load_map(image, &mut map);
+    match judge(image, &map) {
         Verdict::Refused(r) => r,
-        Verdict::Passed => add_sound(image, name, date, content),
+        Verdict::Passed => add_sound(image, &mut map, name, date, content),
     }
 }

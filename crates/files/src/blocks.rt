@@ -84,3 +84,10 @@ pub fn block_word4(image: &[u8], b: usize, o: usize) -> u32
     let high = wide(image, b, o) * 256 + wide(image, b, o + 1);
     (high * 256 + wide(image, b, o + 2)) * 256 + wide(image, b, o + 3)
 }
+
+// A block's number, from a row of blocks.
+pub fn block_number(x: u16) -> usize
+    ensures { λ r. ⌜ r ≡ x ⌝ }
+{
+    x as usize
+}

@@ -7,33 +7,27 @@ ghost use lib.ListN.{length};
 ghost use Rattle.laws.specs.Below.{all};
 ghost use Rattle.laws.specs.Tab.{tab, elementAt};
 ghost use Rattle.laws.specs.Numbers.{at16};
+ghost use Rattle.sector_rules.specs.Geometry.{imageBytes};
+ghost use Rattle.file_rules.specs.Sizes.{slotBytes, slotCount, nameMost};
 ghost use Rattle.file_rules.specs.Disk.{diskOf};
 ghost use Rattle.file_rules.specs.Directory.{nameEq, entryOf, nameOf, slotName, held, dirEnd, findName, vacantSlot};
 ghost use Rattle.files.specs.Laws.Loading.Slots.{slotPlace, Located};
+use crate::blocks::block_number;
 use crate::blocks::byte_place;
 use crate::header::dir_end;
-use crate::map::load_map;
-use crate::parts::file_blocks;
 use crate::sizes::BLOCK_SLOTS;
+use crate::sizes::BlockRow;
 use crate::sizes::NAME_MOST;
 use crate::sizes::SLOT_BYTES;
 use file_rules::Entry;
 use sectors::Geometry;
 
-// The directory's blocks in sequence; the number of blocks where there is none.
-pub fn load_dir(image: &[u8]) -> [usize; 480]
-    ensures { λ r. ⌜ Located r (diskOf (now (image .entry))) ⌝ }
-{
-    let map = load_map(image);
-    file_blocks(&map, 0)
-}
-
 // Where slot k stands in the image; its end, where the slot has no block. A slot lies in one sector.
-pub fn slot_place(dir: &[usize; 480], k: usize) -> usize
-    requires { ⌜ k < 11520 ⌝ }
-    ensures { λ r. ⌜ (r ≡ slotPlace (now (dir .entry)) k) × (r ≤ 737280) ⌝ }
+pub fn slot_place(dir: &BlockRow, k: usize) -> usize
+    requires { ⌜ k < slotCount ⌝ }
+    ensures { λ r. ⌜ (r ≡ slotPlace (now (dir .entry)) k) × (r ≤ imageBytes) ⌝ }
 {
-    let b = dir[k / BLOCK_SLOTS];
+    let b = block_number(dir[k / BLOCK_SLOTS]);
     if b < Geometry::BLOCKS {
         return byte_place(b, k % BLOCK_SLOTS * SLOT_BYTES);
     }
@@ -42,7 +36,7 @@ pub fn slot_place(dir: &[usize; 480], k: usize) -> usize
 
 // Whether the 64 bytes at a place are zero.
 fn vacant_at(image: &[u8], at: usize) -> bool
-    ensures { λ r. ⌜ r ≡ all (λ (i : ℕ). eqb (elementAt (now (image .entry)) at i) 0) 64 ⌝ }
+    ensures { λ r. ⌜ r ≡ all (λ (i : ℕ). eqb (elementAt (now (image .entry)) at i) 0) slotBytes ⌝ }
 {
     for i in 0..SLOT_BYTES {
         if fields::byte(image, at, i) != 0 {
@@ -53,8 +47,8 @@ fn vacant_at(image: &[u8], at: usize) -> bool
 }
 
 // Whether slot k is held; slot 0 never is.
-pub fn held_slot(image: &[u8], dir: &[usize; 480], k: usize) -> bool
-    requires { ⌜ (length (now image) ≡ 737280) × (k < 11520) × Located (now dir) (diskOf (now image)) ⌝ }
+pub fn held_slot(image: &[u8], dir: &BlockRow, k: usize) -> bool
+    requires { ⌜ (length (now image) ≡ imageBytes) × (k < slotCount) × Located (now dir) (diskOf (now image)) ⌝ }
     ensures { λ r. ⌜ r ≡ held (diskOf (now (image .entry))) k ⌝ }
 {
     if k == 0 {
@@ -64,10 +58,10 @@ pub fn held_slot(image: &[u8], dir: &[usize; 480], k: usize) -> bool
 }
 
 // The 36 bytes from a place on.
-fn name_at(image: &[u8], at: usize) -> [u8; 36]
-    ensures { λ r. ⌜ r ≡ tab (elementAt (now (image .entry)) at) 36 ⌝ }
+fn name_at(image: &[u8], at: usize) -> [u8; NAME_MOST]
+    ensures { λ r. ⌜ r ≡ tab (elementAt (now (image .entry)) at) nameMost ⌝ }
 {
-    let mut name = [0u8; 36];
+    let mut name = [0u8; NAME_MOST];
     for i in 0..NAME_MOST {
         name[i] = fields::byte(image, at, i);
     }
@@ -76,7 +70,7 @@ fn name_at(image: &[u8], at: usize) -> [u8; 36]
 
 // The entry in the 64 bytes at a place.
 pub fn read_entry(image: &[u8], at: usize) -> Entry
-    requires { ⌜ at ≤ 737280 ⌝ }
+    requires { ⌜ at ≤ imageBytes ⌝ }
     ensures { λ r. ⌜ r ≡ entryOf (elementAt (now (image .entry)) at) ⌝ }
 {
     let name = name_at(image, at + 16);
@@ -90,8 +84,8 @@ pub fn read_entry(image: &[u8], at: usize) -> Entry
 
 // How many bytes the name in the slot at a place has.
 pub fn name_length(image: &[u8], at: usize) -> usize
-    requires { ⌜ at ≤ 737280 ⌝ }
-    ensures { λ r. ⌜ r ≡ min (at16 (elementAt (now (image .entry)) at) 14) 36 ⌝ }
+    requires { ⌜ at ≤ imageBytes ⌝ }
+    ensures { λ r. ⌜ r ≡ min (at16 (elementAt (now (image .entry)) at) 14) nameMost ⌝ }
 {
     let named = fields::high2(image, at + 14) as usize;
     if named < NAME_MOST { named } else { NAME_MOST }
@@ -99,7 +93,7 @@ pub fn name_length(image: &[u8], at: usize) -> usize
 
 // Whether the slot at a place has this name.
 fn named_so(image: &[u8], at: usize, name: &[u8]) -> bool
-    requires { ⌜ at ≤ 737280 ⌝ }
+    requires { ⌜ at ≤ imageBytes ⌝ }
     ensures { λ r. ⌜ r ≡ nameEq (nameOf (entryOf (elementAt (now (image .entry)) at))) (now (name .entry)) ⌝ }
 {
     if name_length(image, at) != name.len() {
@@ -114,8 +108,8 @@ fn named_so(image: &[u8], at: usize, name: &[u8]) -> bool
 }
 
 // Whether slot k is held and has this name; the name is looked at first, since it seldom fits.
-pub fn held_so(image: &[u8], dir: &[usize; 480], k: usize, name: &[u8]) -> bool
-    requires { ⌜ (length (now image) ≡ 737280) × (k < 11520) × Located (now dir) (diskOf (now image)) ⌝ }
+pub fn held_so(image: &[u8], dir: &BlockRow, k: usize, name: &[u8]) -> bool
+    requires { ⌜ (length (now image) ≡ imageBytes) × (k < slotCount) × Located (now dir) (diskOf (now image)) ⌝ }
     ensures { λ r. ⌜ r ≡ (held (diskOf (now (image .entry))) k && nameEq (slotName (diskOf (now (image .entry))) k) (now (name .entry))) ⌝ }
 {
     if named_so(image, slot_place(dir, k), name) {
@@ -125,14 +119,13 @@ pub fn held_so(image: &[u8], dir: &[usize; 480], k: usize, name: &[u8]) -> bool
 }
 
 // The held slot of this name, or the directory's end.
-pub fn find_name(image: &[u8], name: &[u8]) -> usize
-    requires { ⌜ (length (now image) ≡ 737280) × (dirEnd (diskOf (now image)) ≤ 11520) ⌝ }
+pub fn find_name(image: &[u8], dir: &BlockRow, name: &[u8]) -> usize
+    requires { ⌜ (length (now image) ≡ imageBytes) × (dirEnd (diskOf (now image)) ≤ slotCount) × Located (now dir) (diskOf (now image)) ⌝ }
     ensures { λ r. ⌜ r ≡ findName (diskOf (now (image .entry))) (now (name .entry)) ⌝ }
 {
-    let dir = load_dir(image);
     let end = dir_end(image);
     for k in 0..end {
-        if held_so(image, &dir, k, name) {
+        if held_so(image, dir, k, name) {
             return k;
         }
     }
@@ -140,14 +133,13 @@ pub fn find_name(image: &[u8], name: &[u8]) -> usize
 }
 
 // The lowest vacant slot, or the directory's end.
-pub fn vacant_slot(image: &[u8]) -> usize
-    requires { ⌜ (length (now image) ≡ 737280) × (dirEnd (diskOf (now image)) ≤ 11520) ⌝ }
+pub fn vacant_slot(image: &[u8], dir: &BlockRow) -> usize
+    requires { ⌜ (length (now image) ≡ imageBytes) × (dirEnd (diskOf (now image)) ≤ slotCount) × Located (now dir) (diskOf (now image)) ⌝ }
     ensures { λ r. ⌜ r ≡ vacantSlot (diskOf (now (image .entry))) ⌝ }
 {
-    let dir = load_dir(image);
     let end = dir_end(image);
     for k in 0..end {
-        if (0 < k) & !held_slot(image, &dir, k) {
+        if (0 < k) & !held_slot(image, dir, k) {
             return k;
         }
     }

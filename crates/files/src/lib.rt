@@ -1,6 +1,7 @@
 // Layer 3: the header, the map, the directory and the files of a disk, on its block image.
 mod adding;
 mod blocks;
+mod chains;
 mod checking;
 mod directory;
 mod formatting;

@@ -5,27 +5,34 @@ ghost use lib.ListN.{length};
 ghost use Rattle.laws.specs.Count.{count};
 ghost use Rattle.laws.specs.Overlay.{overlay, put};
 ghost use Rattle.laws.specs.Tab.{elementAt};
+ghost use Rattle.sector_rules.specs.Geometry.{imageBytes};
+ghost use Rattle.file_rules.specs.Sizes.{slotBytes, slotCount};
 ghost use Rattle.file_rules.specs.Disk.{diskOf};
 ghost use Rattle.file_rules.specs.Directory.{held, dirEnd};
 ghost use Rattle.file_rules.specs.Calls as Calls;
 ghost use Rattle.file_rules.specs.Calls.{listSound};
+ghost use Rattle.files.specs.Laws.Loading.Loaded.{Mapped};
 ghost use Rattle.files.specs.Laws.Loading.Slots.{Located};
 ghost use Rattle.files.specs.Laws.Calling.Delivered.{slotPart};
 use crate::Verdict;
 use crate::checking::judge;
 use crate::directory::held_slot;
-use crate::directory::load_dir;
 use crate::directory::slot_place;
 use crate::header::dir_end;
+use crate::map::load_map;
+use crate::parts::file_blocks;
+use crate::sizes::BlockRow;
+use crate::sizes::MapNumbers;
+use crate::sizes::NO_BLOCK;
 use crate::sizes::SLOT_BYTES;
 use sector_rules::Reply;
 use sectors::Geometry;
 use sectors::refused;
 
 // How many slots below the end are held.
-fn count_held(image: &[u8], dir: &[usize; 480], end: usize) -> usize
-    requires { ⌜ (length (now image) ≡ 737280) × (end ≤ 11520) × Located (now dir) (diskOf (now image)) ⌝ }
-    ensures { λ r. ⌜ (r ≡ count end (held (diskOf (now (image .entry))))) × (r ≤ 11520) ⌝ }
+fn count_held(image: &[u8], dir: &BlockRow, end: usize) -> usize
+    requires { ⌜ (length (now image) ≡ imageBytes) × (end ≤ slotCount) × Located (now dir) (diskOf (now image)) ⌝ }
+    ensures { λ r. ⌜ (r ≡ count end (held (diskOf (now (image .entry))))) × (r ≤ slotCount) ⌝ }
 {
     let mut n = 0;
     for k in 0..end {
@@ -38,8 +45,8 @@ fn count_held(image: &[u8], dir: &[usize; 480], end: usize) -> usize
 
 // Copies the 64 bytes at a place of the image to the place c of the buffer.
 fn copy_slot(image: &[u8], at: usize, out: &mut [u8], c: usize)
-    requires { ⌜ c + 64 ≤ length (now out) ⌝ }
-    ensures { λ _. ⌜ now (out .exit) ≡ overlay (now (out .entry)) c 64 (elementAt (now (image .entry)) at) ⌝ }
+    requires { ⌜ c + slotBytes ≤ length (now out) ⌝ }
+    ensures { λ _. ⌜ now (out .exit) ≡ overlay (now (out .entry)) c slotBytes (elementAt (now (image .entry)) at) ⌝ }
 {
     for i in 0..SLOT_BYTES {
         out[c + i] = fields::byte(image, at, i);
@@ -47,8 +54,8 @@ fn copy_slot(image: &[u8], at: usize, out: &mut [u8], c: usize)
 }
 
 // Writes slot k at c if it is held, and says where the next one goes.
-fn list_slot(image: &[u8], dir: &[usize; 480], k: usize, out: &mut [u8], c: usize) -> usize
-    requires { ⌜ (length (now image) ≡ 737280) × (k < 11520) × Located (now dir) (diskOf (now image)) × (c + length (slotPart (diskOf (now image)) k) ≤ length (now out)) ⌝ }
+fn list_slot(image: &[u8], dir: &BlockRow, k: usize, out: &mut [u8], c: usize) -> usize
+    requires { ⌜ (length (now image) ≡ imageBytes) × (k < slotCount) × Located (now dir) (diskOf (now image)) × (c + length (slotPart (diskOf (now image)) k) ≤ length (now out)) ⌝ }
     ensures { λ r. ⌜ (r ≡ c + length (slotPart (diskOf (now (image .entry))) k)) × (now (out .exit) ≡ put (now (out .entry)) c (slotPart (diskOf (now (image .entry))) k)) ⌝ }
 {
     if held_slot(image, dir, k) {
@@ -59,8 +66,8 @@ fn list_slot(image: &[u8], dir: &[usize; 480], k: usize, out: &mut [u8], c: usiz
 }
 
 // Writes the held slots below the end, one after the other.
-fn list_slots(image: &[u8], dir: &[usize; 480], end: usize, out: &mut [u8])
-    requires { ⌜ (length (now image) ≡ 737280) × (end ≤ 11520) × Located (now dir) (diskOf (now image)) × (length (Calls.entries (diskOf (now image)) end) ≤ length (now out)) ⌝ }
+fn list_slots(image: &[u8], dir: &BlockRow, end: usize, out: &mut [u8])
+    requires { ⌜ (length (now image) ≡ imageBytes) × (end ≤ slotCount) × Located (now dir) (diskOf (now image)) × (length (Calls.entries (diskOf (now image)) end) ≤ length (now out)) ⌝ }
     ensures { λ _. ⌜ now (out .exit) ≡ put (now (out .entry)) 0 (Calls.entries (diskOf (now (image .entry))) end) ⌝ }
 {
     let mut c = 0;
@@ -70,11 +77,12 @@ fn list_slots(image: &[u8], dir: &[usize; 480], end: usize, out: &mut [u8])
 }
 
 // Lists a sound disk, or 16.
-fn list_sound(image: &[u8], out: &mut [u8]) -> Reply
-    requires { ⌜ (length (now image) ≡ 737280) × (dirEnd (diskOf (now image)) ≤ 11520) ⌝ }
+fn list_sound(image: &[u8], map: &MapNumbers, out: &mut [u8]) -> Reply
+    requires { ⌜ (length (now image) ≡ imageBytes) × (dirEnd (diskOf (now image)) ≤ slotCount) × Mapped (now map) (diskOf (now image)) ⌝ }
     ensures { λ r. ⌜ (r ≡ listSound (diskOf (now (image .entry))) (now (out .entry)) .answer) × (now (out .exit) ≡ listSound (diskOf (now (image .entry))) (now (out .entry)) .buffer) ⌝ }
 {
-    let dir = load_dir(image);
+    let mut dir = [NO_BLOCK; Geometry::BLOCKS];
+    file_blocks(map, 0, &mut dir);
     let end = dir_end(image);
     let needed = SLOT_BYTES * count_held(image, &dir, end);
     if out.len() < needed {
@@ -91,8 +99,10 @@ pub fn list(image: &[u8], out: &mut [u8]) -> Reply
     if image.len() != Geometry::IMAGE_BYTES {
         return refused(1, 2);
     }
-    match judge(image) {
+    let mut map = [0u32; Geometry::BLOCKS];
+    load_map(image, &mut map);
+    match judge(image, &map) {
         Verdict::Refused(r) => r,
-        Verdict::Passed => list_sound(image, out),
+        Verdict::Passed => list_sound(image, &map, out),
     }
 }

@@ -1,10 +1,12 @@
 // The map of the disk: loaded once as the numbers of its records, and walked.
 ghost use mathlib.Core.Path.{_≡_};
 ghost use Prim.Native.Nat.{ℕ, _≤_, _<_};
+ghost use lib.ListN.{length};
 ghost use Rattle.laws.specs.Lowest.{lowest};
 ghost use Rattle.laws.specs.Count.{count};
+ghost use Rattle.sector_rules.specs.Geometry.{blocks};
 ghost use Rattle.file_rules.specs.Disk.{diskOf};
-ghost use Rattle.file_rules.specs.Map.{numberAt, isFree, isPart, freeCount};
+ghost use Rattle.file_rules.specs.Map.{numberAt, isFree, isPart};
 ghost use Rattle.file_rules.specs.Check.{recordFault};
 ghost use Rattle.files.specs.Laws.Loading.Loaded.{recordIn, mapRecord, Mapped};
 use crate::blocks::block_byte;
@@ -13,6 +15,7 @@ use crate::records::is_part;
 use crate::records::record_fault;
 use crate::records::record_of;
 use crate::sizes::MAP_START;
+use crate::sizes::MapNumbers;
 use crate::sizes::RECORD_BYTES;
 use file_rules::MapRecord;
 use sector_rules::BlockNumber;
@@ -25,8 +28,8 @@ fn wide(x: u8) -> u32
 }
 
 // The number of block b's record.
-pub fn load_record(image: &[u8], b: usize) -> u32
-    requires { ⌜ b < 480 ⌝ }
+fn load_record(image: &[u8], b: usize) -> u32
+    requires { ⌜ b < blocks ⌝ }
     ensures { λ r. ⌜ r ≡ numberAt (diskOf (now (image .entry))) b ⌝ }
 {
     let at = MAP_START + RECORD_BYTES * b;
@@ -37,19 +40,18 @@ pub fn load_record(image: &[u8], b: usize) -> u32
 }
 
 // The map's records as numbers: each byte of the map is read from the image once.
-pub fn load_map(image: &[u8]) -> [u32; 480]
-    ensures { λ r. ⌜ Mapped r (diskOf (now (image .entry))) ⌝ }
+pub fn load_map(image: &[u8], map: &mut MapNumbers)
+    requires { ⌜ length (now map) ≡ blocks ⌝ }
+    ensures { λ _. ⌜ Mapped (now (map .exit)) (diskOf (now (image .entry))) ⌝ }
 {
-    let mut map = [0u32; 480];
     for b in 0..Geometry::BLOCKS {
         map[b] = load_record(image, b);
     }
-    map
 }
 
 // A block's record beside its number.
-pub fn map_record(map: &[u32; 480], block: BlockNumber) -> MapRecord
-    requires { ⌜ block .0 < 480 ⌝ }
+pub fn map_record(map: &MapNumbers, block: BlockNumber) -> MapRecord
+    requires { ⌜ block .0 < blocks ⌝ }
     ensures { λ r. ⌜ r ≡ mapRecord (now (map .entry)) block ⌝ }
 {
     let b = block.0;
@@ -58,8 +60,8 @@ pub fn map_record(map: &[u32; 480], block: BlockNumber) -> MapRecord
 }
 
 // The lowest block whose record may not stand there, or the number of blocks.
-pub fn map_fault(map: &[u32; 480]) -> usize
-    ensures { λ r. ⌜ (r ≡ lowest (λ (b : ℕ). recordFault b (recordIn (now (map .entry)) b)) 480) × (r ≤ 480) ⌝ }
+pub fn map_fault(map: &MapNumbers) -> usize
+    ensures { λ r. ⌜ (r ≡ lowest (λ (b : ℕ). recordFault b (recordIn (now (map .entry)) b)) blocks) × (r ≤ blocks) ⌝ }
 {
     for b in 0..Geometry::BLOCKS {
         if record_fault(map_record(map, BlockNumber(b))) {
@@ -70,8 +72,8 @@ pub fn map_fault(map: &[u32; 480]) -> usize
 }
 
 // How many records are free.
-fn count_free(map: &[u32; 480]) -> usize
-    ensures { λ r. ⌜ (r ≡ count 480 (λ (b : ℕ). isFree (recordIn (now (map .entry)) b))) × (r ≤ 480) ⌝ }
+pub fn count_free(map: &MapNumbers) -> usize
+    ensures { λ r. ⌜ (r ≡ count blocks (λ (b : ℕ). isFree (recordIn (now (map .entry)) b))) × (r ≤ blocks) ⌝ }
 {
     let mut n = 0;
     for b in 0..Geometry::BLOCKS {
@@ -84,17 +86,9 @@ fn count_free(map: &[u32; 480]) -> usize
     n
 }
 
-// The free records of an image.
-pub fn free_count(image: &[u8]) -> usize
-    ensures { λ r. ⌜ (r ≡ freeCount (diskOf (now (image .entry)))) × (r ≤ 480) ⌝ }
-{
-    let map = load_map(image);
-    count_free(&map)
-}
-
 // The block that is sequence s of file f, the lowest if there are several; the number of blocks if there is none.
-pub fn part_block(map: &[u32; 480], f: usize, s: usize) -> usize
-    ensures { λ r. ⌜ (r ≡ lowest (λ (b : ℕ). isPart f s (recordIn (now (map .entry)) b)) 480) × (r ≤ 480) ⌝ }
+pub fn part_block(map: &MapNumbers, f: usize, s: usize) -> usize
+    ensures { λ r. ⌜ (r ≡ lowest (λ (b : ℕ). isPart f s (recordIn (now (map .entry)) b)) blocks) × (r ≤ blocks) ⌝ }
 {
     for b in 0..Geometry::BLOCKS {
         let m = map_record(map, BlockNumber(b));

@@ -1,13 +1,15 @@
 // Map records: their numbers and bytes, and every question that is asked of one. A record's number has 24 bits, 12 of
 // file and 12 of sequence; those from FILE_NUMBERS on say other kinds.
 ghost use mathlib.Core.Path.{_≡_};
-ghost use Prim.Native.Nat.{_≤_, _<_};
+ghost use Prim.Native.Nat.{_+_, _≤_, _<_};
 ghost use Rattle.laws.specs.Tab.{tab};
+ghost use Rattle.sector_rules.specs.Geometry.{blocks};
 ghost use Rattle.file_rules.specs.Sizes.{recordBytes};
 ghost use Rattle.file_rules.specs.Map.{decode, numberOf, encode, isFree, bears, isPart};
 ghost use Rattle.file_rules.specs.Check.{recordFault};
 ghost use Rattle.files.specs.Laws.Loading.Parts.{partOf};
-ghost use Rattle.files.specs.Laws.Judging.Sound.{Bearer};
+ghost use Rattle.files.specs.Laws.Loading.Chains.{Bearer};
+use crate::sizes::RECORD_BYTES;
 use file_rules::MapRecord;
 use file_rules::Record;
 use sectors::Geometry;
@@ -61,7 +63,7 @@ pub fn number_of(r: Record) -> u32
 }
 
 // The three bytes of a record.
-pub fn record_bytes(r: Record) -> [u8; 3]
+pub fn record_bytes(r: Record) -> [u8; RECORD_BYTES]
     ensures { λ b. ⌜ b ≡ tab (encode r) recordBytes ⌝ }
 {
     let n = number_of(r);
@@ -128,8 +130,8 @@ pub fn is_part(r: Record, f: usize, s: usize) -> bool
 
 // Which of the first n parts of file f a record is.
 pub fn part_of(r: Record, f: usize, n: usize) -> usize
-    requires { ⌜ n ≤ 480 ⌝ }
-    ensures { λ p. ⌜ (p ≡ partOf f n r) × (p < 482) ⌝ }
+    requires { ⌜ n ≤ blocks ⌝ }
+    ensures { λ p. ⌜ (p ≡ partOf f n r) × (p < 2 + blocks) ⌝ }
 {
     match r {
         Record::Free => ELSEWHERE,

@@ -1,18 +1,21 @@
 // Remove: a file's blocks and slot are zeroed and its records freed.
 ghost use mathlib.Core.Path.{_≡_};
 ghost use mathlib.Core.Option.{none};
-ghost use lib.ListN.{length};
-ghost use Rattle.sector_rules.specs.Geometry.{imageBytes};
 ghost use Rattle.file_rules.specs.Disk.{diskOf, imageOf};
 ghost use Rattle.file_rules.specs.Check.{judged};
 ghost use Rattle.file_rules.specs.Calls as Calls;
 ghost use Rattle.file_rules.specs.Calls.{removeAt, removeSound};
+ghost use Rattle.files.specs.Laws.Writing.InStep.{InStep};
 ghost use Rattle.files.specs.Laws.Calling.Judged.{Gave};
 use crate::Verdict;
 use crate::checking::judge;
 use crate::directory::find_name;
 use crate::header::dir_end;
+use crate::map::load_map;
+use crate::parts::file_blocks;
 use crate::reading::name_right;
+use crate::sizes::MapNumbers;
+use crate::sizes::NO_BLOCK;
 use crate::steps::free_blocks;
 use crate::steps::settle;
 use crate::steps::zero_slot;
@@ -22,28 +25,30 @@ use sectors::done;
 use sectors::refused;
 
 // The file of slot k is removed; the directory keeps its length.
-fn remove_at(image: &mut [u8], k: usize)
-    requires { ⌜ length (now image) ≡ imageBytes ⌝ }
+fn remove_at(image: &mut [u8], map: &mut MapNumbers, k: usize)
+    requires { ⌜ InStep (now map) (now image) ⌝ }
     ensures { λ _. ⌜ now (image .exit) ≡ imageOf (removeAt (diskOf (now (image .entry))) k) ⌝ }
 {
-    free_blocks(image, k);
-    zero_slot(image, k);
-    settle(image);
+    free_blocks(image, map, k);
+    zero_slot(image, map, k);
+    settle(image, map);
 }
 
 // Removes a file from a sound disk, or 12 or 14.
-fn remove_sound(image: &mut [u8], name: &[u8]) -> Reply
-    requires { ⌜ (length (now image) ≡ imageBytes) × (judged (diskOf (now image)) ≡ none) ⌝ }
+fn remove_sound(image: &mut [u8], map: &mut MapNumbers, name: &[u8]) -> Reply
+    requires { ⌜ InStep (now map) (now image) × (judged (diskOf (now image)) ≡ none) ⌝ }
     ensures { λ r. ⌜ Gave (removeSound (diskOf (now (image .entry))) (now (name .entry))) r (now (image .exit)) ⌝ }
 {
     if !name_right(name) {
         return refused(12, 0);
     }
-    let k = find_name(image, name);
+    let mut dir = [NO_BLOCK; Geometry::BLOCKS];
+    file_blocks(map, 0, &mut dir);
+    let k = find_name(image, &dir, name);
     if dir_end(image) <= k {
         return refused(14, 0);
     }
-    remove_at(image, k);
+    remove_at(image, map, k);
     done()
 }
 
@@ -54,8 +59,10 @@ pub fn remove(image: &mut [u8], name: &[u8]) -> Reply
     if image.len() != Geometry::IMAGE_BYTES {
         return refused(1, 2);
     }
-    match judge(image) {
+    let mut map = [0u32; Geometry::BLOCKS];
+    load_map(image, &mut map);
+    match judge(image, &map) {
         Verdict::Refused(r) => r,
-        Verdict::Passed => remove_sound(image, name),
+        Verdict::Passed => remove_sound(image, &mut map, name),
     }
 }

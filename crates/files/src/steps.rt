@@ -1,31 +1,31 @@
 // The single steps of format, add and remove on the block image.
 ghost use mathlib.Core.Path.{_≡_};
 ghost use Prim.Native.Nat.{ℕ, _+_, _-_, _*_, _/_, _<_, _≤_, _^_};
-ghost use lib.ListN.{length};
+ghost use lib.ListN.{length, set};
 ghost use Rattle.laws.specs.Tab.{tab};
 ghost use Rattle.sector_rules.specs.Geometry.{sectorBytes, blockSectors, blocks, imageBytes};
-ghost use Rattle.file_rules.specs.Sizes.{slotBytes, blockSlots};
+ghost use Rattle.file_rules.specs.Sizes.{slotBytes};
 ghost use Rattle.file_rules.specs.Disk.{diskOf, imageOf};
-ghost use Rattle.file_rules.specs.Map.{partBlock};
+ghost use Rattle.file_rules.specs.Map.{sequences, numberOf};
 ghost use Rattle.file_rules.specs.Directory.{entryByte};
 ghost use Rattle.file_rules.specs.Written.{part, zeros, setBlock, setRecord, setSlot, setFree, setEnd, stepUpdate, freeBlock, freeBlocks};
 ghost use Rattle.file_rules.specs.declared.Record.the-variants.{File};
 ghost use Rattle.files.specs.Laws.Writing.Given.{given, giveLowest};
 ghost use Rattle.files.specs.Laws.Writing.Steps.{Packs, storedRow};
 ghost use Rattle.files.specs.Laws.Writing.Stored.{patched};
+ghost use Rattle.files.specs.Laws.Writing.InStep.{InStep};
 use crate::blocks::block_word4;
-use crate::map::free_count;
-use crate::map::load_map;
-use crate::map::load_record;
+use crate::map::count_free;
 use crate::map::map_record;
 use crate::map::part_block;
 use crate::records::bears_file;
 use crate::records::is_free;
+use crate::records::number_of;
 use crate::records::record_bytes;
-use crate::records::record_of;
 use crate::sizes::BLOCK_BYTES;
 use crate::sizes::BLOCK_SLOTS;
 use crate::sizes::MAP_START;
+use crate::sizes::MapNumbers;
 use crate::sizes::RECORD_BYTES;
 use crate::sizes::SLOT_BYTES;
 use crate::store::put_bytes;
@@ -47,6 +47,15 @@ pub fn set_record(image: &mut [u8], b: usize, r: Record)
     put_bytes(image, 0, MAP_START + RECORD_BYTES * b, &bytes);
 }
 
+// The record of block b, in the image and in the loaded map.
+fn place_record(image: &mut [u8], map: &mut MapNumbers, b: usize, r: Record)
+    requires { ⌜ InStep (now map) (now image) × (0 < b) × (b < blocks) × Packs r ⌝ }
+    ensures { λ _. ⌜ (now (image .exit) ≡ imageOf (setRecord (diskOf (now (image .entry))) b r)) × (now (map .exit) ≡ set (now (map .entry)) b (numberOf r)) × InStep (now (map .exit)) (now (image .exit)) ⌝ }
+{
+    set_record(image, b, r);
+    map[b] = number_of(r);
+}
+
 // Block b becomes zero.
 fn zero_block(image: &mut [u8], b: usize)
     requires { ⌜ length (now image) ≡ imageBytes ⌝ }
@@ -56,11 +65,11 @@ fn zero_block(image: &mut [u8], b: usize)
 }
 
 // The 64 bytes of an entry.
-pub fn entry_bytes(e: Entry) -> [u8; 64]
+pub fn entry_bytes(e: Entry) -> [u8; SLOT_BYTES]
     ensures { λ r. ⌜ r ≡ tab (entryByte e) slotBytes ⌝ }
 {
     let name = e.name;
-    let mut row = [0u8; 64];
+    let mut row = [0u8; SLOT_BYTES];
     fields::put_high4(&mut row, 0, e.length);
     fields::put_high2(&mut row, 14, e.named);
     fields::copy_into(&mut row, 16, &name);
@@ -79,11 +88,11 @@ fn stored_byte(head: &[u8], content: &[u8], i: usize) -> u8
 }
 
 // The 512 bytes of a file from byte i on.
-fn stored_sector(head: &[u8], content: &[u8], i: usize) -> [u8; 512]
+fn stored_sector(head: &[u8], content: &[u8], i: usize) -> [u8; Geometry::SECTOR_BYTES]
     requires { ⌜ i < 2 ^ 32 ⌝ }
     ensures { λ r. ⌜ r ≡ tab (λ (k : ℕ). storedRow (now (head .entry)) (now (content .entry)) (i + k)) sectorBytes ⌝ }
 {
-    let mut row = [0u8; 512];
+    let mut row = [0u8; Geometry::SECTOR_BYTES];
     for k in 0..Geometry::SECTOR_BYTES {
         row[k] = stored_byte(head, content, i + k);
     }
@@ -107,7 +116,7 @@ fn put_sector(image: &mut [u8], b: usize, p: usize, i: usize, head: &[u8], conte
 
 // Block b becomes part s of a file, sector by sector.
 fn put_part(image: &mut [u8], b: usize, s: usize, head: &[u8], content: &[u8])
-    requires { ⌜ (length (now image) ≡ imageBytes) × (s < 4096) ⌝ }
+    requires { ⌜ (length (now image) ≡ imageBytes) × (s < sequences) ⌝ }
     ensures { λ _. ⌜ now (image .exit) ≡ imageOf (setBlock (diskOf (now (image .entry))) b (part (storedRow (now (head .entry)) (now (content .entry))) s)) ⌝ }
 {
     for p in 0..Geometry::BLOCK_SECTORS {
@@ -141,95 +150,102 @@ fn step_update(image: &mut [u8])
 }
 
 // The free word becomes 3 times the free records.
-fn set_free(image: &mut [u8])
-    requires { ⌜ length (now image) ≡ imageBytes ⌝ }
+fn set_free(image: &mut [u8], map: &MapNumbers)
+    requires { ⌜ InStep (now map) (now image) ⌝ }
     ensures { λ _. ⌜ now (image .exit) ≡ imageOf (setFree (diskOf (now (image .entry)))) ⌝ }
 {
-    let free = free_count(image);
+    let free = count_free(map);
     put_word2(image, 0, 20, Geometry::BLOCK_SECTORS * free);
 }
 
 // What every accepted add and remove ends with: the free word, then the update count.
-pub fn settle(image: &mut [u8])
-    requires { ⌜ length (now image) ≡ imageBytes ⌝ }
+pub fn settle(image: &mut [u8], map: &MapNumbers)
+    requires { ⌜ InStep (now map) (now image) ⌝ }
     ensures { λ _. ⌜ now (image .exit) ≡ imageOf (stepUpdate (setFree (diskOf (now (image .entry))))) ⌝ }
 {
-    set_free(image);
+    set_free(image, map);
     step_update(image);
 }
 
-// The directory's block that slot k lies in; the number of blocks where there is none.
-fn slot_block(image: &[u8], k: usize) -> usize
-    ensures { λ r. ⌜ r ≡ partBlock (diskOf (now (image .entry))) 0 (k / blockSlots) ⌝ }
-{
-    let map = load_map(image);
-    part_block(&map, 0, k / BLOCK_SLOTS)
-}
-
 // An entry is written to slot k.
-pub fn write_entry(image: &mut [u8], k: usize, e: Entry)
-    requires { ⌜ length (now image) ≡ imageBytes ⌝ }
+pub fn write_entry(image: &mut [u8], map: &MapNumbers, k: usize, e: Entry)
+    requires { ⌜ InStep (now map) (now image) ⌝ }
     ensures { λ _. ⌜ now (image .exit) ≡ imageOf (setSlot (diskOf (now (image .entry))) k (entryByte e)) ⌝ }
 {
-    let b = slot_block(image, k);
+    let b = part_block(map, 0, k / BLOCK_SLOTS);
     let row = entry_bytes(e);
     put_bytes(image, b, k % BLOCK_SLOTS * SLOT_BYTES, &row);
 }
 
 // Slot k becomes vacant.
-pub fn zero_slot(image: &mut [u8], k: usize)
-    requires { ⌜ length (now image) ≡ imageBytes ⌝ }
+pub fn zero_slot(image: &mut [u8], map: &MapNumbers, k: usize)
+    requires { ⌜ InStep (now map) (now image) ⌝ }
     ensures { λ _. ⌜ now (image .exit) ≡ imageOf (setSlot (diskOf (now (image .entry))) k zeros) ⌝ }
 {
-    let b = slot_block(image, k);
+    let b = part_block(map, 0, k / BLOCK_SLOTS);
     zero_bytes(image, b, k % BLOCK_SLOTS * SLOT_BYTES, SLOT_BYTES);
 }
 
 // Block b is zeroed and its record freed if it bears file f.
-fn free_block(image: &mut [u8], f: usize, b: usize)
-    requires { ⌜ (length (now image) ≡ imageBytes) × (b < blocks) ⌝ }
-    ensures { λ _. ⌜ now (image .exit) ≡ imageOf (freeBlock (diskOf (now (image .entry))) f b) ⌝ }
+fn free_block(image: &mut [u8], map: &mut MapNumbers, f: usize, b: usize)
+    requires { ⌜ InStep (now map) (now image) × (b < blocks) ⌝ }
+    ensures { λ _. ⌜ (now (image .exit) ≡ imageOf (freeBlock (diskOf (now (image .entry))) f b)) × InStep (now (map .exit)) (now (image .exit)) ⌝ }
 {
-    let r = record_of(load_record(image, b));
-    if !bears_file(r, f) {
+    let m = map_record(map, BlockNumber(b));
+    let record = m.record;
+    if !bears_file(record, f) {
         return;
     }
     zero_block(image, b);
-    set_record(image, b, Record::Free);
+    place_record(image, map, b, Record::Free);
 }
 
 // So for all blocks.
-pub fn free_blocks(image: &mut [u8], f: usize)
-    requires { ⌜ length (now image) ≡ imageBytes ⌝ }
-    ensures { λ _. ⌜ now (image .exit) ≡ imageOf (freeBlocks blocks (diskOf (now (image .entry))) f) ⌝ }
+pub fn free_blocks(image: &mut [u8], map: &mut MapNumbers, f: usize)
+    requires { ⌜ InStep (now map) (now image) ⌝ }
+    ensures { λ _. ⌜ (now (image .exit) ≡ imageOf (freeBlocks blocks (diskOf (now (image .entry))) f)) × InStep (now (map .exit)) (now (image .exit)) ⌝ }
 {
     for b in 0..Geometry::BLOCKS {
-        free_block(image, f, b);
+        free_block(image, map, f, b);
     }
 }
 
 // Block b becomes part s of file f, and its record says so.
-fn give_block(image: &mut [u8], b: usize, f: usize, s: usize, head: &[u8], content: &[u8])
-    requires { ⌜ (length (now image) ≡ imageBytes) × (b < blocks) × (f < 4096) × (s < 4096) ⌝ }
-    ensures { λ _. ⌜ now (image .exit) ≡ imageOf (given (diskOf (now (image .entry))) b (part (storedRow (now (head .entry)) (now (content .entry))) s) (File f s)) ⌝ }
+fn give_block(
+    image: &mut [u8],
+    map: &mut MapNumbers,
+    b: usize,
+    f: usize,
+    s: usize,
+    head: &[u8],
+    content: &[u8],
+)
+    requires { ⌜ InStep (now map) (now image) × (0 < b) × (b < blocks) × (f < sequences) × (s < sequences) ⌝ }
+    ensures { λ _. ⌜ (now (image .exit) ≡ imageOf (given (diskOf (now (image .entry))) b (part (storedRow (now (head .entry)) (now (content .entry))) s) (File f s))) × (now (map .exit) ≡ set (now (map .entry)) b (numberOf (File f s))) × InStep (now (map .exit)) (now (image .exit)) ⌝ }
 {
     put_part(image, b, s, head, content);
-    set_record(image, b, Record::File(f as u16, s as u16));
+    place_record(image, map, b, Record::File(f as u16, s as u16));
 }
 
-// The n lowest free blocks are given to file f, from sequence s on. Giving a block changes no other record, so the
-// map that was loaded first says which are free.
-pub fn give_blocks(image: &mut [u8], f: usize, s: usize, n: usize, head: &[u8], content: &[u8])
-    requires { ⌜ (length (now image) ≡ imageBytes) × (f < 4096) × (s + n ≤ 4096) ⌝ }
-    ensures { λ _. ⌜ now (image .exit) ≡ imageOf (giveLowest (diskOf (now (image .entry))) f (storedRow (now (head .entry)) (now (content .entry))) s n blocks) ⌝ }
+// The n lowest free blocks are given to file f, from sequence s on.
+pub fn give_blocks(
+    image: &mut [u8],
+    map: &mut MapNumbers,
+    f: usize,
+    s: usize,
+    n: usize,
+    head: &[u8],
+    content: &[u8],
+)
+    requires { ⌜ InStep (now map) (now image) × (f < sequences) × (s + n ≤ sequences) ⌝ }
+    ensures { λ _. ⌜ (now (image .exit) ≡ imageOf (giveLowest (diskOf (now (image .entry))) f (storedRow (now (head .entry)) (now (content .entry))) s n blocks)) × InStep (now (map .exit)) (now (image .exit)) ⌝ }
 {
-    let map = load_map(image);
     let mut given = 0;
     for b in 0..Geometry::BLOCKS {
-        let m = map_record(&map, BlockNumber(b));
+        let m = map_record(map, BlockNumber(b));
         let record = m.record;
         if (given < n) & is_free(record) {
-            give_block(image, b, f, s + given, head, content);
+            give_block(image, map, b, f, s + given, head, content);
             given += 1;
         }
     }

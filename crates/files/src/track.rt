@@ -3,16 +3,20 @@ ghost use mathlib.Core.Path.{_≡_};
 ghost use Prim.Native.Nat.{_≤_};
 ghost use lib.ListN.{length};
 ghost use Rattle.laws.specs.Tests.{orElse};
+ghost use Rattle.sector_rules.specs.Geometry.{sectorBytes};
 ghost use Rattle.file_rules.specs.Disk.{diskOf};
 ghost use Rattle.file_rules.specs.Check.{refusal8, refusal9, refusal11};
 ghost use Rattle.file_rules.specs.FirstTrack as Tracks;
 ghost use Rattle.files.specs.Laws.Judging.Verdict.{verdictOf};
+ghost use Rattle.files.specs.Laws.Loading.Loaded.{Mapped};
 use crate::Verdict;
 use crate::checking::judge_free;
 use crate::checking::judge_map;
 use crate::header::head_word;
 use crate::header::judge_header;
-use crate::map::free_count;
+use crate::map::count_free;
+use crate::map::load_map;
+use crate::sizes::MapNumbers;
 use crate::sizes::TRACK_BYTES;
 use file_rules::FirstTrack;
 use sector_rules::Reply;
@@ -33,10 +37,11 @@ fn refused_track(reply: Reply) -> FirstTrack
 }
 
 // The free word, the good word, and the records that are not free.
-fn counted_track(track: &[u8]) -> FirstTrack
+fn counted_track(track: &[u8], map: &MapNumbers) -> FirstTrack
+    requires { ⌜ Mapped (now map) (diskOf (now track)) ⌝ }
     ensures { λ r. ⌜ r ≡ Tracks.counted (diskOf (now (track .entry))) ⌝ }
 {
-    let free = free_count(track);
+    let free = count_free(map);
     FirstTrack {
         reply: done(),
         free: head_word(track, 20),
@@ -46,17 +51,17 @@ fn counted_track(track: &[u8]) -> FirstTrack
 }
 
 // The judgements 8, 9 and 11, in order.
-fn judge_track(track: &[u8]) -> Verdict
-    requires { ⌜ 512 ≤ length (now track) ⌝ }
+fn judge_track(track: &[u8], map: &MapNumbers) -> Verdict
+    requires { ⌜ (sectorBytes ≤ length (now track)) × Mapped (now map) (diskOf (now track)) ⌝ }
     ensures { λ r. ⌜ r ≡ verdictOf (orElse (refusal8 (diskOf (now (track .entry)))) (orElse (refusal9 (diskOf (now (track .entry)))) (refusal11 (diskOf (now (track .entry)))))) ⌝ }
 {
     match judge_header(track) {
         Verdict::Refused(r) => return Verdict::Refused(r),
         Verdict::Passed => {}
     }
-    match judge_map(track) {
+    match judge_map(map) {
         Verdict::Refused(r) => Verdict::Refused(r),
-        Verdict::Passed => judge_free(track),
+        Verdict::Passed => judge_free(track, map),
     }
 }
 
@@ -67,8 +72,10 @@ pub fn first_track(track: &[u8]) -> FirstTrack
     if track.len() != TRACK_BYTES {
         return refused_track(refused(1, 2));
     }
-    match judge_track(track) {
+    let mut map = [0u32; Geometry::BLOCKS];
+    load_map(track, &mut map);
+    match judge_track(track, &map) {
         Verdict::Refused(r) => refused_track(r),
-        Verdict::Passed => counted_track(track),
+        Verdict::Passed => counted_track(track, &map),
     }
 }

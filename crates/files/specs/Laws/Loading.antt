@@ -5,5 +5,6 @@ pub mod Records
 pub mod Loaded
 pub mod Tally
 pub mod Parts
+pub mod Chains
 pub mod Slots
 pub mod Marks

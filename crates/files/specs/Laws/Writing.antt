@@ -3,3 +3,4 @@ pub mod Stored
 pub mod Steps
 pub mod Rows
 pub mod Given
+pub mod InStep

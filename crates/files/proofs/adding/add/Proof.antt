@@ -1,12 +1,12 @@
 -- `add` meets its contract.
 -- Assumes nothing.
-use mathlib.Core.Path.{refl, sym, _∙_}
-use Prim.Native.Nat.{_-_}
-use borrow.Author.Needs.{needs}
-use Rattle.files.specs.Laws.Judging.Verdict.{verdict-some, verdict-none}
+use mathlib.Core.Path.{_≡_, refl, sym, ap, _∙_}
 use Rattle.file_rules.specs.Calls.{add}
 use Rattle.file_rules.specs.Laws.Base.OnSound.{sound-length, sound-refused, sound-passed}
+use Rattle.files.specs.Laws.Judging.Verdict.{verdict-some, verdict-none}
+use Rattle.files.specs.Laws.Writing.InStep.{in-step}
 use Rattle.files.specs.Laws.Calling.Judged.{wrote-refused, wrote-gave}
+use borrow.Author.Needs.{needs}
 use Rattle.files.proofs.adding.add.Statement.{statement}
 use Rattle.files.proofs.adding.add.Tie as tie
 
@@ -16,6 +16,9 @@ refused-requires c κs = search needs
 returns : tie.Need-returns
 unfolding add
 returns c = wrote-refused _ _ _ _ (sound-length _ _ _ (c .before .if1 .taken)) (c .refused .ensures)
+
+load-map-requires : tie.Need-load-map-requires
+load-map-requires c κs = refl
 
 judge-requires : tie.Need-judge-requires
 judge-requires c κs = search needs
@@ -27,33 +30,21 @@ enum-told : tie.Need-enum-told
 enum-told c = search needs
 
 add-sound-requires : tie.Need-add-sound-requires
-add-sound-requires c κs = (c .before .before .before .before .before .if1 .left, (verdict-none _ (sym (c .before .enum-told .given .1) ∙ c .before .before .before .judge .ensures)))
+add-sound-requires c κs = let passed = (verdict-none _ (sym (c .before .before .enum-told .given .1) ∙ c .before .before .before .before .judge .ensures)) in (in-step _ _ (c .before .before .before .before .before .before .before .before .before .before .if1 .left) (c .before .before .before .before .before .before .before .load-map .ensures) passed, passed)
 
 same-length : tie.Need-same-length
 same-length c = search needs
 
 returns-2 : tie.Need-returns-2
 unfolding add
-returns-2 c = wrote-refused _ _ _ _ (sound-refused _ _ _ (c .before .before .before .before .before .if1 .left) _ (verdict-some _ _ (sym (c .before .r .given .1) ∙ c .before .before .before .judge .ensures))) refl
+returns-2 c = wrote-refused _ _ _ _ (sound-refused _ _ _ (c .before .before .before .before .before .before .before .before .before .if1 .left) _ (verdict-some _ _ (sym (c .before .r .given .1) ∙ c .before .before .before .judge .ensures))) refl
 
 same-length-2 : tie.Need-same-length-2
 same-length-2 c = search needs
 
 returns-3 : tie.Need-returns-3
 unfolding add
-returns-3 c = wrote-gave _ _ _ _ (sound-passed _ _ _ (c .before .before .before .before .before .before .before .before .if1 .left) (verdict-none _ (sym (c .before .before .before .before .enum-told .given .1) ∙ c .before .before .before .before .before .before .judge .ensures))) (c .before .before .add-sound .ensures)
+returns-3 c = wrote-gave _ _ _ _ (sound-passed _ _ _ (c .before .before .before .before .before .before .before .before .before .before .before .before .before .if1 .left) (verdict-none _ (sym (c .before .before .before .before .before .enum-told .given .1) ∙ c .before .before .before .before .before .before .before .judge .ensures))) (c .before .before .add-sound .ensures)
 
 pub add-spec : {M : Type 1} → statement M
-add-spec =
-    tie.close
-    (tie.spec
-    refused-requires
-    returns
-    judge-requires
-    enum-known-r
-    enum-told
-    add-sound-requires
-    same-length
-    returns-2
-    same-length-2
-    returns-3)
+add-spec = tie.close (tie.spec refused-requires returns load-map-requires judge-requires enum-known-r enum-told add-sound-requires same-length returns-2 same-length-2 returns-3)

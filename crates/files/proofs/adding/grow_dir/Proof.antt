@@ -1,16 +1,15 @@
 -- `grow_dir` meets its contract.
 -- Assumes nothing.
-use Prim.Native.Nat.{_-_}
-use borrow.Author.Needs.{needs}
 use Rattle.files.specs.Laws.Calling.Changed.{grow-inside, grow-within, grow-block}
+use borrow.Author.Needs.{needs}
 use Rattle.files.proofs.adding.grow_dir.Statement.{statement}
 use Rattle.files.proofs.adding.grow_dir.Tie as tie
 
 returns : tie.Need-returns
-returns c = grow-inside _ _ _ (c .before .before .pre .0) (c .before .before .pre .2) (c .if1 .taken)
+returns c = (grow-inside _ _ _ (c .before .before .pre .0 .long) (c .before .before .pre .2) (c .if1 .taken), c .before .before .pre .0)
 
 returns-2 : tie.Need-returns-2
-returns-2 c = grow-within _ _ _ (c .before .before .before .pre .0) (c .before .before .before .pre .2) (c .if2 .taken)
+returns-2 c = (grow-within _ _ _ (c .before .before .before .pre .0 .long) (c .before .before .before .pre .2) (c .if2 .taken), c .before .before .before .pre .0)
 
 slice-aggregate-give-blocks : tie.Need-slice-aggregate-give-blocks
 slice-aggregate-give-blocks c = search needs
@@ -19,22 +18,13 @@ slice-aggregate-give-blocks-2 : tie.Need-slice-aggregate-give-blocks-2
 slice-aggregate-give-blocks-2 c = search needs
 
 give-blocks-requires : tie.Need-give-blocks-requires
-give-blocks-requires c κs = search needs
+give-blocks-requires c κs = (c .before .before .before .before .before .before .before .pre .0, search needs, search needs)
 
 same-length : tie.Need-same-length
 same-length c = search needs
 
 returns-3 : tie.Need-returns-3
-returns-3 c = grow-block _ _ _ (c .before .before .before .before .before .before .before .before .before .pre .0) (c .before .before .before .before .before .before .before .before .before .pre .2) _ (c .before .before .before .before .before .before .before .if1 .left) (c .before .before .before .before .before .before .if2 .left) (c .before .before .give-blocks .ensures)
+returns-3 c = (grow-block _ _ _ (c .before .before .before .before .before .before .before .before .before .before .pre .0 .long) (c .before .before .before .before .before .before .before .before .before .before .pre .2) _ (c .before .before .before .before .before .before .before .before .if1 .left) (c .before .before .before .before .before .before .before .if2 .left) (c .before .before .give-blocks .ensures .0), c .before .before .give-blocks .ensures .1)
 
 pub grow-dir-spec : {M : Type 1} → statement M
-grow-dir-spec =
-    tie.close
-    (tie.spec
-    returns
-    returns-2
-    slice-aggregate-give-blocks
-    slice-aggregate-give-blocks-2
-    give-blocks-requires
-    same-length
-    returns-3)
+grow-dir-spec = tie.close (tie.spec returns returns-2 slice-aggregate-give-blocks slice-aggregate-give-blocks-2 give-blocks-requires same-length returns-3)

@@ -1,17 +1,17 @@
 -- `has_room` meets its contract.
 -- Assumes nothing.
 use mathlib.Core.Path.{sym, _∙_}
-use Prim.Native.Nat.{_-_}
-use borrow.Author.Needs.{needs}
+use Rattle.files.specs.Laws.Loading.Loaded.{free-mapped}
 use Rattle.files.specs.Laws.Calling.Judged.{room-none, room-opens, room-keeps}
+use borrow.Author.Needs.{needs}
 use Rattle.files.proofs.adding.has_room.Statement.{statement}
 use Rattle.files.proofs.adding.has_room.Tie as tie
 
 returns : tie.Need-returns
 returns c = room-none _ _ _ (c .if1 .taken)
 
-free-count-requires : tie.Need-free-count-requires
-free-count-requires c κs = search needs
+count-free-requires : tie.Need-count-free-requires
+count-free-requires c κs = search needs
 
 blocks-for-requires : tie.Need-blocks-for-requires
 blocks-for-requires c κs = search needs
@@ -23,19 +23,10 @@ add-result : tie.Need-add-result
 add-result c = search needs
 
 returns-2 : tie.Need-returns-2
-returns-2 c = room-opens _ _ _ _ _ (sym (c .before .opens-block .ensures) ∙ c .if2 .taken) (c .before .before .blocks-for .ensures .0) (c .before .before .before .free-count .ensures .0)
+returns-2 c = room-opens _ _ _ _ _ (sym (c .before .opens-block .ensures) ∙ c .if2 .taken) (c .before .before .blocks-for .ensures .0) (c .before .before .before .count-free .ensures .0 ∙ free-mapped _ _ (c .before .before .before .before .before .before .pre))
 
 returns-3 : tie.Need-returns-3
-returns-3 c = room-keeps _ _ _ _ _ (sym (c .before .opens-block .ensures) ∙ c .if2 .left) (c .before .before .blocks-for .ensures .0) (c .before .before .before .free-count .ensures .0)
+returns-3 c = room-keeps _ _ _ _ _ (sym (c .before .opens-block .ensures) ∙ c .if2 .left) (c .before .before .blocks-for .ensures .0) (c .before .before .before .count-free .ensures .0 ∙ free-mapped _ _ (c .before .before .before .before .before .before .pre))
 
 pub has-room-spec : {M : Type 1} → statement M
-has-room-spec =
-    tie.close
-    (tie.spec
-    returns
-    free-count-requires
-    blocks-for-requires
-    opens-block-requires
-    add-result
-    returns-2
-    returns-3)
+has-room-spec = tie.close (tie.spec returns count-free-requires blocks-for-requires opens-block-requires add-result returns-2 returns-3)

@@ -1,11 +1,10 @@
 -- `check` meets its contract.
 -- Assumes nothing.
-use mathlib.Core.Path.{sym, _∙_}
-use Prim.Native.Nat.{_-_}
-use borrow.Author.Needs.{needs}
+use mathlib.Core.Path.{_≡_, refl, sym, ap, _∙_}
 use Rattle.file_rules.specs.Calls.{check}
 use Rattle.file_rules.specs.Laws.Base.OnSound.{sound-length, sound-refused, sound-passed}
 use Rattle.files.specs.Laws.Judging.Verdict.{verdict-some, verdict-none}
+use borrow.Author.Needs.{needs}
 use Rattle.files.proofs.checking.check.Statement.{statement}
 use Rattle.files.proofs.checking.check.Tie as tie
 
@@ -15,6 +14,9 @@ refused-requires c κs = search needs
 returns : tie.Need-returns
 unfolding check
 returns c = c .refused .ensures ∙ sym (sound-length _ _ _ (c .before .if1 .taken))
+
+load-map-requires : tie.Need-load-map-requires
+load-map-requires c κs = refl
 
 judge-requires : tie.Need-judge-requires
 judge-requires c κs = search needs
@@ -30,21 +32,11 @@ done-requires c κs = search needs
 
 returns-2 : tie.Need-returns-2
 unfolding check
-returns-2 c = sym (sound-refused _ _ _ (c .before .before .before .before .if1 .left) _ (verdict-some _ _ (sym (c .before .r .given .1) ∙ c .before .before .before .judge .ensures)))
+returns-2 c = sym (sound-refused _ _ _ (c .before .before .before .before .before .before .before .if1 .left) _ (verdict-some _ _ (sym (c .before .r .given .1) ∙ c .before .before .before .judge .ensures)))
 
 returns-3 : tie.Need-returns-3
 unfolding check
-returns-3 c = c .done .ensures ∙ sym (sound-passed _ _ _ (c .before .before .before .before .if1 .left) (verdict-none _ (sym (c .before .enum-told .given .1) ∙ c .before .before .before .judge .ensures)))
+returns-3 c = c .done .ensures ∙ sym (sound-passed _ _ _ (c .before .before .before .before .before .before .before .if1 .left) (verdict-none _ (sym (c .before .enum-told .given .1) ∙ c .before .before .before .judge .ensures)))
 
 pub check-spec : {M : Type 1} → statement M
-check-spec =
-    tie.close
-    (tie.spec
-    refused-requires
-    returns
-    judge-requires
-    enum-known-r
-    enum-told
-    done-requires
-    returns-2
-    returns-3)
+check-spec = tie.close (tie.spec refused-requires returns load-map-requires judge-requires enum-known-r enum-told done-requires returns-2 returns-3)

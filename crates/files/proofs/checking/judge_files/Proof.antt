@@ -1,8 +1,7 @@
 -- `judge_files` meets its contract.
 -- Assumes nothing.
-use Prim.Native.Nat.{_-_}
-use borrow.Author.Needs.{needs}
 use Rattle.files.specs.Laws.Judging.Sound.{refused-files, passed-files}
+use borrow.Author.Needs.{needs}
 use Rattle.files.proofs.checking.judge_files.Statement.{statement}
 use Rattle.files.proofs.checking.judge_files.Tie as tie
 

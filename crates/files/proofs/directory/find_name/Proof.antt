@@ -1,25 +1,22 @@
 -- `find_name` meets its contract: no slot below k is held and has the name.
 -- Assumes nothing.
-use mathlib.Core.Path.{_≡_, sym, _∙_}
-use mathlib.Core.Bool.{false, _&&_}
-use Prim.Native.Nat.{ℕ, _-_, _≤_, _<_}
-use native.Mathlib.Omega.{arith}
-use borrow.Author.Needs.{needs}
+use mathlib.Core.Path.{_≡_, refl, sym, ap, _∙_}
+use Prim.Native.Nat.{ℕ, suc, _+_, _-_, _≤_, _<_}
 use borrow.Author.Count.{below-none, below-more}
-use Rattle.file_rules.specs.Disk.{diskOf}
+use Rattle.file_rules.specs.Disk.{diskOf, imageOf}
+use Rattle.file_rules.specs.Directory.{nameEq, slotName, held}
 use Rattle.files.specs.Laws.Loading.Slots.{found-at, found-none}
-use Rattle.file_rules.specs.Directory.{nameEq, held, slotName}
+use mathlib.Core.Bool.{Bool, true, false, not, _&&_}
+use borrow.Author.Needs.{needs}
+use native.Mathlib.Omega.{arith}
 use Rattle.files.proofs.directory.find_name.Statement.{statement}
 use Rattle.files.proofs.directory.find_name.Tie as tie
 
 abbrev Inv-loop : tie.InvT-loop
-Inv-loop image name dir end k₀ k = (k ≤ end) × ((j : ℕ) → j < k → (held (diskOf image) j && nameEq (slotName (diskOf image) j) name) ≡ false)
+Inv-loop image dir name end k₀ k = (k ≤ end) × ((j : ℕ) → j < k → (held (diskOf image) j && nameEq (slotName (diskOf image) j) name) ≡ false)
 
 abbrev μ-loop : tie.MeasureT-loop
-μ-loop image name dir end k₀ k = end - k
-
-load-dir-requires : tie.Need-load-dir-requires Inv-loop μ-loop
-load-dir-requires c κs = search needs
+μ-loop image dir name end k₀ k = end - k
 
 dir-end-requires : tie.Need-dir-end-requires Inv-loop μ-loop
 dir-end-requires c κs = search needs
@@ -31,7 +28,7 @@ held-so-requires : tie.Need-held-so-requires Inv-loop μ-loop
 held-so-requires c κs = search needs
 
 returns : tie.Need-returns Inv-loop μ-loop
-returns c = found-at _ _ (c .before .before .before .before .before .dir-end .ensures .0) _ _ (omega arith) (c .before .before .before .before .loop .inv .1) (sym (c .before .held-so .ensures) ∙ c .if1 .taken)
+returns c = found-at _ _ (c .before .before .before .before .dir-end .ensures .0) _ _ (omega arith) (c .before .before .before .loop .inv .1) (sym (c .before .held-so .ensures) ∙ c .if1 .taken)
 
 add-k : tie.Need-add-k Inv-loop μ-loop
 add-k c = search needs
@@ -40,7 +37,7 @@ loop-less : tie.Need-loop-less Inv-loop μ-loop
 loop-less c = omega arith
 
 loop-again : tie.Need-loop-again Inv-loop μ-loop
-loop-again c = (omega arith, below-more _ _ (c .before .before .before .before .loop .inv .1) (sym (c .before .held-so .ensures) ∙ c .if1 .left))
+loop-again c = (omega arith, below-more _ _ (c .before .before .before .loop .inv .1) (sym (c .before .held-so .ensures) ∙ c .if1 .left))
 
 returns-2 : tie.Need-returns-2 Inv-loop μ-loop
 returns-2 c = found-none _ _ (c .before .before .dir-end .ensures .0) _ (λ j h. c .before .loop .inv .1 j (omega arith))
@@ -51,7 +48,6 @@ find-name-spec =
     (tie.spec
     Inv-loop
     μ-loop
-    load-dir-requires
     dir-end-requires
     loop-holds
     held-so-requires

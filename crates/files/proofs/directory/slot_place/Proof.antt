@@ -1,19 +1,24 @@
 -- `slot_place` meets its contract.
 -- Assumes nothing.
-use mathlib.Core.Path.{sym, _∙_}
-use Prim.Native.Nat.{_-_}
-use native.Mathlib.Omega.{arith}
-use borrow.Author.Needs.{needs}
+use mathlib.Core.Path.{_≡_, refl, sym, ap, _∙_}
+use Prim.Native.Nat.{ℕ, _*_, _%_}
 use Rattle.laws.specs.Tests.{lt-true, lt-false, cond-true, cond-false}
+use Rattle.file_rules.specs.Disk.{byteOf}
+use Rattle.file_rules.specs.Sizes.{slotBytes, blockSlots}
 use Rattle.files.specs.Laws.Loading.Slots.{slotPlace}
+use borrow.Author.Needs.{needs}
+use native.Mathlib.Omega.{arith}
 use Rattle.files.proofs.directory.slot_place.Statement.{statement}
 use Rattle.files.proofs.directory.slot_place.Tie as tie
 
-mul-b : tie.Need-mul-b
-mul-b c = search needs
+mul-block-number : tie.Need-mul-block-number
+mul-block-number c = search needs
 
-element-copy-out-b : tie.Need-element-copy-out-b
-element-copy-out-b c = search needs
+element-copy-out-block-number : tie.Need-element-copy-out-block-number
+element-copy-out-block-number c = search needs
+
+block-number-requires : tie.Need-block-number-requires
+block-number-requires c κs = search needs
 
 mul-byte-place : tie.Need-mul-byte-place
 mul-byte-place c = search needs
@@ -23,13 +28,11 @@ byte-place-requires c κs = search needs
 
 returns : tie.Need-returns
 unfolding slotPlace
-returns c = (c .byte-place .ensures .0 ∙ sym (cond-true _ _ (lt-true (c .before .if1 .taken))), omega arith)
+returns c = let e = c .before .before .block-number .ensures in (c .byte-place .ensures .0 ∙ ap (λ (b : ℕ). byteOf b (c .before .before .before .before .args .k % blockSlots * slotBytes)) e ∙ sym (cond-true _ _ (lt-true (rw e at (c .before .if1 .taken)))), omega arith)
 
 returns-2 : tie.Need-returns-2
 unfolding slotPlace
-returns-2 c = (sym (cond-false _ _ (lt-false (c .if1 .left))), omega arith)
+returns-2 c = let e = c .before .block-number .ensures in (sym (cond-false _ _ (lt-false (rw e at (c .if1 .left)))), omega arith)
 
 pub slot-place-spec : {M : Type 1} → statement M
-slot-place-spec =
-    tie.close
-    (tie.spec mul-b element-copy-out-b mul-byte-place byte-place-requires returns returns-2)
+slot-place-spec = tie.close (tie.spec mul-block-number element-copy-out-block-number block-number-requires mul-byte-place byte-place-requires returns returns-2)

@@ -1,15 +1,15 @@
 -- `vacant_slot` meets its contract: no slot below k is vacant.
 -- Assumes nothing.
-use mathlib.Core.Path.{_≡_, sym, ap, _∙_}
-use mathlib.Core.Bool.{Bool, false, not, _&&_}
-use Prim.Native.Nat.{ℕ, _-_, _≤_, _<_}
-use native.Mathlib.Omega.{arith}
+use mathlib.Core.Path.{_≡_, refl, sym, ap, _∙_}
+use Prim.Native.Nat.{ℕ, suc, _+_, _-_, _≤_, _<_}
 use lib.Dec.{ltb}
-use borrow.Author.Needs.{needs}
 use borrow.Author.Count.{below-none, below-more}
-use Rattle.file_rules.specs.Disk.{diskOf}
-use Rattle.files.specs.Laws.Loading.Slots.{vacant-here, vacant-none}
+use Rattle.file_rules.specs.Disk.{diskOf, imageOf}
 use Rattle.file_rules.specs.Directory.{held}
+use Rattle.files.specs.Laws.Loading.Slots.{vacant-here, vacant-none}
+use mathlib.Core.Bool.{Bool, true, false, not, _&&_}
+use borrow.Author.Needs.{needs}
+use native.Mathlib.Omega.{arith}
 use Rattle.files.proofs.directory.vacant_slot.Statement.{statement}
 use Rattle.files.proofs.directory.vacant_slot.Tie as tie
 
@@ -18,9 +18,6 @@ Inv-loop image dir end k₀ k = (k ≤ end) × ((j : ℕ) → j < k → (ltb 0 j
 
 abbrev μ-loop : tie.MeasureT-loop
 μ-loop image dir end k₀ k = end - k
-
-load-dir-requires : tie.Need-load-dir-requires Inv-loop μ-loop
-load-dir-requires c κs = search needs
 
 dir-end-requires : tie.Need-dir-end-requires Inv-loop μ-loop
 dir-end-requires c κs = search needs
@@ -32,7 +29,7 @@ held-slot-requires : tie.Need-held-slot-requires Inv-loop μ-loop
 held-slot-requires c κs = search needs
 
 returns : tie.Need-returns Inv-loop μ-loop
-returns c = vacant-here _ _ (c .before .before .before .before .before .dir-end .ensures .0) _ (omega arith) (c .before .before .before .before .loop .inv .1) (ap (λ (h : Bool). ltb 0 (c .before .before .before .before .loop .k) && not h) (sym (c .before .held-slot .ensures)) ∙ c .if1 .taken)
+returns c = vacant-here _ _ (c .before .before .before .before .dir-end .ensures .0) _ (omega arith) (c .before .before .before .loop .inv .1) (ap (λ (h : Bool). ltb 0 (c .before .before .before .loop .k) && not h) (sym (c .before .held-slot .ensures)) ∙ c .if1 .taken)
 
 add-k : tie.Need-add-k Inv-loop μ-loop
 add-k c = search needs
@@ -41,7 +38,7 @@ loop-less : tie.Need-loop-less Inv-loop μ-loop
 loop-less c = omega arith
 
 loop-again : tie.Need-loop-again Inv-loop μ-loop
-loop-again c = (omega arith, below-more _ _ (c .before .before .before .before .loop .inv .1) (ap (λ (h : Bool). ltb 0 (c .before .before .before .before .loop .k) && not h) (sym (c .before .held-slot .ensures)) ∙ c .if1 .left))
+loop-again c = (omega arith, below-more _ _ (c .before .before .before .loop .inv .1) (ap (λ (h : Bool). ltb 0 (c .before .before .before .loop .k) && not h) (sym (c .before .held-slot .ensures)) ∙ c .if1 .left))
 
 returns-2 : tie.Need-returns-2 Inv-loop μ-loop
 returns-2 c = vacant-none _ _ (c .before .before .dir-end .ensures .0) (λ j h. c .before .loop .inv .1 j (omega arith))
@@ -52,7 +49,6 @@ vacant-slot-spec =
     (tie.spec
     Inv-loop
     μ-loop
-    load-dir-requires
     dir-end-requires
     loop-holds
     held-slot-requires

@@ -1,25 +1,26 @@
 -- `load_map` meets its contract: the records below b are loaded.
 -- Assumes nothing.
-use mathlib.Core.Path.{_≡_, refl}
+use mathlib.Core.Path.{_≡_}
 use Prim.Native.Nat.{ℕ, _-_, _≤_, _<_}
-use native.Mathlib.Omega.{arith}
 use lib.ListN.{length, getD, length-set}
-use borrow.Author.Needs.{needs}
 use borrow.Author.Count.{below-none}
+use Rattle.sector_rules.specs.Geometry.{blocks}
 use Rattle.file_rules.specs.Disk.{diskOf}
 use Rattle.file_rules.specs.Map.{numberAt}
 use Rattle.files.specs.Laws.Loading.Loaded.{numbers-more}
+use borrow.Author.Needs.{needs}
+use native.Mathlib.Omega.{arith}
 use Rattle.files.proofs.map.load_map.Statement.{statement}
 use Rattle.files.proofs.map.load_map.Tie as tie
 
 abbrev Inv-loop : tie.InvT-loop
-Inv-loop image map₀ b₀ map b = (b ≤ 480) × (length map ≡ 480) × ((j : ℕ) → j < b → getD map j 0 ≡ numberAt (diskOf image) j)
+Inv-loop image map₀ b₀ map b = (b ≤ blocks) × (length map ≡ blocks) × ((j : ℕ) → j < b → getD map j 0 ≡ numberAt (diskOf image) j)
 
 abbrev μ-loop : tie.MeasureT-loop
-μ-loop image map₀ b₀ map b = 480 - b
+μ-loop image map₀ b₀ map b = blocks - b
 
 loop-holds : tie.Need-loop-holds Inv-loop μ-loop
-loop-holds c = (omega arith, refl, below-none _)
+loop-holds c = (omega arith, search needs, below-none _)
 
 load-record-requires : tie.Need-load-record-requires Inv-loop μ-loop
 load-record-requires c κs = search needs
@@ -27,8 +28,8 @@ load-record-requires c κs = search needs
 mul-map : tie.Need-mul-map Inv-loop μ-loop
 mul-map c = search needs
 
-array-write-map : tie.Need-array-write-map Inv-loop μ-loop
-array-write-map c = search needs
+element-write-map : tie.Need-element-write-map Inv-loop μ-loop
+element-write-map c = search needs
 
 add-b : tie.Need-add-b Inv-loop μ-loop
 add-b c = search needs
@@ -51,7 +52,7 @@ load-map-spec =
     loop-holds
     load-record-requires
     mul-map
-    array-write-map
+    element-write-map
     add-b
     loop-less
     loop-again

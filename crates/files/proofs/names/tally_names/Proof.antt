@@ -1,35 +1,35 @@
 -- `tally_names` meets its contract: the slots below k are counted.
 -- Assumes nothing.
-use mathlib.Core.Path.{_≡_}
-use Prim.Native.Nat.{_-_, _≤_}
-use native.Mathlib.Omega.{arith}
+use mathlib.Core.Path.{_≡_, refl, sym, ap, _∙_}
+use Prim.Native.Nat.{ℕ, suc, _+_, _-_, _≤_, _<_}
+use Rattle.file_rules.specs.Disk.{diskOf, imageOf}
+use Rattle.files.specs.Laws.Loading.Tally.{Tallied, tally-more}
+use Rattle.files.specs.Laws.Loading.Marks.{markCount, slotMark}
 use borrow.Author.Needs.{needs}
-use Rattle.file_rules.specs.Disk.{diskOf}
-use Rattle.files.specs.Laws.Loading.Tally.{Tallied, tally-none, tally-more}
-use Rattle.files.specs.Laws.Loading.Marks.{slotMark}
+use native.Mathlib.Omega.{arith}
 use Rattle.files.proofs.names.tally_names.Statement.{statement}
 use Rattle.files.proofs.names.tally_names.Tie as tie
 
 abbrev Inv-loop : tie.InvT-loop
-Inv-loop image dir end names₀ k₀ names k = (k ≤ end) × Tallied names 16385 (slotMark (diskOf image)) k
+Inv-loop image dir end names₀ k₀ names k = (k ≤ end) × Tallied names (suc markCount) (slotMark (diskOf image)) k
 
 abbrev μ-loop : tie.MeasureT-loop
 μ-loop image dir end names₀ k₀ names k = end - k
 
 loop-holds : tie.Need-loop-holds Inv-loop μ-loop
-loop-holds c = (omega arith, tally-none 16385 _)
+loop-holds c = (omega arith, c .before .pre .3)
 
 slot-mark-requires : tie.Need-slot-mark-requires Inv-loop μ-loop
 slot-mark-requires c κs = search needs
 
-array-read-more : tie.Need-array-read-more Inv-loop μ-loop
-array-read-more c = search needs
+element-copy-out-more : tie.Need-element-copy-out-more Inv-loop μ-loop
+element-copy-out-more c = search needs
 
 more-requires : tie.Need-more-requires Inv-loop μ-loop
 more-requires c κs = search needs
 
-array-write-names : tie.Need-array-write-names Inv-loop μ-loop
-array-write-names c = search needs
+element-write-names : tie.Need-element-write-names Inv-loop μ-loop
+element-write-names c = search needs
 
 add-k : tie.Need-add-k Inv-loop μ-loop
 add-k c = search needs
@@ -38,7 +38,7 @@ loop-less : tie.Need-loop-less Inv-loop μ-loop
 loop-less c = omega arith
 
 loop-again : tie.Need-loop-again Inv-loop μ-loop
-loop-again c = (omega arith, tally-more _ _ _ _ (c .before .before .before .loop .inv .1) _ (c .before .slot-mark .ensures .0) _ (c .before .slot-mark .ensures .1) (c .more .ensures))
+loop-again c = (omega arith, tally-more _ _ _ _ (c .before .before .before .before .loop .inv .1) _ (c .before .before .slot-mark .ensures .0) _ (c .before .before .slot-mark .ensures .1) (c .more .ensures))
 
 returns : tie.Need-returns Inv-loop μ-loop
 returns c = let e : c .before .loop .k ≡ c .before .before .before .args .end = omega arith in rw e at (c .before .loop .inv .1)
@@ -51,9 +51,9 @@ tally-names-spec =
     μ-loop
     loop-holds
     slot-mark-requires
-    array-read-more
+    element-copy-out-more
     more-requires
-    array-write-names
+    element-write-names
     add-k
     loop-less
     loop-again

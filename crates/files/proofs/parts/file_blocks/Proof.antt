@@ -1,13 +1,13 @@
--- `file_blocks` meets its contract.
+-- `file_blocks` meets its contract: the last i blocks are placed.
 -- Assumes nothing.
-use mathlib.Core.Path.{_≡_, ap, _∙_}
+use mathlib.Core.Path.{_≡_, refl, sym, ap, _∙_}
 use mathlib.Core.Logic.{⊎-elim}
-use Prim.Native.Nat.{_-_, _≤_}
-use native.Mathlib.Omega.{arith}
-use borrow.Author.Needs.{needs}
+use Prim.Native.Nat.{ℕ, suc, _+_, _-_, _≤_, _<_}
 use Rattle.sector_rules.specs.Geometry.{blocks}
 use Rattle.file_rules.specs.declared.MapRecord.{MapRecord}
-use Rattle.files.specs.Laws.Loading.Parts.{partOf, PartsFrom, from-none, from-part, from-other, from-all}
+use Rattle.files.specs.Laws.Loading.Parts.{partOf, PartsFrom, from-part, from-other, from-all}
+use borrow.Author.Needs.{needs}
+use native.Mathlib.Omega.{arith}
 use Rattle.files.proofs.parts.file_blocks.Statement.{statement}
 use Rattle.files.proofs.parts.file_blocks.Tie as tie
 
@@ -18,7 +18,7 @@ abbrev μ-loop : tie.MeasureT-loop
 μ-loop map f row₀ i₀ row i = blocks - i
 
 loop-holds : tie.Need-loop-holds Inv-loop μ-loop
-loop-holds c = (omega arith, from-none _ _)
+loop-holds c = (omega arith, c .pre)
 
 sub-b : tie.Need-sub-b Inv-loop μ-loop
 sub-b c = search needs
@@ -32,11 +32,14 @@ map-record-requires c κs = search needs
 part-of-requires : tie.Need-part-of-requires Inv-loop μ-loop
 part-of-requires c κs = search needs
 
+cast-row : tie.Need-cast-row Inv-loop μ-loop
+cast-row c = search needs
+
 mul-row : tie.Need-mul-row Inv-loop μ-loop
 mul-row c = search needs
 
-array-write-row : tie.Need-array-write-row Inv-loop μ-loop
-array-write-row c = search needs
+element-write-row : tie.Need-element-write-row Inv-loop μ-loop
+element-write-row c = search needs
 
 add-i : tie.Need-add-i Inv-loop μ-loop
 add-i c = search needs
@@ -67,8 +70,9 @@ file-blocks-spec =
     sub-b-2
     map-record-requires
     part-of-requires
+    cast-row
     mul-row
-    array-write-row
+    element-write-row
     add-i
     loop-less
     loop-again

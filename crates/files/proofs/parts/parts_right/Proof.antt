@@ -1,8 +1,8 @@
 -- `parts_right` meets its contract.
 -- Assumes nothing.
-use Prim.Native.Nat.{_-_}
-use borrow.Author.Needs.{needs}
+use Rattle.files.specs.Laws.Loading.Tally.{tally-none}
 use Rattle.files.specs.Laws.Loading.Parts.{parts-many, parts-later, parts-once}
+use borrow.Author.Needs.{needs}
 use Rattle.files.proofs.parts.parts_right.Statement.{statement}
 use Rattle.files.proofs.parts.parts_right.Tie as tie
 
@@ -10,21 +10,19 @@ returns : tie.Need-returns
 returns c = parts-many _ _ _ (c .if1 .taken)
 
 tally-parts-requires : tie.Need-tally-parts-requires
-tally-parts-requires c κs = search needs
+tally-parts-requires c κs = (c .before .if1 .left, c .before .before .pre, tally-none 481 _)
 
 array-read-if2 : tie.Need-array-read-if2
 array-read-if2 c = search needs
 
 returns-2 : tie.Need-returns-2
-returns-2 c = parts-later _ _ _ (c .before .before .if1 .left) _ (c .before .tally-parts .ensures) (c .if2 .taken)
+returns-2 c = parts-later _ _ _ (c .before .before .before .if1 .left) _ (c .before .tally-parts .ensures) (c .if2 .taken)
 
 all-once-requires : tie.Need-all-once-requires
 all-once-requires c κs = search needs
 
 returns-3 : tie.Need-returns-3
-returns-3 c = parts-once _ _ _ (c .before .before .before .before .if1 .left) _ (c .before .before .before .tally-parts .ensures) _ (c .before .before .if2 .left) (c .all-once .ensures)
+returns-3 c = parts-once _ _ _ (c .before .before .before .before .before .if1 .left) _ (c .before .before .before .tally-parts .ensures) _ (c .before .before .if2 .left) (c .all-once .ensures)
 
 pub parts-right-spec : {M : Type 1} → statement M
-parts-right-spec =
-    tie.close
-    (tie.spec returns tally-parts-requires array-read-if2 returns-2 all-once-requires returns-3)
+parts-right-spec = tie.close (tie.spec returns tally-parts-requires array-read-if2 returns-2 all-once-requires returns-3)

@@ -1,59 +1,62 @@
--- `tally_parts` meets its contract.
+-- `tally_parts` meets its contract: the records below b are counted, and b bears the file.
 -- Assumes nothing.
-use mathlib.Core.Path.{_≡_, sym, ap, _∙_}
-use mathlib.Core.Logic.{⊎-elim}
-use Prim.Native.Nat.{ℕ, suc, _-_, _≤_}
-use native.Mathlib.Omega.{arith}
-use borrow.Author.Needs.{needs}
+use mathlib.Core.Path.{_≡_, refl, sym, ap, _∙_}
+use mathlib.Core.Bool.{true}
+use Prim.Native.Nat.{ℕ, suc, _+_, _-_, _≤_, _<_}
+use Rattle.laws.specs.Order.{by-order}
 use Rattle.sector_rules.specs.Geometry.{blocks}
 use Rattle.file_rules.specs.declared.MapRecord.{MapRecord}
+use Rattle.file_rules.specs.Map.{sequences, bears}
 use Rattle.files.specs.Laws.Loading.Loaded.{recordIn}
-use Rattle.files.specs.Laws.Loading.Tally.{Tallied, tally-none, tally-more, tally-skip}
-use Rattle.files.specs.Laws.Loading.Parts.{partOf, part-borne, part-unborne}
+use Rattle.files.specs.Laws.Loading.Tally.{Tallied, tally-more}
+use Rattle.files.specs.Laws.Loading.Parts.{partOf, part-borne}
+use Rattle.files.specs.Laws.Loading.Chains.{first-next, first-file, tally-next}
+use borrow.Author.Needs.{needs}
+use native.Mathlib.Omega.{arith}
 use Rattle.files.proofs.parts.tally_parts.Statement.{statement}
 use Rattle.files.proofs.parts.tally_parts.Tie as tie
 
 abbrev Inv-loop : tie.InvT-loop
-Inv-loop map f n tally₀ b₀ tally b = (b ≤ blocks) × Tallied tally (suc blocks) (λ (j : ℕ). partOf f n (recordIn map j)) b
+Inv-loop map first next f n tally₀ b₀ tally b = (b ≤ blocks) × Tallied tally (suc blocks) (λ (j : ℕ). partOf f n (recordIn map j)) b × (b < blocks → (f < sequences) × (bears f (recordIn map b) ≡ true))
 
 abbrev μ-loop : tie.MeasureT-loop
-μ-loop map f n tally₀ b₀ tally b = blocks - b
+μ-loop map first next f n tally₀ b₀ tally b = blocks - b
+
+first-block-requires : tie.Need-first-block-requires Inv-loop μ-loop
+first-block-requires c κs = search needs
 
 loop-holds : tie.Need-loop-holds Inv-loop μ-loop
-loop-holds c = (omega arith, tally-none 481 _)
+loop-holds c = rw (c .first-block .ensures) (let x = first-next _ _ _ (c .before .args .f) (c .before .pre .1) in (x .most, tally-next _ _ _ 0 _ _ (c .before .pre .0) (omega arith) x (c .before .pre .2), λ h. (first-file _ _ _ _ (c .before .pre .1) h, x .hit h)))
 
 map-record-requires : tie.Need-map-record-requires Inv-loop μ-loop
 map-record-requires c κs = search needs
 
-bears-file-requires : tie.Need-bears-file-requires Inv-loop μ-loop
-bears-file-requires c κs = search needs
-
 part-of-requires : tie.Need-part-of-requires Inv-loop μ-loop
 part-of-requires c κs = search needs
 
-array-read-more : tie.Need-array-read-more Inv-loop μ-loop
-array-read-more c = omega (arith, c .part-of .ensures .0, part-borne _ _ (c .before .before .before .before .before .before .pre) _ (sym (c .before .before .bears-file .ensures) ∙ c .before .if1 .taken))
+element-copy-out-more : tie.Need-element-copy-out-more Inv-loop μ-loop
+element-copy-out-more c = omega (arith, c .part-of .ensures .0, part-borne (c .before .before .before .before .before .args .f) (c .before .before .before .before .before .args .n) (c .before .before .before .before .before .pre .0) _ (ap (λ (m : MapRecord). bears (c .before .before .before .before .before .args .f) (m .«record»)) (c .before .map-record .ensures) ∙ c .before .before .before .loop .inv .2 (omega arith) .1))
 
 more-requires : tie.Need-more-requires Inv-loop μ-loop
 more-requires c κs = search needs
 
-array-write-tally : tie.Need-array-write-tally Inv-loop μ-loop
-array-write-tally c = omega (arith, c .before .part-of .ensures .0, part-borne _ _ (c .before .before .before .before .before .before .before .pre) _ (sym (c .before .before .before .bears-file .ensures) ∙ c .before .before .if1 .taken))
+element-write-tally : tie.Need-element-write-tally Inv-loop μ-loop
+element-write-tally c = omega (arith, c .before .before .part-of .ensures .0, part-borne (c .before .before .before .before .before .before .before .args .f) (c .before .before .before .before .before .before .before .args .n) (c .before .before .before .before .before .before .before .pre .0) _ (ap (λ (m : MapRecord). bears (c .before .before .before .before .before .before .before .args .f) (m .«record»)) (c .before .before .before .map-record .ensures) ∙ c .before .before .before .before .before .loop .inv .2 (omega arith) .1))
 
-add-b : tie.Need-add-b Inv-loop μ-loop
-add-b c = search needs
+mul-block-number : tie.Need-mul-block-number Inv-loop μ-loop
+mul-block-number c = search needs
+
+element-copy-out-block-number : tie.Need-element-copy-out-block-number Inv-loop μ-loop
+element-copy-out-block-number c = search needs
+
+block-number-requires : tie.Need-block-number-requires Inv-loop μ-loop
+block-number-requires c κs = search needs
 
 loop-less : tie.Need-loop-less Inv-loop μ-loop
-loop-less c = omega arith
+loop-less c = let x = (c .before .before .before .before .before .before .before .before .before .pre .1 .nexts (c .before .before .before .before .before .before .before .loop .b) (omega arith) (omega arith) (c .before .before .before .before .before .before .before .before .before .args .f) (c .before .before .before .before .before .before .before .loop .inv .2 (omega arith) .0) (c .before .before .before .before .before .before .before .loop .inv .2 (omega arith) .1)) in by-order (c .block-number .result) blocks (λ h. omega (arith, c .block-number .ensures, x .from (omega (arith, c .block-number .ensures)))) (λ h. omega arith)
 
 loop-again : tie.Need-loop-again Inv-loop μ-loop
-loop-again c = let f = c .before .before .before .before .before .args .f in let n = c .before .before .before .before .before .args .n in let h = c .before .before .before .before .before .pre in let at = ap (λ (m : MapRecord). partOf f n (m .«record»)) (c .before .before .map-record .ensures) in (
-  omega arith,
-  ⊎-elim
-      (λ w. rw (w .3) (tally-more _ _ _ _ (c .before .before .before .before .loop .inv .1) _ (w .1 .ensures .0 ∙ at) _ (omega (arith, w .1 .ensures .0, part-borne f n h _ (sym (c .before .bears-file .ensures) ∙ w .0 .taken))) (w .2 .ensures)))
-      (λ w. rw (w .1) (tally-skip _ _ _ _ (c .before .before .before .before .loop .inv .1) _ (part-unborne f n h _ (sym (c .before .bears-file .ensures) ∙ w .0 .left) ∙ at) (omega arith)))
-      (c .if1 .came),
-)
+loop-again c = let x = (c .before .before .before .before .before .before .before .before .before .pre .1 .nexts (c .before .before .before .before .before .before .before .loop .b) (omega arith) (omega arith) (c .before .before .before .before .before .before .before .before .before .args .f) (c .before .before .before .before .before .before .before .loop .inv .2 (omega arith) .0) (c .before .before .before .before .before .before .before .loop .inv .2 (omega arith) .1)) in rw (c .block-number .ensures) (x .most, tally-next _ _ _ (c .before .before .before .before .before .before .before .loop .b + 1) _ _ (c .before .before .before .before .before .before .before .before .before .pre .0) (omega arith) x (tally-more _ _ _ _ (c .before .before .before .before .before .before .before .loop .inv .1) _ (c .before .before .before .before .part-of .ensures .0 ∙ ap (λ (m : MapRecord). partOf (c .before .before .before .before .before .before .before .before .before .args .f) (c .before .before .before .before .before .before .before .before .before .args .n) (m .«record»)) (c .before .before .before .before .before .map-record .ensures)) _ (omega (arith, c .before .before .before .before .part-of .ensures .0, part-borne (c .before .before .before .before .before .before .before .before .before .args .f) (c .before .before .before .before .before .before .before .before .before .args .n) (c .before .before .before .before .before .before .before .before .before .pre .0) _ (ap (λ (m : MapRecord). bears (c .before .before .before .before .before .before .before .before .before .args .f) (m .«record»)) (c .before .before .before .before .before .map-record .ensures) ∙ c .before .before .before .before .before .before .before .loop .inv .2 (omega arith) .1))) (c .before .before .more .ensures)), λ h. (c .before .before .before .before .before .before .before .loop .inv .2 (omega arith) .0, x .hit h))
 
 returns : tie.Need-returns Inv-loop μ-loop
 returns c = let e : c .before .loop .b ≡ blocks = omega arith in rw e at (c .before .loop .inv .1)
@@ -64,14 +67,16 @@ tally-parts-spec =
     (tie.spec
     Inv-loop
     μ-loop
+    first-block-requires
     loop-holds
     map-record-requires
-    bears-file-requires
     part-of-requires
-    array-read-more
+    element-copy-out-more
     more-requires
-    array-write-tally
-    add-b
+    element-write-tally
+    mul-block-number
+    element-copy-out-block-number
+    block-number-requires
     loop-less
     loop-again
     returns)

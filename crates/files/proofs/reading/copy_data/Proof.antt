@@ -1,5 +1,6 @@
 -- `copy_data` meets its contract: the first i bytes are copied.
 -- Assumes nothing.
+use Rattle.files.specs.Laws.Loading.Parts.{from-none}
 use mathlib.Core.Path.{_≡_, refl, ap, _∙_}
 use Prim.Native.Nat.{ℕ, _-_, _≤_, _+_}
 use native.Mathlib.Omega.{arith}
@@ -10,20 +11,18 @@ use Rattle.file_rules.specs.Disk.{diskOf}
 use Rattle.file_rules.specs.Map.{fileByte}
 use Rattle.files.specs.Laws.Loading.Loaded.{part-mapped}
 use Rattle.files.specs.Laws.Calling.Delivered.{file-run}
+use Rattle.file_rules.specs.Sizes.{slotBytes}
 use Rattle.files.proofs.reading.copy_data.Statement.{statement}
 use Rattle.files.proofs.reading.copy_data.Tie as tie
 
 abbrev Inv-loop : tie.InvT-loop
-Inv-loop image k n out₀ map row i₀ out i = (i ≤ n) × (length out ≡ length out₀) × (out ≡ overlay out₀ 0 i (λ (j : ℕ). fileByte (diskOf image) k (64 + j)))
+Inv-loop image map k n out₀ row i₀ out i = (i ≤ n) × (length out ≡ length out₀) × (out ≡ overlay out₀ 0 i (λ (j : ℕ). fileByte (diskOf image) k (slotBytes + j)))
 
 abbrev μ-loop : tie.MeasureT-loop
-μ-loop image k n out₀ map row i₀ out i = n - i
-
-load-map-requires : tie.Need-load-map-requires Inv-loop μ-loop
-load-map-requires c κs = search needs
+μ-loop image map k n out₀ row i₀ out i = n - i
 
 file-blocks-requires : tie.Need-file-blocks-requires Inv-loop μ-loop
-file-blocks-requires c κs = search needs
+file-blocks-requires c κs = from-none _ _
 
 loop-holds : tie.Need-loop-holds Inv-loop μ-loop
 loop-holds c = (omega arith, refl, overlay-none _ _ _)
@@ -32,7 +31,7 @@ add-at : tie.Need-add-at Inv-loop μ-loop
 add-at c = search needs
 
 nth-block-requires : tie.Need-nth-block-requires Inv-loop μ-loop
-nth-block-requires c κs = c .before .before .before .before .file-blocks .ensures
+nth-block-requires c κs = c .before .before .before .file-blocks .ensures
 
 sub-part-length : tie.Need-sub-part-length Inv-loop μ-loop
 sub-part-length c = search needs
@@ -52,17 +51,17 @@ loop-less c = omega arith
 loop-again : tie.Need-loop-again Inv-loop μ-loop
 loop-again c = (
   omega arith,
-  ap length (c .before .before .copy-part .ensures) ∙ overlay-length _ _ _ _ ∙ c .before .before .before .before .before .before .before .before .before .loop .inv .1,
+  ap length (c .before .before .copy-part .ensures) ∙ overlay-length _ _ _ _ ∙ c .before .before .before .before .before .before .before .before .loop .inv .1,
   c .before .before .copy-part .ensures
-      ∙ overlay-next _ _ _ _ (λ (j : ℕ). fileByte (diskOf (c .before .before .before .before .before .before .before .before .before .before .before .before .before .before .before .args .image .now)) (c .before .before .before .before .before .before .before .before .before .before .before .before .before .before .before .args .k) (64 + j)) _ (c .before .before .before .before .before .before .before .before .before .loop .inv .2)
-      (λ j h. file-run (diskOf (c .before .before .before .before .before .before .before .before .before .before .before .before .before .before .before .args .image .now)) (c .before .before .before .before .before .before .before .before .before .before .before .before .before .before .before .args .k) (c .before .before .before .before .before .before .before .before .before .loop .i) j _ (c .before .before .before .before .before .nth-block .ensures ∙ part-mapped _ _ (c .before .before .before .before .before .before .before .before .before .before .before .before .load-map .ensures) _ _) (omega arith)),
+      ∙ overlay-next _ _ _ _ (λ (j : ℕ). fileByte (diskOf (c .before .before .before .before .before .before .before .before .before .before .before .before .before .args .image .now)) (c .before .before .before .before .before .before .before .before .before .before .before .before .before .args .k) (slotBytes + j)) _ (c .before .before .before .before .before .before .before .before .loop .inv .2)
+      (λ j h. file-run (diskOf (c .before .before .before .before .before .before .before .before .before .before .before .before .before .args .image .now)) (c .before .before .before .before .before .before .before .before .before .before .before .before .before .args .k) (c .before .before .before .before .before .before .before .before .loop .i) j _ (c .before .before .before .before .before .nth-block .ensures ∙ part-mapped _ _ (c .before .before .before .before .before .before .before .before .before .before .before .before .before .pre .1) _ _) (omega arith)),
 )
 
 same-length : tie.Need-same-length Inv-loop μ-loop
 same-length c = search needs
 
 returns : tie.Need-returns Inv-loop μ-loop
-returns c = let e : c .before .loop .i ≡ c .before .before .before .before .before .before .before .args .n = omega arith in rw e at (c .before .loop .inv .2)
+returns c = let e : c .before .loop .i ≡ c .before .before .before .before .before .before .args .n = omega arith in rw e at (c .before .loop .inv .2)
 
 pub copy-data-spec : {M : Type 1} → statement M
 copy-data-spec =
@@ -70,7 +69,6 @@ copy-data-spec =
     (tie.spec
     Inv-loop
     μ-loop
-    load-map-requires
     file-blocks-requires
     loop-holds
     add-at

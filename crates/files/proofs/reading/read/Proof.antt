@@ -1,13 +1,12 @@
 -- `read` meets its contract.
 -- Assumes nothing.
-use mathlib.Core.Path.{refl, sym, _∙_}
-use Prim.Native.Nat.{_-_}
-use borrow.Author.Needs.{needs}
+use mathlib.Core.Path.{_≡_, refl, sym, ap, _∙_}
 use Rattle.file_rules.specs.Calls.{read}
 use Rattle.file_rules.specs.Laws.Base.OnSound.{sound-length, sound-refused, sound-passed}
-use Rattle.files.specs.Laws.Calling.Delivered.{gave-kept, gave-same}
-use Rattle.files.specs.Laws.Judging.Ends.{end-within}
 use Rattle.files.specs.Laws.Judging.Verdict.{verdict-some, verdict-none}
+use Rattle.files.specs.Laws.Judging.Ends.{end-within}
+use Rattle.files.specs.Laws.Calling.Delivered.{gave-kept, gave-same}
+use borrow.Author.Needs.{needs}
 use Rattle.files.proofs.reading.read.Statement.{statement}
 use Rattle.files.proofs.reading.read.Tie as tie
 
@@ -17,6 +16,9 @@ refused-requires c κs = search needs
 returns : tie.Need-returns
 unfolding read
 returns c = gave-kept _ _ _ _ (sound-length _ _ _ (c .before .if1 .taken)) (c .refused .ensures)
+
+load-map-requires : tie.Need-load-map-requires
+load-map-requires c κs = refl
 
 judge-requires : tie.Need-judge-requires
 judge-requires c κs = search needs
@@ -28,29 +30,18 @@ enum-told : tie.Need-enum-told
 enum-told c = search needs
 
 read-sound-requires : tie.Need-read-sound-requires
-read-sound-requires c κs = (c .before .before .before .before .if1 .left, end-within _ (verdict-none _ (sym (c .before .enum-told .given .1) ∙ c .before .before .before .judge .ensures)))
+read-sound-requires c κs = (c .before .before .before .before .before .before .before .before .if1 .left, end-within _ (verdict-none _ (sym (c .before .before .enum-told .given .1) ∙ c .before .before .before .before .judge .ensures)), c .before .before .before .before .before .before .load-map .ensures)
 
 returns-2 : tie.Need-returns-2
 unfolding read
-returns-2 c = gave-kept _ _ _ _ (sound-refused _ _ _ (c .before .before .before .before .if1 .left) _ (verdict-some _ _ (sym (c .before .r .given .1) ∙ c .before .before .before .judge .ensures))) refl
+returns-2 c = gave-kept _ _ _ _ (sound-refused _ _ _ (c .before .before .before .before .before .before .before .if1 .left) _ (verdict-some _ _ (sym (c .before .r .given .1) ∙ c .before .before .before .judge .ensures))) refl
 
 same-length : tie.Need-same-length
 same-length c = search needs
 
 returns-3 : tie.Need-returns-3
 unfolding read
-returns-3 c = gave-same _ _ _ _ (sound-passed _ _ _ (c .before .before .before .before .before .before .before .if1 .left) (verdict-none _ (sym (c .before .before .before .before .enum-told .given .1) ∙ c .before .before .before .before .before .before .judge .ensures))) (c .before .before .read-sound .ensures)
+returns-3 c = gave-same _ _ _ _ (sound-passed _ _ _ (c .before .before .before .before .before .before .before .before .before .before .before .if1 .left) (verdict-none _ (sym (c .before .before .before .before .before .enum-told .given .1) ∙ c .before .before .before .before .before .before .before .judge .ensures))) (c .before .before .read-sound .ensures)
 
 pub read-spec : {M : Type 1} → statement M
-read-spec =
-    tie.close
-    (tie.spec
-    refused-requires
-    returns
-    judge-requires
-    enum-known-r
-    enum-told
-    read-sound-requires
-    returns-2
-    same-length
-    returns-3)
+read-spec = tie.close (tie.spec refused-requires returns load-map-requires judge-requires enum-known-r enum-told read-sound-requires returns-2 same-length returns-3)

@@ -2,7 +2,7 @@
 -- Assumes nothing.
 use Prim.Native.Nat.{_-_}
 use borrow.Author.Needs.{needs}
-use Rattle.files.specs.Laws.Judging.Sound.{bearer-free, bearer-system, bearer-other, bearer-file, bearer-far}
+use Rattle.files.specs.Laws.Loading.Chains.{bearer-free, bearer-system, bearer-other, bearer-file, bearer-far}
 use Rattle.files.proofs.records.bearer.Statement.{statement}
 use Rattle.files.proofs.records.bearer.Tie as tie
 

@@ -1,31 +1,31 @@
--- `give_blocks` meets its contract: the walk has given the free blocks below b, as long as there are not enough.
+-- `give_blocks` meets its contract: the walk has given the free blocks below b, as long as there are not enough; the records from b on are as they were.
 -- Assumes nothing.
-use mathlib.Core.Path.{_≡_, refl, ap, _∙_}
+use mathlib.Core.Path.{_≡_, refl, sym, ap, _∙_}
 use mathlib.Core.Logic.{⊎-elim}
-use Prim.Native.Nat.{_-_, _≤_, _<_}
-use native.Mathlib.Omega.{arith}
-use lib.ListN.{length}
-use borrow.Author.Needs.{needs}
-use Rattle.file_rules.specs.Map.{isFree}
+use Prim.Native.Nat.{ℕ, suc, _+_, _-_, _≤_, _<_}
+use lib.Dec.{ltb}
+use Rattle.laws.specs.Truth.{and-right}
+use Rattle.sector_rules.specs.Geometry.{blocks}
 use Rattle.file_rules.specs.declared.MapRecord.{MapRecord}
-use Rattle.files.specs.Laws.Writing.Given.{Walked, walked-none, walked-asked, walked-given, asked-below}
-use Rattle.file_rules.specs.Disk.{diskOf}
-use Rattle.files.specs.Laws.Loading.Loaded.{Mapped, record-mapped}
+use Rattle.file_rules.specs.Disk.{diskOf, imageOf}
+use Rattle.file_rules.specs.Map.{recordAt, isFree}
+use Rattle.files.specs.Laws.Loading.Loaded.{recordIn, record-mapped}
 use Rattle.files.specs.Laws.Writing.Steps.{storedRow}
+use Rattle.files.specs.Laws.Writing.Given.{Walked, walked-none, walked-asked, walked-given, asked-below}
+use Rattle.files.specs.Laws.Writing.InStep.{InStep, not-first, rest-more}
+use borrow.Author.Needs.{needs}
+use native.Mathlib.Omega.{arith}
 use Rattle.files.proofs.steps.give_blocks.Statement.{statement}
 use Rattle.files.proofs.steps.give_blocks.Tie as tie
 
 abbrev Inv-loop : tie.InvT-loop
-Inv-loop image₀ f s n head content map given₀ b₀ image given b = (b ≤ 480) × (length image ≡ 737280) × Mapped map (diskOf image₀) × Walked (diskOf image₀) f (storedRow head content) s n b given image
+Inv-loop image₀ map₀ f s n head content given₀ b₀ image map given b = (b ≤ blocks) × InStep map image × ((j : ℕ) → b ≤ j → j < blocks → recordIn map j ≡ recordAt (diskOf image₀) j) × Walked (diskOf image₀) f (storedRow head content) s n b given image
 
 abbrev μ-loop : tie.MeasureT-loop
-μ-loop image₀ f s n head content map given₀ b₀ image given b = 480 - b
-
-load-map-requires : tie.Need-load-map-requires Inv-loop μ-loop
-load-map-requires c κs = search needs
+μ-loop image₀ map₀ f s n head content given₀ b₀ image map given b = blocks - b
 
 loop-holds : tie.Need-loop-holds Inv-loop μ-loop
-loop-holds c = (omega arith, c .before .before .before .before .before .pre .0, c .load-map .ensures, walked-none _ _ _ _ _ _ refl (c .before .before .before .before .before .pre .0))
+loop-holds c = (omega arith, c .before .before .before .pre .0, λ j h l. record-mapped _ _ (c .before .before .before .pre .0 .mapped) j l, walked-none _ _ _ _ _ _ refl (c .before .before .before .pre .0 .long))
 
 map-record-requires : tie.Need-map-record-requires Inv-loop μ-loop
 map-record-requires c κs = search needs
@@ -37,7 +37,8 @@ add-give-block : tie.Need-add-give-block Inv-loop μ-loop
 add-give-block c = search needs
 
 give-block-requires : tie.Need-give-block-requires Inv-loop μ-loop
-give-block-requires c κs = let h : c .before .before .before .before .before .before .loop .given < c .before .before .before .before .before .before .before .before .before .before .before .before .args .n = asked-below _ _ _ (c .before .if1 .taken) in (c .before .before .before .before .before .before .loop .inv .1, omega arith, c .before .before .before .before .before .before .before .before .before .before .before .before .pre .1, omega arith)
+unfolding isFree
+give-block-requires c κs = let h : c .before .before .before .before .before .before .before .loop .given < c .before .before .before .before .before .before .before .before .before .before .before .args .n = asked-below _ _ _ (c .before .before .if1 .taken) in let free = ap isFree (sym (ap (λ (m : MapRecord). m .«record») (c .before .before .before .before .map-record .ensures))) ∙ sym (c .before .before .before .is-free .ensures) ∙ and-right (ltb (c .before .before .before .before .before .before .before .loop .given) (c .before .before .before .before .before .before .before .before .before .before .before .args .n)) _ (c .before .before .if1 .taken) in (c .before .before .before .before .before .before .before .loop .inv .1, not-first _ _ (c .before .before .before .before .before .before .before .loop .inv .1) isFree refl _ free, omega arith, c .before .before .before .before .before .before .before .before .before .before .before .pre .1, omega arith)
 
 add-given : tie.Need-add-given Inv-loop μ-loop
 add-given c = search needs
@@ -46,24 +47,24 @@ add-b : tie.Need-add-b Inv-loop μ-loop
 add-b c = search needs
 
 loop-less : tie.Need-loop-less Inv-loop μ-loop
-loop-less c = search needs
+loop-less c = omega arith
 
 loop-again : tie.Need-loop-again Inv-loop μ-loop
-loop-again c = let free = c .before .is-free .ensures ∙ ap isFree (ap (λ (m : MapRecord). m .«record») (c .before .before .map-record .ensures) ∙ record-mapped _ _ (c .before .before .before .before .before .loop .inv .2) _ (omega arith)) in (
+loop-again c = let free = c .before .is-free .ensures ∙ ap isFree (ap (λ (m : MapRecord). m .«record») (c .before .before .map-record .ensures) ∙ c .before .before .before .before .before .loop .inv .2 _ (omega arith) (omega arith)) in (
   omega arith,
-  ⊎-elim (λ w. rw (w .5) (w .2 .kept .0 ∙ c .before .before .before .before .before .loop .inv .1)) (λ w. rw (w .1) (c .before .before .before .before .before .loop .inv .1)) (c .if1 .came),
-  c .before .before .before .before .before .loop .inv .2,
+  ⊎-elim (λ w. rw (w .6, w .7) (w .3 .ensures .2)) (λ w. rw (w .1, w .2) (c .before .before .before .before .before .loop .inv .1)) (c .if1 .came),
+  ⊎-elim (λ w. rw (w .7, w .3 .ensures .1) (rest-more _ _ _ _ (c .before .before .before .before .before .loop .inv .2))) (λ w. rw (w .2) (λ j p q. c .before .before .before .before .before .loop .inv .2 j (omega arith) q)) (c .if1 .came),
   ⊎-elim
-      (λ w. rw (w .5, w .6) (walked-given _ _ _ _ _ _ _ _ (c .before .before .before .before .before .loop .inv .3) _ free _ (w .0 .taken) (w .2 .ensures)))
-      (λ w. rw (w .1, w .2) (walked-asked _ _ _ _ _ _ _ _ (c .before .before .before .before .before .loop .inv .3) _ free (w .0 .left)))
+      (λ w. rw (w .6, w .8) (walked-given _ _ _ _ _ _ _ _ (c .before .before .before .before .before .loop .inv .3) _ free _ (w .0 .taken) (w .3 .ensures .0)))
+      (λ w. rw (w .1, w .3) (walked-asked _ _ _ _ _ _ _ _ (c .before .before .before .before .before .loop .inv .3) _ free (w .0 .left)))
       (c .if1 .came),
 )
 
 same-length : tie.Need-same-length Inv-loop μ-loop
-same-length c = search needs
+same-length c = c .before .loop .inv .1 .long ∙ sym (c .before .before .before .before .before .pre .0 .long)
 
 returns : tie.Need-returns Inv-loop μ-loop
-returns c = let e : c .before .loop .b ≡ 480 = omega arith in rw e at (c .before .loop .inv .3 .image)
+returns c = let e : c .before .loop .b ≡ blocks = omega arith in (rw e at (c .before .loop .inv .3 .image), c .before .loop .inv .1)
 
 pub give-blocks-spec : {M : Type 1} → statement M
 give-blocks-spec =
@@ -71,7 +72,6 @@ give-blocks-spec =
     (tie.spec
     Inv-loop
     μ-loop
-    load-map-requires
     loop-holds
     map-record-requires
     is-free-requires

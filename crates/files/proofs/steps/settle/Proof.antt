@@ -1,8 +1,7 @@
 -- `settle` meets its contract.
 -- Assumes nothing.
-use Prim.Native.Nat.{_-_}
-use borrow.Author.Needs.{needs}
 use Rattle.files.specs.Laws.Writing.Given.{settled-written}
+use borrow.Author.Needs.{needs}
 use Rattle.files.proofs.steps.settle.Statement.{statement}
 use Rattle.files.proofs.steps.settle.Tie as tie
 

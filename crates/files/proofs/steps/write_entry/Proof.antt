@@ -1,16 +1,16 @@
 -- `write_entry` meets its contract.
 -- Assumes nothing.
-use mathlib.Core.Path.{_∙_}
-use Prim.Native.Nat.{_-_}
-use borrow.Author.Needs.{needs}
-use Rattle.files.specs.Laws.Writing.Given.{slot-written}
+use mathlib.Core.Path.{_≡_, refl, sym, ap, _∙_}
 use Rattle.file_rules.specs.Directory.{entryByte}
+use Rattle.files.specs.Laws.Loading.Loaded.{part-mapped}
+use Rattle.files.specs.Laws.Writing.Given.{slot-written}
 use Rattle.files.specs.Laws.Writing.Stored.{patched-row}
+use borrow.Author.Needs.{needs}
 use Rattle.files.proofs.steps.write_entry.Statement.{statement}
 use Rattle.files.proofs.steps.write_entry.Tie as tie
 
-slot-block-requires : tie.Need-slot-block-requires
-slot-block-requires c κs = search needs
+part-block-requires : tie.Need-part-block-requires
+part-block-requires c κs = search needs
 
 entry-bytes-requires : tie.Need-entry-bytes-requires
 entry-bytes-requires c κs = search needs
@@ -22,19 +22,19 @@ slice-aggregate-put-bytes : tie.Need-slice-aggregate-put-bytes
 slice-aggregate-put-bytes c = search needs
 
 put-bytes-requires : tie.Need-put-bytes-requires
-put-bytes-requires c κs = search needs
+put-bytes-requires c κs = (c .before .before .before .before .before .pre .long, search needs)
 
 same-length : tie.Need-same-length
 same-length c = search needs
 
 returns : tie.Need-returns
-returns c = slot-written _ _ _ _ _ (c .before .before .before .before .before .before .slot-block .ensures) (c .before .before .put-bytes .ensures ∙ patched-row _ _ _ _ 64 (entryByte (c .before .before .before .before .before .before .before .before .before .args .e)) (c .before .before .before .before .before .entry-bytes .ensures))
+returns c = slot-written _ _ _ _ _ (c .before .before .before .before .before .before .part-block .ensures .0 ∙ part-mapped _ _ (c .before .before .before .before .before .before .before .before .pre .mapped) _ _) (c .before .before .put-bytes .ensures ∙ patched-row _ _ _ _ 64 (entryByte (c .before .before .before .before .before .before .before .before .args .e)) (c .before .before .before .before .before .entry-bytes .ensures))
 
 pub write-entry-spec : {M : Type 1} → statement M
 write-entry-spec =
     tie.close
     (tie.spec
-    slot-block-requires
+    part-block-requires
     entry-bytes-requires
     mul-put-bytes
     slice-aggregate-put-bytes

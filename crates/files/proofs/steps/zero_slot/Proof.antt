@@ -1,28 +1,29 @@
 -- `zero_slot` meets its contract.
 -- Assumes nothing.
-use Prim.Native.Nat.{_-_}
-use borrow.Author.Needs.{needs}
-use Rattle.files.specs.Laws.Writing.Given.{slot-written}
+use mathlib.Core.Path.{_≡_, refl, sym, ap, _∙_}
 use Rattle.file_rules.specs.Written.{zeros}
+use Rattle.files.specs.Laws.Loading.Loaded.{part-mapped}
+use Rattle.files.specs.Laws.Writing.Given.{slot-written}
+use borrow.Author.Needs.{needs}
 use Rattle.files.proofs.steps.zero_slot.Statement.{statement}
 use Rattle.files.proofs.steps.zero_slot.Tie as tie
 
-slot-block-requires : tie.Need-slot-block-requires
-slot-block-requires c κs = search needs
+part-block-requires : tie.Need-part-block-requires
+part-block-requires c κs = search needs
 
 mul-zero-bytes : tie.Need-mul-zero-bytes
 mul-zero-bytes c = search needs
 
 zero-bytes-requires : tie.Need-zero-bytes-requires
-zero-bytes-requires c κs = search needs
+zero-bytes-requires c κs = (c .before .before .before .pre .long, search needs)
 
 same-length : tie.Need-same-length
 same-length c = search needs
 
 returns : tie.Need-returns
 unfolding zeros
-returns c = slot-written _ _ _ _ _ (c .before .before .before .before .slot-block .ensures) (c .before .before .zero-bytes .ensures)
+returns c = slot-written _ _ _ _ _ (c .before .before .before .before .part-block .ensures .0 ∙ part-mapped _ _ (c .before .before .before .before .before .before .pre .mapped) _ _) (c .before .before .zero-bytes .ensures)
 
 pub zero-slot-spec : {M : Type 1} → statement M
 zero-slot-spec =
-    tie.close (tie.spec slot-block-requires mul-zero-bytes zero-bytes-requires same-length returns)
+    tie.close (tie.spec part-block-requires mul-zero-bytes zero-bytes-requires same-length returns)

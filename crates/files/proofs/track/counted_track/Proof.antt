@@ -1,12 +1,14 @@
 -- `counted_track` meets its contract.
 -- Assumes nothing.
-use borrow.Author.Needs.{needs}
+use mathlib.Core.Path.{_∙_}
+use Rattle.files.specs.Laws.Loading.Loaded.{free-mapped}
 use Rattle.files.specs.Laws.Judging.Track.{counted-is}
+use borrow.Author.Needs.{needs}
 use Rattle.files.proofs.track.counted_track.Statement.{statement}
 use Rattle.files.proofs.track.counted_track.Tie as tie
 
-free-count-requires : tie.Need-free-count-requires
-free-count-requires c κs = search needs
+count-free-requires : tie.Need-count-free-requires
+count-free-requires c κs = search needs
 
 done-requires : tie.Need-done-requires
 done-requires c κs = search needs
@@ -17,19 +19,11 @@ head-word-requires c κs = search needs
 head-word-requires-2 : tie.Need-head-word-requires-2
 head-word-requires-2 c κs = search needs
 
-sub-t6 : tie.Need-sub-t6
-sub-t6 c = search needs
+sub-t7 : tie.Need-sub-t7
+sub-t7 c = search needs
 
 returns : tie.Need-returns
-returns c = counted-is _ _ _ _ _ (c .before .before .done .ensures) (c .before .before .before .free-count .ensures .0) (c .before .head-word .ensures .0) (c .head-word2 .ensures .0)
+returns c = counted-is _ _ _ _ _ (c .before .before .done .ensures) (c .before .before .before .count-free .ensures .0 ∙ free-mapped _ _ (c .before .before .before .before .before .pre)) (c .before .head-word .ensures .0) (c .head-word2 .ensures .0)
 
 pub counted-track-spec : {M : Type 1} → statement M
-counted-track-spec =
-    tie.close
-    (tie.spec
-    free-count-requires
-    done-requires
-    head-word-requires
-    head-word-requires-2
-    sub-t6
-    returns)
+counted-track-spec = tie.close (tie.spec count-free-requires done-requires head-word-requires head-word-requires-2 sub-t7 returns)

@@ -61,13 +61,6 @@ no-part : (n k s : ℕ) → 3968 ≤ k → isPart k s (decode n) ≡ false
 unfolding isPart
 no-part n k s hk = decode-none n (isPart k s) refl refl refl (λ f t h. and-false-left (eqb t s) (eq-false {a = f} {b = k} (λ e. omega arith)))
 
-pub disk-byte : (l : List ℕ) → ((i : ℕ) → getD l i 0 < 256) → (b o : ℕ) → diskOf l b o < 256
-unfolding diskOf
-disk-byte l low b o =
-    by-test (ltb b blocks && ltb o blockBytes)
-    (λ t. rw (cond-true (getD l (byteOf b o) 0) 0 t) (low (byteOf b o)))
-    (λ t. rw (cond-false (getD l (byteOf b o) 0) 0 t) (omega arith))
-
 -- a held slot that is sound has a block
 entry-one : (d : Disk) (k : ℕ) → entryRight d k ≡ true → count blocks (λ (b : ℕ). isPart k 0 (recordAt d b)) ≡ 1
 unfolding entryRight up
@@ -85,11 +78,11 @@ listed-right : (d : Disk) (k : ℕ) → 0 < k → k < dirEnd d → held d k ≡ 
 unfolding fileRight
 listed-right d k pos h t e = sym (cond-false _ _ (eq-false {a = k} {b = 0} (omega arith)) ∙ cond-true _ _ (and-true (lt-true h) t)) ∙ e
 
-far-none : (d : Disk) → ((b o : ℕ) → d b o < 256) → (k : ℕ) → 3968 ≤ k → count blocks (λ (b : ℕ). isPart k 0 (recordAt d b)) ≡ 0
+far-none : (d : Disk) (k : ℕ) → 3968 ≤ k → count blocks (λ (b : ℕ). isPart k 0 (recordAt d b)) ≡ 0
 unfolding recordAt
-far-none d low k hk = count-none blocks (λ (b : ℕ). isPart k 0 (recordAt d b)) (λ b h. no-part _ k 0 hk)
+far-none d k hk = count-none blocks (λ (b : ℕ). isPart k 0 (recordAt d b)) (λ b h. no-part _ k 0 hk)
 
-module _ (d : Disk) (passed : judged d ≡ none) (low : (b o : ℕ) → d b o < 256) where
+module _ (d : Disk) (passed : judged d ≡ none) where
   -- a held slot from 3968 on could have no block
   far-vacant : (k : ℕ) → 3968 ≤ k → k < dirEnd d → held d k ≡ false
   far-vacant k hk hd =
@@ -97,7 +90,7 @@ module _ (d : Disk) (passed : judged d ≡ none) (low : (b o : ℕ) → d b o < 
       (λ t.
       let right : fileRight d k ≡ true = file-sound d passed k (omega (arith, end-within d passed)) in
       let one : count blocks (λ (b : ℕ). isPart k 0 (recordAt d b)) ≡ 1 = entry-one d k (listed-right d k (omega arith) hd t right) in
-      absurd (omega (arith, far-none d low k hk)))
+      absurd (omega (arith, far-none d k hk)))
       (λ t. t)
 
   -- so the lowest vacant slot fits a record

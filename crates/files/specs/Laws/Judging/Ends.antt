@@ -1,7 +1,8 @@
--- A sound disk's directory ends within the disk: each of its blocks stands once in the map, so it has no more blocks than the disk.
+-- What a sound disk has: its directory ends within the disk, since each of its blocks stands once in the map, so it has no more blocks than the disk; and block 0 is
+-- the system's.
 -- Assumes nothing.
 use mathlib.Core.Path.{_≡_, refl, sym, ap, _∙_}
-use mathlib.Core.Bool.{true, not}
+use mathlib.Core.Bool.{true, false, not}
 use mathlib.Core.Option.{Option, none, some}
 use Prim.Native.Nat.{ℕ, _≤_}
 use native.Mathlib.Omega.{arith}
@@ -10,7 +11,7 @@ use Rattle.laws.specs.Below.{all}
 use Rattle.laws.specs.Lowest.{lowest-all}
 use Rattle.laws.specs.Numbers.{up}
 use Rattle.laws.specs.Order.{by-order}
-use Rattle.laws.specs.Tests.{orElse, lt-true, cond-true}
+use Rattle.laws.specs.Tests.{orElse, lt-true, true≢false, cond-true}
 use Rattle.laws.specs.Truth.{and-right}
 use Rattle.sector_rules.specs.Replies.{reply}
 use Rattle.sector_rules.specs.declared.Fault.the-variants.{At, Sound}
@@ -18,10 +19,12 @@ use Rattle.sector_rules.specs.Faults.{faultBelow, refusalAt}
 use Rattle.sector_rules.specs.Geometry.{blocks}
 use Rattle.file_rules.specs.Sizes.{blockBytes, slotCount, blocksOf}
 use Rattle.file_rules.specs.Disk.{Disk}
-use Rattle.file_rules.specs.Map.{recordAt, within}
+use Rattle.file_rules.specs.declared.Record.{Record}
+use Rattle.file_rules.specs.declared.Record.the-variants.{Free, System, File, Other}
+use Rattle.file_rules.specs.Map.{recordAt, isSystem, within}
 use Rattle.file_rules.specs.Directory.{dirBytes, dirEnd}
 use Rattle.files.specs.Laws.Loading.Parts.{once-most}
-use Rattle.file_rules.specs.Check.{partsRight, fileRight, fileFault, refusal8, refusal9, refusal10, refusal11, judged}
+use Rattle.file_rules.specs.Check.{recordFault, mapFault, partsRight, fileRight, fileFault, refusal8, refusal9, refusal10, refusal11, judged}
 
 parts-most : (d : Disk) (f n : ℕ) → partsRight d f n ≡ true → n ≤ blocks
 unfolding partsRight
@@ -59,3 +62,22 @@ end-within d e =
     let b : orElse (refusal10 d) (refusal11 d) ≡ none = or-none-right (refusal9 d) _ a in
     let c : refusal10 d ≡ none = or-none-left (refusal10 d) (refusal11 d) b in
     omega (arith, parts-most d 0 (blocksOf (dirBytes d)) (dir-right d (files-right d c)))
+
+-- block 0 is the system's
+system-only : (r : Record) → recordFault 0 r ≡ false → r ≡ System
+unfolding recordFault isSystem
+system-only Free e = true≢false true refl e
+system-only System e = refl
+system-only (File f s) e = true≢false true refl e
+system-only Other e = true≢false true refl e
+
+pub first-system : (d : Disk) → judged d ≡ none → recordAt d 0 ≡ System
+unfolding judged refusal9 faultBelow mapFault
+first-system d e =
+    let a : orElse (refusal9 d) (orElse (refusal10 d) (refusal11 d)) ≡ none = or-none-right (refusal8 d) _ e in
+    let b : refusal9 d ≡ none = or-none-left (refusal9 d) (orElse (refusal10 d) (refusal11 d)) a in
+    by-order (mapFault d) blocks
+    (λ h.
+    let q : some (reply 9 (mapFault d) 0 0) ≡ none = sym (ap (refusalAt 9) (cond-true (At (mapFault d)) Sound (lt-true h))) ∙ b in
+    let z : _≡_ {A = ℕ} 0 1 = cc in absurd (omega arith))
+    (λ h. system-only (recordAt d 0) (lowest-all (λ (j : ℕ). recordFault j (recordAt d j)) blocks h 0 (omega arith)))

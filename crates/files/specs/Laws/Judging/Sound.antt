@@ -4,16 +4,15 @@ use mathlib.Core.Path.{_≡_, refl, sym, ap, ap₂, _∙_}
 use mathlib.Core.Bool.{Bool, true, false, not, cond, _&&_}
 use mathlib.Core.List.{List}
 use mathlib.Core.Logic.{_≢_}
-use mathlib.Core.Option.{none, some}
+use mathlib.Core.Option.{Option, none, some}
 use Prim.Native.Nat.{ℕ, _+_, _*_, _/_, _%_, _≤_, _<_}
 use native.Mathlib.Numerals.{add-one}
 use native.Mathlib.Omega.{arith}
 use lib.Dec.{leb, ltb, eqb}
-use lib.ListN.{length, getD, set, take, replicate, length-set, length-replicate, getD-replicate}
-use lib.Seq.{getD-set-same, getD-set-other}
+use lib.ListN.{length, take}
 use Rattle.laws.specs.Below.{all, all-is}
 use Rattle.laws.specs.Count.{count, count-cong}
-use Rattle.laws.specs.Lowest.{lowest-some, lowest-none}
+use Rattle.laws.specs.Lowest.{lowest, lowest-some, lowest-none}
 use Rattle.laws.specs.Numbers.{up, at16}
 use Rattle.laws.specs.Order.{by-order}
 use Rattle.laws.specs.Tests.{by-equal, true-le, lt-true, lt-false, eq-true, eq-false, cond-true, cond-false, and-false-left, and-false-right}
@@ -22,29 +21,27 @@ use Rattle.laws.specs.Truth.{by-test, and-right}
 use Rattle.sector_rules.specs.declared.Fault.{Fault}
 use Rattle.sector_rules.specs.declared.Fault.the-variants.{At, Sound}
 use Rattle.sector_rules.specs.Faults.{faultBelow, refusalAt}
-use Rattle.sector_rules.specs.Geometry.{blocks, blockSectors}
+use Rattle.sector_rules.specs.Geometry.{blocks, blockSectors, imageBytes}
 use Rattle.sector_rules.specs.Replies.{reply, refusal}
 use Rattle.sector_rules.specs.declared.Reply.{Reply}
 use Rattle.file_rules.specs.declared.Record.{Record}
-use Rattle.file_rules.specs.declared.Record.the-variants.{Free, System, File, Other}
 use Rattle.file_rules.specs.declared.Entry.{Entry}
 use Rattle.files.specs.declared.Verdict.{Verdict}
 use Rattle.files.specs.declared.Verdict.the-variants.{Passed, Refused}
 use Rattle.file_rules.specs.Sizes.{blockBytes, slotBytes, slotCount, nameMost, blocksOf, freeSectors}
-use Rattle.file_rules.specs.Disk.{Disk}
+use Rattle.file_rules.specs.Disk.{Disk, diskOf}
 use Rattle.file_rules.specs.Map.{freeCount, recordAt, bears, isPart, within}
 use Rattle.file_rules.specs.Directory.{nameEq, nameOf, entryOf, slotEntry, slotName, held, dirBytes, dirEnd}
-use Rattle.file_rules.specs.Check.{partsRight, unborne, newName, entryRight, fileRight, fileFault, freeRight, mapFault, refusal8, refusal9, refusal10, refusal11, judged}
-use Rattle.files.specs.Laws.Loading.Loaded.{recordIn, Mapped, record-mapped}
-use Rattle.files.specs.Laws.Loading.Records.{decode-none}
+use Rattle.file_rules.specs.Check.{recordFault, partsRight, unborne, newName, entryRight, fileRight, fileFault, freeRight, mapFault, refusal8, refusal9, refusal10, refusal11, judged}
+use Rattle.files.specs.Laws.Loading.Loaded.{recordIn, Mapped, record-mapped, fault-mapped}
+use Rattle.files.specs.Laws.Loading.Chains.{Chained, unborneIn}
+use Rattle.files.specs.Laws.Loading.Slots.{Located}
+use Rattle.files.specs.Laws.Loading.Marks.{Named}
 use Rattle.files.specs.Laws.Loading.Parts.{partsIn}
 use Rattle.files.specs.Laws.Loading.Loops.{all-cong}
 use Rattle.files.specs.Laws.Judging.Verdict.{verdictOf, verdict-or-some, verdict-or-none}
 
 -- ---- a file's parts
-
-unfoldable pub unborneIn : List ℕ → ℕ → Bool
-unborneIn map f = all (λ (b : ℕ). not (bears f (recordIn map b))) blocks
 
 module _ (map : List ℕ) (d : Disk) (m : Mapped map d) where
   pub parts-mapped : (f n : ℕ) → partsIn map f n ≡ partsRight d f n
@@ -65,91 +62,23 @@ module _ (map : List ℕ) (d : Disk) (m : Mapped map d) where
       all-cong (λ (b : ℕ). not (bears f (recordIn map b))) (λ (b : ℕ). not (bears f (recordAt d b))) blocks
       (λ b h. ap (λ (r : Record). not (bears f r)) (record-mapped map d m b h))
 
--- ---- the files that are borne, marked
+-- ---- what is read for the judgement of the files
 
--- g is the file below 4096 that a record bears, 4096 where it bears none
-pub record Bearer (g : ℕ) (r : Record) : Type 0 where
-  pub low : g < 4097
-  pub bears-it : (f : ℕ) → f < 4096 → bears f r ≡ eqb g f
+-- the image is whole, and the tables are those of its disk
+pub record Tables (image map dir first next names : List ℕ) : Type 0 where
+  pub long : length image ≡ imageBytes
+  pub mapped : Mapped map (diskOf image)
+  pub located : Located dir (diskOf image)
+  pub chained : Chained first next map 0
+  pub named : Named names (diskOf image)
 
-pub bearer-none : (r : Record) → ((f : ℕ) → bears f r ≡ false) → Bearer 4096 r
-bearer-none r h = record { low = omega arith; bears-it = λ f l. h f ∙ sym (eq-false {a = 4096} {b = f} (λ e. omega arith)) }
+-- refusal 9 by a loaded map
+unfoldable pub mapRefusal : List ℕ → Option Reply
+mapRefusal map = refusalAt 9 (faultBelow blocks (lowest (λ (b : ℕ). recordFault b (recordIn map b)) blocks))
 
-pub bearer-free : Bearer 4096 Free
-unfolding bears
-bearer-free = bearer-none Free (λ f. refl)
-
-pub bearer-system : Bearer 4096 System
-unfolding bears
-bearer-system = bearer-none System (λ f. refl)
-
-pub bearer-other : Bearer 4096 Other
-unfolding bears
-bearer-other = bearer-none Other (λ f. refl)
-
-pub bearer-file : (g s : ℕ) → g < 4096 → Bearer g (File g s)
-unfolding bears
-bearer-file g s h = record { low = omega arith; bears-it = λ f l. refl }
-
-pub bearer-far : (g s : ℕ) → 4096 ≤ g → Bearer 4096 (File g s)
-unfolding bears
-bearer-far g s h =
-    record {
-      low = omega arith;
-      bears-it = λ f l. eq-false {a = g} {b = f} (λ e. omega arith) ∙ sym (eq-false {a = 4096} {b = f} (λ e. omega arith));
-    }
-
--- a file below 4096 is marked exactly if a record below k bears it
-pub record Marked (marks map : List ℕ) (k : ℕ) : Type 0 where
-  pub long : length marks ≡ 4097
-  pub mark : (f : ℕ) → f < 4096 → eqb (getD marks f 0) 0 ≡ all (λ (b : ℕ). not (bears f (recordIn map b))) k
-
-pub mark-none : (n : ℕ) → n ≡ 4097 → (map : List ℕ) → Marked (replicate n 0) map 0
-unfolding all
-mark-none n e map =
-    record {
-      long = length-replicate n 0 ∙ e;
-      mark = λ f l. eq-true (getD-replicate n f 0 0 (omega arith));
-    }
-
-all-more : (p : ℕ → Bool) (k : ℕ) → all p (k + 1) ≡ (p k && all p k)
-unfolding all
-all-more p k = rw add-one
-
-pub mark-more : (marks map : List ℕ) (k g : ℕ) → Bearer g (recordIn map k) → Marked marks map k → Marked (set marks g 1) map (k + 1)
-mark-more marks map k g b m =
-    record {
-      long = length-set marks g 1 ∙ m .long;
-      mark = λ f l.
-          let p : ℕ → Bool = λ (j : ℕ). not (bears f (recordIn map j)) in
-          let e : all p (k + 1) ≡ (p k && all p k) = all-more p k in
-          by-equal f g
-          (λ q.
-          let t : bears f (recordIn map k) ≡ true = b .bears-it f l ∙ eq-true (sym q) in
-          let s : getD (set marks g 1) f 0 ≡ 1 = ap (λ (x : ℕ). getD (set marks g 1) x 0) q ∙ getD-set-same marks g 1 0 (omega (arith, m .long, b .low)) in
-          eq-false {a = getD (set marks g 1) f 0} {b = 0} (λ z. omega arith) ∙ sym (e ∙ and-false-left (all p k) (ap not t)))
-          (λ q.
-          let t : bears f (recordIn map k) ≡ false = b .bears-it f l ∙ eq-false (λ z. q (sym z)) in
-          ap (λ (x : ℕ). eqb x 0) (getD-set-other marks g f 1 0 q) ∙ m .mark f l ∙ sym (e ∙ ap (λ (x : Bool). not x && all p k) t));
-    }
-
--- no record of a loaded map bears a file from 4096 on
-far-unborne : (map : List ℕ) (f : ℕ) → 4096 ≤ f → unborneIn map f ≡ true
-unfolding unborneIn recordIn bears
-far-unborne map f h =
-    all-is (λ (b : ℕ). not (bears f (recordIn map b))) blocks
-    (λ b l. ap not (decode-none (getD map b 0) (bears f) refl refl refl (λ g s q. eq-false {a = g} {b = f} (λ e. omega arith))))
-
--- whether file f has no mark
-unfoldable pub unmarked : List ℕ → ℕ → Bool
-unmarked marks f = cond (ltb f 4096) (eqb (getD marks f 0) 0) true
-
-pub unmarked-unborne : (marks map : List ℕ) (f : ℕ) → Marked marks map blocks → unmarked marks f ≡ unborneIn map f
-unfolding unmarked unborneIn
-unmarked-unborne marks map f m =
-    by-order f 4096
-    (λ h. cond-true (eqb (getD marks f 0) 0) true (lt-true h) ∙ m .mark f h)
-    (λ h. cond-false (eqb (getD marks f 0) 0) true (lt-false h) ∙ sym (far-unborne map f h))
+pub refusal-mapped : (map : List ℕ) (d : Disk) → Mapped map d → mapRefusal map ≡ refusal9 d
+unfolding mapRefusal refusal9
+refusal-mapped map d m = ap (λ (b : ℕ). refusalAt 9 (faultBelow blocks b)) (fault-mapped map d m)
 
 -- ---- a held slot
 
@@ -235,15 +164,16 @@ lowest-passed : (b n k : ℕ) → n ≤ b → Passed ≡ verdictOf (refusalAt k 
 unfolding verdictOf faultBelow
 lowest-passed b n k h = ap (λ (f : Fault). verdictOf (refusalAt k f)) (sym (cond-false (At b) Sound (lt-false h)))
 
+module _ (map : List ℕ) (b : ℕ) (e : b ≡ lowest (λ (j : ℕ). recordFault j (recordIn map j)) blocks) where
+  pub refused-map : b < blocks → Refused (reply 9 b 0 0) ≡ verdictOf (mapRefusal map)
+  unfolding mapRefusal
+  refused-map h = rw (← e) (lowest-refused b blocks 9 h)
+
+  pub passed-map : blocks ≤ b → Passed ≡ verdictOf (mapRefusal map)
+  unfolding mapRefusal
+  passed-map h = rw (← e) (lowest-passed b blocks 9 h)
+
 module _ (d : Disk) (b : ℕ) where
-  pub refused-map : b ≡ mapFault d → b < blocks → Refused (reply 9 b 0 0) ≡ verdictOf (refusal9 d)
-  unfolding refusal9
-  refused-map e h = rw (← e) (lowest-refused b blocks 9 h)
-
-  pub passed-map : b ≡ mapFault d → blocks ≤ b → Passed ≡ verdictOf (refusal9 d)
-  unfolding refusal9
-  passed-map e h = rw (← e) (lowest-passed b blocks 9 h)
-
   pub refused-files : b ≡ fileFault d → b < slotCount → Refused (reply 10 b 0 0) ≡ verdictOf (refusal10 d)
   unfolding refusal10
   refused-files e h = rw (← e) (lowest-refused b slotCount 10 h)

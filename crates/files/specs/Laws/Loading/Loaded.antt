@@ -2,7 +2,7 @@
 -- Assumes nothing.
 use mathlib.Core.Path.{_≡_, ap}
 use mathlib.Core.List.{List}
-use Prim.Native.Nat.{ℕ, _+_, _<_}
+use Prim.Native.Nat.{ℕ, _+_, _*_, _≤_, _<_}
 use native.Mathlib.Omega.{arith}
 use lib.ListN.{length, getD, set}
 use lib.Seq.{getD-set-same, getD-set-other}
@@ -10,6 +10,7 @@ use Rattle.laws.specs.Lowest.{lowest}
 use Rattle.laws.specs.Search.{lowest-cong}
 use Rattle.laws.specs.Count.{count, count-cong}
 use Rattle.laws.specs.Tests.{by-equal}
+use Rattle.laws.specs.Words.{big-ext}
 use Rattle.sector_rules.specs.Geometry.{blocks}
 use Rattle.sector_rules.specs.declared.BlockNumber.{BlockNumber}
 use Rattle.file_rules.specs.declared.Record.{Record}
@@ -17,6 +18,7 @@ use Rattle.file_rules.specs.declared.MapRecord.{MapRecord}
 use Rattle.file_rules.specs.Disk.{Disk}
 use Rattle.file_rules.specs.Map.{decode, numberAt, recordAt, isFree, isPart, freeAt, freeCount, partBlock}
 use Rattle.file_rules.specs.Check.{recordFault, mapFault}
+use Rattle.file_rules.specs.Sizes.{blockBytes, mapStart, recordBytes}
 
 -- the record of block b in a loaded map
 unfoldable pub recordIn : List ℕ → ℕ → Record
@@ -30,6 +32,13 @@ mapRecord map b = record { block = b; «record» = recordIn map (b .0) }
 pub record Mapped (map : List ℕ) (d : Disk) : Type 0 where
   pub long : length map ≡ blocks
   pub numbers : (b : ℕ) → b < blocks → getD map b 0 ≡ numberAt d b
+
+-- a record's number is read from the map's bytes alone
+pub number-cong : (d e : Disk) (b : ℕ) → b < blocks → ((o : ℕ) → mapStart ≤ o → o < blockBytes → d 0 o ≡ e 0 o) → numberAt d b ≡ numberAt e b
+unfolding numberAt
+number-cong d e b k h =
+    big-ext (λ (i : ℕ). d 0 (mapStart + recordBytes * b + i)) (λ (i : ℕ). e 0 (mapStart + recordBytes * b + i)) recordBytes
+    (λ i l. h (mapStart + recordBytes * b + i) (omega arith) (omega arith))
 
 -- ---- the map is loaded
 

@@ -11,7 +11,7 @@ use lib.ListN.{length, getD}
 use Rattle.laws.specs.Change.{upd, patch, upd₂-same, upd₂-other, patch-cong}
 use Rattle.laws.specs.Count.{count, count-cong}
 use Rattle.laws.specs.Numbers.{at32}
-use Rattle.laws.specs.Words.{bigEndian, big-ext, highByte}
+use Rattle.laws.specs.Words.{bigEndian, highByte}
 use Rattle.laws.specs.Order.{by-order}
 use Rattle.laws.specs.Overlay.{overlay, overlay-cong, put}
 use Rattle.laws.specs.Tab.{tab, tab-length, tab-in, tab-ext, elementAt}
@@ -22,8 +22,9 @@ use Rattle.file_rules.specs.declared.Record.the-variants.{Free, System, File, O
 use Rattle.file_rules.specs.declared.Entry.{Entry}
 use Rattle.file_rules.specs.Directory.{entryByte}
 use Rattle.file_rules.specs.Disk.{Disk, diskOf, imageOf}
+use Rattle.files.specs.Laws.Loading.Loaded.{number-cong}
 use Rattle.files.specs.Laws.Writing.Stored.{Near, near-step, patched, patched-block}
-use Rattle.file_rules.specs.Map.{decode, numberAt, recordAt, isFree, freeAt, freeCount}
+use Rattle.file_rules.specs.Map.{decode, recordAt, isFree, freeAt, freeCount}
 use Rattle.file_rules.specs.Sizes.{blockBytes, slotBytes, nameMost, mapStart, recordBytes, freeSectors, wholeBlocks, bytesOver}
 use Rattle.file_rules.specs.Written.{storedByte, part, zeros, setBlock, setWord, setFree, setEnd, stepUpdate}
 
@@ -103,11 +104,8 @@ module _ (d e : Disk) (near : Near d e) where
       (λ z. upd₂-other d b (patch (d b) o n g) b′ i z ∙ near b′ i hb hi ∙ sym (upd₂-other e b (patch (e b) o n g) b′ i z))
 
   pub near-record : (b : ℕ) → b < blocks → recordAt d b ≡ recordAt e b
-  unfolding recordAt numberAt
-  near-record b h =
-      ap decode
-      (big-ext (λ (i : ℕ). d 0 (mapStart + recordBytes * b + i)) (λ (i : ℕ). e 0 (mapStart + recordBytes * b + i)) recordBytes
-      (λ i l. near 0 (mapStart + recordBytes * b + i) (omega arith) (omega arith)))
+  unfolding recordAt
+  near-record b h = ap decode (number-cong d e b h (λ o a c. near 0 o (omega arith) c))
 
   pub near-word : (o v : ℕ) → Near (setWord d o v) (setWord e o v)
   unfolding setWord

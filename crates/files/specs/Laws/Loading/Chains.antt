@@ -1,0 +1,202 @@
+-- The blocks of each file in chains, upwards, as the code follows them from a file to its records.
+-- Assumes nothing.
+use mathlib.Core.Path.{_≡_, refl, sym, ap, _∙_}
+use mathlib.Core.Logic.{_≢_}
+use mathlib.Core.Bool.{Bool, true, false, not, cond}
+use mathlib.Core.List.{List}
+use Prim.Native.Nat.{ℕ, zero, suc, _+_, _-_, _≤_, _<_}
+use native.Mathlib.Nat.{add-zero, add-suc}
+use native.Mathlib.Numerals.{add-one}
+use native.Mathlib.Omega.{arith}
+use lib.Dec.{ltb, eqb}
+use lib.ListN.{length, getD, set, replicate, length-set, length-replicate, getD-replicate}
+use lib.Seq.{getD-set-same, getD-set-other}
+use Rattle.laws.specs.Below.{all, all-is}
+use Rattle.laws.specs.Order.{by-order}
+use Rattle.laws.specs.Search.{all-false}
+use Rattle.laws.specs.Tests.{by-equal, lt-true, lt-false, eq-true, eq-false, true-eq, cond-true, cond-false}
+use Rattle.sector_rules.specs.Geometry.{blocks}
+use Rattle.file_rules.specs.declared.Record.{Record}
+use Rattle.file_rules.specs.declared.Record.the-variants.{Free, System, File, Other}
+use Rattle.file_rules.specs.Map.{sequences, decode, bears}
+use Rattle.files.specs.Laws.Loading.Loaded.{recordIn}
+use Rattle.files.specs.Laws.Loading.Records.{decode-none}
+use Rattle.files.specs.Laws.Loading.Parts.{partOf, part-unborne}
+use Rattle.files.specs.Laws.Loading.Tally.{Tallied, tally-skip}
+
+-- ---- the file that a record bears
+
+-- g is the file that a record bears, `sequences` where it bears none of those below that
+pub record Bearer (g : ℕ) (r : Record) : Type 0 where
+  pub low : g < suc sequences
+  pub bears-it : (f : ℕ) → f < sequences → bears f r ≡ eqb g f
+
+pub bearer-none : (r : Record) → ((f : ℕ) → bears f r ≡ false) → Bearer sequences r
+bearer-none r h = record { low = omega arith; bears-it = λ f l. h f ∙ sym (eq-false {a = sequences} {b = f} (λ e. omega arith)) }
+
+pub bearer-free : Bearer sequences Free
+unfolding bears
+bearer-free = bearer-none Free (λ f. refl)
+
+pub bearer-system : Bearer sequences System
+unfolding bears
+bearer-system = bearer-none System (λ f. refl)
+
+pub bearer-other : Bearer sequences Other
+unfolding bears
+bearer-other = bearer-none Other (λ f. refl)
+
+pub bearer-file : (g s : ℕ) → g < sequences → Bearer g (File g s)
+unfolding bears
+bearer-file g s h = record { low = omega arith; bears-it = λ f l. refl }
+
+pub bearer-far : (g s : ℕ) → sequences ≤ g → Bearer sequences (File g s)
+unfolding bears
+bearer-far g s h =
+    record {
+      low = omega arith;
+      bears-it = λ f l. eq-false {a = g} {b = f} (λ e. omega arith) ∙ sym (eq-false {a = sequences} {b = f} (λ e. omega arith));
+    }
+
+-- ---- the next block of a file
+
+-- b is the lowest block from k on whose record bears file f, `blocks` where there is none
+pub record Next (map : List ℕ) (f k b : ℕ) : Type 0 where
+  pub most : b ≤ blocks
+  pub none-before : (j : ℕ) → k ≤ j → j < b → bears f (recordIn map j) ≡ false
+  pub from : b < blocks → k ≤ b
+  pub hit : b < blocks → bears f (recordIn map b) ≡ true
+
+-- the blocks from k on are chained: the first of each file, and after each block the next of its file
+pub record Chained (first next map : List ℕ) (k : ℕ) : Type 0 where
+  pub files : length first ≡ suc sequences
+  pub long : length next ≡ blocks
+  pub firsts : (f : ℕ) → f < sequences → Next map f k (getD first f 0)
+  pub nexts : (b : ℕ) → k ≤ b → b < blocks → (f : ℕ) → f < sequences → bears f (recordIn map b) ≡ true → Next map f (b + 1) (getD next b 0)
+
+pub chain-none : (n m : ℕ) → n ≡ suc sequences → m ≡ blocks → (map : List ℕ) → Chained (replicate n blocks) (replicate m blocks) map blocks
+chain-none n m en em map =
+    record {
+      files = length-replicate n blocks ∙ en;
+      long = length-replicate m blocks ∙ em;
+      firsts = λ f h.
+          let e : getD (replicate n blocks) f 0 ≡ blocks = getD-replicate n f blocks 0 (omega arith) in
+          record {
+            most = omega arith;
+            none-before = λ j a c. absurd (omega arith);
+            from = λ a. absurd (omega arith);
+            hit = λ a. absurd (omega arith);
+          };
+      nexts = λ b h l. absurd (omega arith);
+    }
+
+-- block b, the one below k, is put before the chain of its file g
+module _ (first next map : List ℕ) (k j b : ℕ) (d : j ≡ b) (e : b + 1 ≡ k) (l : k ≤ blocks) (c : Chained first next map k) (g : ℕ) (w : Bearer g (recordIn map b)) where
+  pub chain-more : Chained (set first g b) (set next b (getD first g 0)) map j
+  chain-more =
+      record {
+        files = length-set first g b ∙ c .files;
+        long = length-set next b (getD first g 0) ∙ c .long;
+        firsts = λ f h. by-equal f g
+            (λ z.
+            let here : getD (set first g b) f 0 ≡ b = ap (λ (x : ℕ). getD (set first g b) x 0) z ∙ getD-set-same first g b 0 (omega (arith, c .files, w .low)) in
+            record {
+              most = omega arith;
+              none-before = λ i p q. absurd (omega arith);
+              from = λ p. omega arith;
+              hit = λ p. ap (λ (x : ℕ). bears f (recordIn map x)) here ∙ w .bears-it f h ∙ eq-true (sym z);
+            })
+            (λ z.
+            let there : getD (set first g b) f 0 ≡ getD first f 0 = getD-set-other first g f b 0 z in
+            let old : Next map f k (getD first f 0) = c .firsts f h in
+            record {
+              most = omega (arith, old .most);
+              none-before = λ i p q. by-equal i b
+                  (λ y. ap (λ (x : ℕ). bears f (recordIn map x)) y ∙ w .bears-it f h ∙ eq-false (λ x. z (sym x)))
+                  (λ y. old .none-before i (omega arith) (omega arith));
+              from = λ p. omega (arith, old .from (omega arith));
+              hit = λ p. ap (λ (x : ℕ). bears f (recordIn map x)) there ∙ old .hit (omega arith);
+            });
+        nexts = λ i p q f h t. by-equal i b
+            (λ z.
+            let same : g ≡ f = true-eq (sym (w .bears-it f h) ∙ ap (λ (x : ℕ). bears f (recordIn map x)) (sym z) ∙ t) in
+            let here : getD (set next b (getD first g 0)) i 0 ≡ getD first f 0 =
+            ap (λ (x : ℕ). getD (set next b (getD first g 0)) x 0) z ∙ getD-set-same next b (getD first g 0) 0 (omega (arith, c .long)) ∙ ap (λ (x : ℕ). getD first x 0) same in
+            let old : Next map f k (getD first f 0) = c .firsts f h in
+            record {
+              most = omega (arith, old .most);
+              none-before = λ y p q. old .none-before y (omega arith) (omega arith);
+              from = λ p. omega (arith, old .from (omega arith));
+              hit = λ p. ap (λ (x : ℕ). bears f (recordIn map x)) here ∙ old .hit (omega arith);
+            })
+            (λ z.
+            let there : getD (set next b (getD first g 0)) i 0 ≡ getD next i 0 = getD-set-other next b i (getD first g 0) 0 z in
+            let old : Next map f (i + 1) (getD next i 0) = c .nexts i (omega arith) q f h t in
+            record {
+              most = omega (arith, old .most);
+              none-before = λ y p q. old .none-before y (omega arith) (omega arith);
+              from = λ p. omega (arith, old .from (omega arith));
+              hit = λ p. ap (λ (x : ℕ). bears f (recordIn map x)) there ∙ old .hit (omega arith);
+            });
+      }
+
+-- ---- the first block of a file
+
+unfoldable pub firstOf : List ℕ → ℕ → ℕ
+firstOf first f = cond (ltb f sequences) (getD first f 0) blocks
+
+-- no record bears file f
+unfoldable pub unborneIn : List ℕ → ℕ → Bool
+unborneIn map f = all (λ (b : ℕ). not (bears f (recordIn map b))) blocks
+
+-- no number says a file from `sequences` on
+far-file : (map : List ℕ) (f b : ℕ) → sequences ≤ f → bears f (recordIn map b) ≡ false
+unfolding recordIn bears
+far-file map f b h = decode-none (getD map b 0) (bears f) refl refl refl (λ g s q. eq-false {a = g} {b = f} (λ e. omega arith))
+
+module _ (first next map : List ℕ) (f : ℕ) (c : Chained first next map 0) where
+  pub first-next : Next map f 0 (firstOf first f)
+  unfolding firstOf
+  first-next =
+      by-order f sequences
+      (λ h. rw (cond-true (getD first f 0) blocks (lt-true h)) (c .firsts f h))
+      (λ h.
+      rw (cond-false (getD first f 0) blocks (lt-false h))
+      (record {
+        most = omega arith;
+        none-before = λ j p q. far-file map f j h;
+        from = λ p. omega arith;
+        hit = λ p. absurd (omega arith);
+      }))
+
+  -- a file that has a block is one that a record can bear
+  pub first-file : firstOf first f < blocks → f < sequences
+  unfolding firstOf
+  first-file q = by-order f sequences (λ h. h) (λ h. absurd (omega (arith, cond-false (getD first f 0) blocks (lt-false h))))
+
+  pub first-none : eqb (firstOf first f) blocks ≡ unborneIn map f
+  unfolding unborneIn
+  first-none =
+      let n : Next map f 0 (firstOf first f) = first-next in
+      let p : ℕ → Bool = λ (b : ℕ). not (bears f (recordIn map b)) in
+      by-order (firstOf first f) blocks
+      (λ h. eq-false {a = firstOf first f} {b = blocks} (λ z. omega arith) ∙ sym (all-false p blocks (firstOf first f) h (ap not (n .hit h))))
+      (λ h. eq-true {a = firstOf first f} {b = blocks} (omega (arith, n .most)) ∙ sym (all-is p blocks (λ b l. ap not (n .none-before b (omega arith) (omega arith)))))
+
+-- ---- a tally along a chain
+
+module _ (t : List ℕ) (size : ℕ) (key : ℕ → ℕ) (k : ℕ) (m : Tallied t size key k) where
+  tally-past : (i : ℕ) → ((j : ℕ) → k ≤ j → j < k + i → size ≤ key j) → Tallied t size key (k + i)
+  tally-past zero h = rw (add-zero k) m
+  tally-past (suc i) h =
+      rw (add-suc k i, ← add-one (k + i))
+      (tally-skip t size key (k + i) (tally-past i (λ j p q. h j p (omega arith))) (key (k + i)) refl (h (k + i) (omega arith) (omega arith)))
+
+-- the records up to the next block of the file are none of its parts
+pub tally-next : (map : List ℕ) (f n k b : ℕ) (t : List ℕ) → n ≤ blocks → k ≤ blocks → Next map f k b
+    → Tallied t (suc blocks) (λ (j : ℕ). partOf f n (recordIn map j)) k → Tallied t (suc blocks) (λ (j : ℕ). partOf f n (recordIn map j)) b
+tally-next map f n k b t h l x m =
+    let key : ℕ → ℕ = λ (j : ℕ). partOf f n (recordIn map j) in
+    let far : k ≤ b = by-order b blocks (λ q. x .from q) (λ q. omega arith) in
+    let e : k + (b - k) ≡ b = omega arith in
+    rw e at (tally-past t (suc blocks) key k m (b - k) (λ j p q. omega (arith, part-unborne f n h (recordIn map j) (x .none-before j p (omega arith)))))

@@ -1,0 +1,173 @@
+-- A loaded map that is kept in step with its image while the image is written.
+-- Assumes nothing.
+use mathlib.Core.Path.{_≡_, refl, sym, ap, _∙_}
+use mathlib.Core.Logic.{_≢_}
+use mathlib.Core.Bool.{Bool, true, false, not, cond}
+use mathlib.Core.List.{List}
+use mathlib.Core.Option.{none}
+use Prim.Native.Nat.{ℕ, suc, _+_, _-_, _*_, _/_, _%_, _≤_, _<_}
+use native.Mathlib.Omega.{arith}
+use lib.ListN.{length, getD, set, length-set}
+use lib.Seq.{getD-set-same, getD-set-other}
+use Rattle.laws.specs.Change.{upd, patch, upd₂-same, upd₂-other, patch-in, patch-below, patch-above}
+use Rattle.laws.specs.Order.{by-order}
+use Rattle.laws.specs.Search.{lowest-hit}
+use Rattle.laws.specs.Tests.{by-equal, eq-true, eq-false, true≢false, cond-true, cond-false}
+use Rattle.laws.specs.Words.{bigEndian, highByte, big-ext, high-is}
+use Rattle.sector_rules.specs.Geometry.{blocks, imageBytes}
+use Rattle.file_rules.specs.declared.Record.{Record}
+use Rattle.file_rules.specs.declared.Record.the-variants.{Free, System, File, Other}
+use Rattle.file_rules.specs.Calls.{endAfter}
+use Rattle.file_rules.specs.Check.{judged}
+use Rattle.file_rules.specs.Disk.{Disk, diskOf, imageOf}
+use Rattle.file_rules.specs.Laws.Base.Disk.{length-image}
+use Rattle.file_rules.specs.Map.{decode, numberOf, encode, numberAt, recordAt, isPart, partBlock}
+use Rattle.file_rules.specs.Sizes.{blockBytes, slotBytes, blockSlots, mapStart, recordBytes, wholeBlocks, bytesOver}
+use Rattle.file_rules.specs.Written.{setBlock, setRecord, setSlot, setWord, setEnd}
+use Rattle.files.specs.Laws.Loading.Loaded.{recordIn, Mapped, number-cong, record-mapped}
+use Rattle.files.specs.Laws.Judging.Ends.{first-system}
+use Rattle.files.specs.Laws.Writing.Steps.{Packs}
+use Rattle.files.specs.Laws.Writing.Stored.{near-image, patched}
+
+-- the image is whole, the loaded map is that of its disk, and block 0 is the system's, as on every disk that passed 9
+pub record InStep (map image : List ℕ) : Type 0 where
+  pub long : length image ≡ imageBytes
+  pub mapped : Mapped map (diskOf image)
+  pub system : recordIn map 0 ≡ System
+
+-- a map that was just loaded from a disk that passed the judgement
+pub in-step : (map image : List ℕ) → length image ≡ imageBytes → Mapped map (diskOf image) → judged (diskOf image) ≡ none → InStep map image
+in-step map image long m passed =
+    record { long = long; mapped = m; system = record-mapped map (diskOf image) m 0 (omega arith) ∙ first-system (diskOf image) passed }
+
+number-packs : (r : Record) → Packs r → numberOf r % 0x1000000 ≡ numberOf r
+unfolding numberOf
+number-packs Free v = refl
+number-packs System v = refl
+number-packs (File f s) v = omega (arith, v .0, v .1)
+number-packs Other v = refl
+
+-- ---- a record's number after it is written, and after another one is
+
+module _ (d : Disk) (b : ℕ) (r : Record) where
+  abbrev row : ℕ → ℕ
+  row = patch (d 0) (mapStart + recordBytes * b) recordBytes (encode r)
+
+  number-set : Packs r → numberAt (setRecord d b r) b ≡ numberOf r
+  unfolding numberAt setRecord encode
+  number-set v =
+      high-is (λ (i : ℕ). upd d 0 row 0 (mapStart + recordBytes * b + i)) recordBytes (numberOf r)
+      (λ i l.
+      let e : mapStart + recordBytes * b + i - (mapStart + recordBytes * b) ≡ i = omega arith in
+      upd₂-same d 0 row 0 (mapStart + recordBytes * b + i) refl
+      ∙ patch-in (d 0) (mapStart + recordBytes * b) recordBytes (encode r) (mapStart + recordBytes * b + i) (omega arith) (omega arith)
+      ∙ ap (encode r) e)
+      ∙ number-packs r v
+
+  number-other : (j : ℕ) → j ≢ b → numberAt (setRecord d b r) j ≡ numberAt d j
+  unfolding numberAt setRecord
+  number-other j h =
+      big-ext (λ (i : ℕ). upd d 0 row 0 (mapStart + recordBytes * j + i)) (λ (i : ℕ). d 0 (mapStart + recordBytes * j + i)) recordBytes
+      (λ i l.
+      upd₂-same d 0 row 0 (mapStart + recordBytes * j + i) refl
+      ∙ by-order j b
+      (λ q. patch-below (d 0) (mapStart + recordBytes * b) recordBytes (encode r) (mapStart + recordBytes * j + i) (omega arith))
+      (λ q. patch-above (d 0) (mapStart + recordBytes * b) recordBytes (encode r) (mapStart + recordBytes * j + i) (omega arith)))
+
+-- ---- the steps
+
+word-beside : (d : Disk) (o v : ℕ) → o + 2 ≤ mapStart → (i : ℕ) → mapStart ≤ i → setWord d o v 0 i ≡ d 0 i
+unfolding setWord
+word-beside d o v h i a = upd₂-same d 0 (patch (d 0) o 2 (highByte 2 v)) 0 i refl ∙ patch-above (d 0) o 2 (highByte 2 v) i (omega arith)
+
+module _ (map l : List ℕ) (s : InStep map l) where
+  -- block 0 passes no test that the system's record fails
+  pub not-first : (p : Record → Bool) → p System ≡ false → (b : ℕ) → p (recordIn map b) ≡ true → 0 < b
+  not-first p e b t = by-order 0 b (λ h. h) (λ h. let z : b ≡ 0 = omega arith in true≢false (p (recordIn map b)) t (ap (λ (x : ℕ). p (recordIn map x)) z ∙ ap p (s .system) ∙ e))
+
+  module _ (m : List ℕ) (e : Disk) (q : m ≡ imageOf e) where
+    -- the map's bytes are as they were
+    pub step-beside : ((o : ℕ) → mapStart ≤ o → o < blockBytes → e 0 o ≡ diskOf l 0 o) → InStep map m
+    step-beside h =
+        record {
+          long = ap length q ∙ length-image e;
+          mapped = record {
+            long = s .mapped .long;
+            numbers = λ b k. s .mapped .numbers b k ∙ number-cong (diskOf l) (diskOf m) b k (λ o a c. sym (near-image m e q 0 o (omega arith) c ∙ h o a c));
+          };
+          system = s .system;
+        }
+
+  -- another block is written
+  pub step-block : (m : List ℕ) (b : ℕ) (g : ℕ → ℕ) → m ≡ imageOf (setBlock (diskOf l) b g) → 0 < b → InStep map m
+  unfolding setBlock
+  step-block m b g q h = step-beside m (upd (diskOf l) b g) q (λ o a c. upd₂-other (diskOf l) b g 0 o (λ z. omega arith))
+
+  -- a row of a block is written, in block 0 before the map
+  pub step-row : (m : List ℕ) (b o n : ℕ) (g : ℕ → ℕ) → m ≡ imageOf (patched (diskOf l) b o n g) → (b ≡ 0 → o + n ≤ mapStart) → InStep map m
+  step-row m b o n g q h =
+      let d : Disk = diskOf l in
+      step-beside m (patched d b o n g) q
+      (λ i a c. by-equal b 0
+      (λ z. upd₂-same d b (patch (d b) o n g) 0 i (sym z) ∙ patch-above (d b) o n g i (omega (arith, h z)) ∙ ap (λ (x : ℕ). d x i) z)
+      (λ z. upd₂-other d b (patch (d b) o n g) 0 i (λ y. z (sym y))))
+
+  pub step-end : (m : List ℕ) (k : ℕ) → m ≡ imageOf (setEnd (diskOf l) k) → InStep map m
+  unfolding setEnd
+  step-end m k q =
+      let d : Disk = diskOf l in
+      step-beside m (setWord (setWord d 34 (wholeBlocks k)) 36 (bytesOver k)) q
+      (λ i a c. word-beside (setWord d 34 (wholeBlocks k)) 36 (bytesOver k) (omega arith) i a ∙ word-beside d 34 (wholeBlocks k) (omega arith) i a)
+
+  -- a record is written, in the image and in the loaded map
+  pub step-record : (m : List ℕ) (b : ℕ) (r : Record) → m ≡ imageOf (setRecord (diskOf l) b r) → 0 < b → b < blocks → Packs r → InStep (set map b (numberOf r)) m
+  unfolding recordIn
+  step-record m b r q h k v =
+      let d : Disk = setRecord (diskOf l) b r in
+      let read : (j : ℕ) → j < blocks → numberAt (diskOf m) j ≡ numberAt d j =
+      λ j i. number-cong (diskOf m) d j i (λ o a c. near-image m d q 0 o (omega arith) c) in
+      record {
+        long = ap length q ∙ length-image d;
+        mapped = record {
+          long = length-set map b (numberOf r) ∙ s .mapped .long;
+          numbers = λ j i. by-equal j b
+              (λ z.
+              ap (λ (x : ℕ). getD (set map b (numberOf r)) x 0) z
+              ∙ getD-set-same map b (numberOf r) 0 (omega (arith, s .mapped .long))
+              ∙ sym (number-set (diskOf l) b r v)
+              ∙ ap (numberAt d) (sym z)
+              ∙ sym (read j i))
+              (λ z. getD-set-other map b j (numberOf r) 0 z ∙ s .mapped .numbers j i ∙ sym (number-other (diskOf l) b r j z) ∙ sym (read j i));
+        };
+        system = rw (getD-set-other map b 0 (numberOf r) 0 (λ z. omega arith)) (s .system);
+      }
+
+-- a slot lies in a block of the directory, which is not block 0
+system-part : (t : ℕ) → isPart 0 t System ≡ false
+unfolding isPart
+system-part t = refl
+
+module _ (map l : List ℕ) (s : InStep map l) where
+  pub step-slot : (m : List ℕ) (k : ℕ) (g : ℕ → ℕ) → m ≡ imageOf (setSlot (diskOf l) k g) → InStep map m
+  unfolding setSlot partBlock
+  step-slot m k g q =
+      let part : ℕ → Bool = λ (b : ℕ). isPart 0 (k / blockSlots) (recordAt (diskOf l) b) in
+      step-row map l s m (partBlock (diskOf l) 0 (k / blockSlots)) (k % blockSlots * slotBytes) slotBytes g q
+      (λ z.
+      let t : part 0 ≡ true = ap part (sym z) ∙ lowest-hit part blocks (omega arith) in
+      let u : part 0 ≡ false = ap (isPart 0 (k / blockSlots)) (sym (record-mapped map (diskOf l) (s .mapped) 0 (omega arith)) ∙ s .system) ∙ system-part (k / blockSlots) in
+      true≢false (part 0) t u)
+
+  -- the directory grows by a slot, or keeps its end
+  pub step-after : (m : List ℕ) (k end : ℕ) → m ≡ imageOf (endAfter k end (diskOf l)) → InStep map m
+  unfolding endAfter
+  step-after m k end q =
+      by-equal k end
+      (λ z. step-end map l s m (suc k) (q ∙ ap imageOf (cond-true _ _ (eq-true z))))
+      (λ z. step-beside map l s m (diskOf l) (q ∙ ap imageOf (cond-false _ _ (eq-false z))) (λ o a c. refl))
+
+-- the records from b on are as they were before the first was changed
+pub rest-more : (map : List ℕ) (d : Disk) (b v : ℕ) → ((j : ℕ) → b ≤ j → j < blocks → recordIn map j ≡ recordAt d j)
+    → (j : ℕ) → b + 1 ≤ j → j < blocks → recordIn (set map b v) j ≡ recordAt d j
+unfolding recordIn
+rest-more map d b v h j p q = ap decode (getD-set-other map b j v 0 (λ z. omega arith)) ∙ h j (omega arith) q
