@@ -2,6 +2,7 @@
 ghost use mathlib.Core.Path.{_≡_};
 ghost use Prim.Native.Nat.{_+_, _*_, _%_, _<_, _≤_, _^_};
 ghost use Rattle.laws.specs.Numbers.{at16, at32};
+ghost use Rattle.sector_rules.specs.Geometry.{blocks, sectorBytes, imageBytes};
 ghost use Rattle.file_rules.specs.Sizes.{blockBytes, blocksOf};
 ghost use Rattle.file_rules.specs.Disk.{byteOf, diskOf};
 ghost use Rattle.files.specs.Laws.Writing.Rows.{runPlace};
@@ -19,8 +20,8 @@ pub fn blocks_of(bytes: usize) -> usize
 
 // Where byte o of block b stands in the image.
 pub fn byte_place(b: usize, o: usize) -> usize
-    requires { ⌜ (b < 480) × (o < 1536) ⌝ }
-    ensures { λ r. ⌜ (r ≡ byteOf b o) × (r < 737280) ⌝ }
+    requires { ⌜ (b < blocks) × (o < blockBytes) ⌝ }
+    ensures { λ r. ⌜ (r ≡ byteOf b o) × (r < imageBytes) ⌝ }
 {
     let sector = Geometry::running(BlockNumber(b), o / Geometry::SECTOR_BYTES);
     let at = Geometry::place(sector);
@@ -30,7 +31,7 @@ pub fn byte_place(b: usize, o: usize) -> usize
 // Where offset o of block b stands in the image; its end, where there is no such block. The bytes after it stand
 // behind it to the sector's end.
 pub fn run_place(b: usize, o: usize) -> usize
-    requires { ⌜ o < 1536 ⌝ }
+    requires { ⌜ o < blockBytes ⌝ }
     ensures { λ r. ⌜ r ≡ runPlace b o ⌝ }
 {
     if b < Geometry::BLOCKS {
@@ -42,7 +43,7 @@ pub fn run_place(b: usize, o: usize) -> usize
 // How many bytes from offset o of a block on stand in a row: to its sector's end, and n at most.
 pub fn run_length(o: usize, n: usize) -> usize
     requires { ⌜ 0 < n ⌝ }
-    ensures { λ r. ⌜ (0 < r) × (r ≤ n) × (o % 512 + r ≤ 512) ⌝ }
+    ensures { λ r. ⌜ (0 < r) × (r ≤ n) × (o % sectorBytes + r ≤ sectorBytes) ⌝ }
 {
     let room = Geometry::SECTOR_BYTES - o % Geometry::SECTOR_BYTES;
     if room < n { room } else { n }

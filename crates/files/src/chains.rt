@@ -1,7 +1,6 @@
 // The blocks of each file in chains, upwards: the first block whose record bears a file, and after each block the next
 // that bears the same.
 ghost use mathlib.Core.Path.{_≡_};
-ghost use Prim.Native.Nat.{_≤_};
 ghost use Rattle.sector_rules.specs.Geometry.{blocks};
 ghost use Rattle.files.specs.Laws.Loading.Chains.{Chained, firstOf};
 use crate::blocks::block_number;

@@ -10,6 +10,7 @@ ghost use Rattle.file_rules.specs.Arguments.{argumentsOf};
 ghost use Rattle.file_rules.specs.Calls as Calls;
 ghost use Rattle.file_rules.specs.Calls.{freshOwner, freshHeader, formatDisk};
 ghost use Rattle.files.specs.Laws.Calling.Fresh.{titled, sized, started, mapped};
+use crate::sizes::MAP_START;
 use crate::sizes::SLOT_BYTES;
 use crate::sizes::TITLE_MOST;
 use crate::steps::set_record;
@@ -66,11 +67,11 @@ fn put_start(head: &mut [u8])
 }
 
 // The header of a fresh disk.
-fn header_bytes(name: &[u8], number: u16) -> [u8; 96]
+fn header_bytes(name: &[u8], number: u16) -> [u8; MAP_START]
     requires { ⌜ length (now name) ≤ titleMost ⌝ }
     ensures { λ r. ⌜ r ≡ tab (freshHeader (argumentsOf (now (name .entry)) number)) mapStart ⌝ }
 {
-    let mut head = [0xFFu8; 96];
+    let mut head = [0xFFu8; MAP_START];
     put_title(&mut head, name, number);
     put_sizes(&mut head);
     put_start(&mut head);

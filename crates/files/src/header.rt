@@ -5,6 +5,7 @@ ghost use lib.Dec.{eqb};
 ghost use lib.ListN.{length};
 ghost use Rattle.laws.specs.Numbers.{at16};
 ghost use Rattle.sector_rules.specs.Faults.{wrongAt};
+ghost use Rattle.sector_rules.specs.Geometry.{sectorBytes};
 ghost use Rattle.file_rules.specs.Disk.{diskOf};
 ghost use Rattle.file_rules.specs.Directory.{dirBytes, dirEnd};
 ghost use Rattle.file_rules.specs.Check.{lengthRight, sizesFault, headerFault, refusal8};
@@ -76,7 +77,7 @@ fn sizes_fault(image: &[u8]) -> Fault
 
 // The lowest wrong field of the header; its fields stand in the first sector of block 0, which is the image's first.
 fn header_fault(image: &[u8]) -> Fault
-    requires { ⌜ 512 ≤ length (now image) ⌝ }
+    requires { ⌜ sectorBytes ≤ length (now image) ⌝ }
     ensures { λ r. ⌜ r ≡ headerFault (diskOf (now (image .entry))) ⌝ }
 {
     let backward = wrong_at(58, fields::stands_at(image, 58, &BACKWARD));
@@ -90,7 +91,7 @@ fn header_fault(image: &[u8]) -> Fault
 
 // Refusal 8.
 pub fn judge_header(image: &[u8]) -> Verdict
-    requires { ⌜ 512 ≤ length (now image) ⌝ }
+    requires { ⌜ sectorBytes ≤ length (now image) ⌝ }
     ensures { λ r. ⌜ r ≡ verdictOf (refusal8 (diskOf (now (image .entry)))) ⌝ }
 {
     match header_fault(image) {

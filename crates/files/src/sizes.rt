@@ -1,4 +1,5 @@
 // The numbers of the file layer, each once; those of the disk kind are the sector layer's.
+pub use file_rules::NAME_MOST;
 use sectors::Geometry;
 
 // The bytes of a block, and of a track.
@@ -18,9 +19,7 @@ pub const MAP_START: usize = 96;
 
 pub const RECORD_BYTES: usize = 3;
 
-// The most bytes of a file's name and of a disk's name.
-pub const NAME_MOST: usize = 36;
-
+// The most bytes of a disk's name.
 pub const TITLE_MOST: usize = 10;
 
 // What stands for no block.

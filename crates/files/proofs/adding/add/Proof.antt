@@ -1,6 +1,6 @@
 -- `add` meets its contract.
 -- Assumes nothing.
-use mathlib.Core.Path.{_≡_, refl, sym, ap, _∙_}
+use mathlib.Core.Path.{refl, sym, _∙_}
 use Rattle.file_rules.specs.Calls.{add}
 use Rattle.file_rules.specs.Laws.Base.OnSound.{sound-length, sound-refused, sound-passed}
 use Rattle.files.specs.Laws.Judging.Verdict.{verdict-some, verdict-none}

@@ -1,6 +1,6 @@
 -- `add_sound` meets its contract, case by case.
 -- Assumes nothing.
-use mathlib.Core.Path.{_≡_, refl, sym, ap, _∙_}
+use mathlib.Core.Path.{sym, _∙_}
 use borrow.Author.Tests.{not-false}
 use Rattle.laws.specs.Tests.{not-was}
 use Rattle.files.specs.Laws.Loading.Parts.{from-none}

@@ -1,6 +1,6 @@
 -- `entry_right` meets its contract.
 -- Assumes nothing.
-use mathlib.Core.Path.{_≡_, refl, sym, ap, _∙_}
+use mathlib.Core.Path.{sym, ap, _∙_}
 use Prim.Native.Nat.{ℕ}
 use Rattle.laws.specs.Tab.{elementAt}
 use Rattle.file_rules.specs.Disk.{diskOf}

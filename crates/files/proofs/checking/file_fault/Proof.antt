@@ -1,6 +1,9 @@
 -- `file_fault` meets its contract: the files below f are sound.
 -- Assumes nothing.
 use borrow.Author.Count.{below-none, below-more}
+use Rattle.sector_rules.specs.Geometry.{blocks}
+use Rattle.files.specs.Laws.Loading.Marks.{markCount}
+use Rattle.file_rules.specs.Map.{sequences}
 use Rattle.files.specs.Laws.Loading.Tally.{tally-none}
 use Rattle.files.specs.Laws.Loading.Parts.{from-none}
 use Rattle.files.specs.Laws.Loading.Chains.{chain-none}
@@ -10,7 +13,7 @@ use borrow.Author.Needs.{needs}
 use native.Mathlib.Omega.{arith}
 use mathlib.Core.Path.{_≡_, refl, sym, ap, _∙_}
 use mathlib.Core.Bool.{false, not}
-use Prim.Native.Nat.{ℕ, _-_, _≤_, _<_}
+use Prim.Native.Nat.{ℕ, _-_, _≤_, _<_, suc}
 use Rattle.file_rules.specs.Sizes.{slotCount}
 use Rattle.file_rules.specs.Disk.{diskOf}
 use Rattle.file_rules.specs.Check.{fileRight}
@@ -27,7 +30,7 @@ file-blocks-requires : tie.Need-file-blocks-requires Inv-loop μ-loop
 file-blocks-requires c κs = from-none _ _
 
 load-chains-requires : tie.Need-load-chains-requires Inv-loop μ-loop
-load-chains-requires c κs = chain-none 4097 480 refl refl _
+load-chains-requires c κs = chain-none (suc sequences) blocks refl refl _
 
 dir-end-requires : tie.Need-dir-end-requires Inv-loop μ-loop
 dir-end-requires c κs = search needs
@@ -36,7 +39,7 @@ judged-end-requires : tie.Need-judged-end-requires Inv-loop μ-loop
 judged-end-requires c κs = search needs
 
 tally-names-requires : tie.Need-tally-names-requires Inv-loop μ-loop
-tally-names-requires c κs = (c .before .before .before .before .before .before .before .before .before .before .pre .0, c .before .judged-end .ensures .1, located _ _ _ (c .before .before .before .before .before .before .before .before .before .before .pre .1) (c .before .before .before .before .before .before .before .file-blocks .ensures), tally-none 16385 _)
+tally-names-requires c κs = (c .before .before .before .before .before .before .before .before .before .before .pre .0, c .before .judged-end .ensures .1, located _ _ _ (c .before .before .before .before .before .before .before .before .before .before .pre .1) (c .before .before .before .before .before .before .before .file-blocks .ensures), tally-none (suc markCount) _)
 
 loop-holds : tie.Need-loop-holds Inv-loop μ-loop
 loop-holds c = (omega arith, below-none _)

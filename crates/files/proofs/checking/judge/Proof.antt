@@ -1,6 +1,6 @@
 -- `judge` meets its contract.
 -- Assumes nothing.
-use mathlib.Core.Path.{_≡_, refl, sym, ap, _∙_}
+use mathlib.Core.Path.{sym, ap, _∙_}
 use Rattle.files.specs.Laws.Judging.Verdict.{verdictOf}
 use Rattle.files.specs.Laws.Judging.Sound.{refusal-mapped, judged-header, judged-map, judged-files, judged-free}
 use borrow.Author.Needs.{needs}

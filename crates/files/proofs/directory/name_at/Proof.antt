@@ -7,15 +7,16 @@ use lib.ListN.{length, getD, length-set}
 use borrow.Author.Needs.{needs}
 use borrow.Author.Count.{below-none}
 use Rattle.laws.specs.Tab.{elementAt, eq-tab}
+use Rattle.file_rules.specs.Sizes.{nameMost}
 use Rattle.files.specs.Laws.Loading.Slots.{parts-more}
 use Rattle.files.proofs.directory.name_at.Statement.{statement}
 use Rattle.files.proofs.directory.name_at.Tie as tie
 
 abbrev Inv-loop : tie.InvT-loop
-Inv-loop image at name₀ i₀ name i = (i ≤ 36) × (length name ≡ 36) × ((j : ℕ) → j < i → getD name j 0 ≡ elementAt image at j)
+Inv-loop image at name₀ i₀ name i = (i ≤ nameMost) × (length name ≡ nameMost) × ((j : ℕ) → j < i → getD name j 0 ≡ elementAt image at j)
 
 abbrev μ-loop : tie.MeasureT-loop
-μ-loop image at name₀ i₀ name i = 36 - i
+μ-loop image at name₀ i₀ name i = nameMost - i
 
 loop-holds : tie.Need-loop-holds Inv-loop μ-loop
 loop-holds c = (omega arith, refl, below-none _)
@@ -37,7 +38,7 @@ unfolding elementAt
 loop-again c = (omega arith, simp length-set (c .before .before .loop .inv .1), parts-more (c .before .before .loop .name) (elementAt (c .before .before .before .before .args .image .now) (c .before .before .before .before .args .at)) (c .before .before .loop .i) _ (omega arith) (c .before .before .loop .inv .2) (c .byte .ensures))
 
 returns : tie.Need-returns Inv-loop μ-loop
-returns c = eq-tab _ _ 36 (c .before .loop .inv .1) (λ k h. c .before .loop .inv .2 k (omega arith))
+returns c = eq-tab _ _ nameMost (c .before .loop .inv .1) (λ k h. c .before .loop .inv .2 k (omega arith))
 
 pub name-at-spec : {M : Type 1} → statement M
 name-at-spec =

@@ -1,6 +1,6 @@
 -- `slot_place` meets its contract.
 -- Assumes nothing.
-use mathlib.Core.Path.{_≡_, refl, sym, ap, _∙_}
+use mathlib.Core.Path.{sym, ap, _∙_}
 use Prim.Native.Nat.{ℕ, _*_, _%_}
 use Rattle.laws.specs.Tests.{lt-true, lt-false, cond-true, cond-false}
 use Rattle.file_rules.specs.Disk.{byteOf}

@@ -11,14 +11,15 @@ use Rattle.laws.specs.Tests.{eq-true, eq-false}
 use Rattle.laws.specs.Below.{all-is}
 use Rattle.laws.specs.Search.{all-false}
 use Rattle.laws.specs.Tab.{elementAt}
+use Rattle.file_rules.specs.Sizes.{slotBytes}
 use Rattle.files.proofs.directory.vacant_at.Statement.{statement}
 use Rattle.files.proofs.directory.vacant_at.Tie as tie
 
 abbrev Inv-loop : tie.InvT-loop
-Inv-loop image at i₀ i = (i ≤ 64) × ((j : ℕ) → j < i → eqb (elementAt image at j) 0 ≡ true)
+Inv-loop image at i₀ i = (i ≤ slotBytes) × ((j : ℕ) → j < i → eqb (elementAt image at j) 0 ≡ true)
 
 abbrev μ-loop : tie.MeasureT-loop
-μ-loop image at i₀ i = 64 - i
+μ-loop image at i₀ i = slotBytes - i
 
 loop-holds : tie.Need-loop-holds Inv-loop μ-loop
 loop-holds c = (omega arith, below-none _)
@@ -41,7 +42,7 @@ unfolding elementAt
 loop-again c = (omega arith, below-more _ _ (c .before .before .before .loop .inv .1) (eq-true (sym (c .before .byte .ensures) ∙ c .if1 .left)))
 
 returns-2 : tie.Need-returns-2 Inv-loop μ-loop
-returns-2 c = sym (all-is _ 64 (λ k h. c .before .loop .inv .1 k (omega arith)))
+returns-2 c = sym (all-is _ slotBytes (λ k h. c .before .loop .inv .1 k (omega arith)))
 
 pub vacant-at-spec : {M : Type 1} → statement M
 vacant-at-spec =

@@ -1,13 +1,13 @@
 -- `vacant_slot` meets its contract: no slot below k is vacant.
 -- Assumes nothing.
-use mathlib.Core.Path.{_≡_, refl, sym, ap, _∙_}
-use Prim.Native.Nat.{ℕ, suc, _+_, _-_, _≤_, _<_}
+use mathlib.Core.Path.{_≡_, sym, ap, _∙_}
+use Prim.Native.Nat.{ℕ, _-_, _≤_, _<_}
 use lib.Dec.{ltb}
 use borrow.Author.Count.{below-none, below-more}
-use Rattle.file_rules.specs.Disk.{diskOf, imageOf}
+use Rattle.file_rules.specs.Disk.{diskOf}
 use Rattle.file_rules.specs.Directory.{held}
 use Rattle.files.specs.Laws.Loading.Slots.{vacant-here, vacant-none}
-use mathlib.Core.Bool.{Bool, true, false, not, _&&_}
+use mathlib.Core.Bool.{Bool, false, not, _&&_}
 use borrow.Author.Needs.{needs}
 use native.Mathlib.Omega.{arith}
 use Rattle.files.proofs.directory.vacant_slot.Statement.{statement}

@@ -5,6 +5,7 @@ use Prim.Native.Nat.{_-_, _≤_}
 use native.Mathlib.Omega.{arith}
 use lib.ListN.{length}
 use borrow.Author.Needs.{needs}
+use Rattle.sector_rules.specs.Geometry.{blocks, imageBytes}
 use Rattle.file_rules.specs.Disk.{diskOf, imageOf}
 use Rattle.file_rules.specs.Calls.{freshOwner}
 use Rattle.files.specs.Laws.Writing.Steps.{Packs}
@@ -13,10 +14,10 @@ use Rattle.files.proofs.formatting.write_map.Statement.{statement}
 use Rattle.files.proofs.formatting.write_map.Tie as tie
 
 abbrev Inv-loop : tie.InvT-loop
-Inv-loop image₀ b₀ image b = (b ≤ 480) × (length image ≡ 737280) × (image ≡ imageOf (mapped (diskOf image₀) freshOwner b))
+Inv-loop image₀ b₀ image b = (b ≤ blocks) × (length image ≡ imageBytes) × (image ≡ imageOf (mapped (diskOf image₀) freshOwner b))
 
 abbrev μ-loop : tie.MeasureT-loop
-μ-loop image₀ b₀ image b = 480 - b
+μ-loop image₀ b₀ image b = blocks - b
 
 loop-holds : tie.Need-loop-holds Inv-loop μ-loop
 loop-holds c = (omega arith, c .before .pre, mapped-none _ _ (c .before .pre))
@@ -40,7 +41,7 @@ same-length : tie.Need-same-length Inv-loop μ-loop
 same-length c = search needs
 
 returns : tie.Need-returns Inv-loop μ-loop
-returns c = let e : c .before .loop .b ≡ 480 = omega arith in rw e at (c .before .loop .inv .2)
+returns c = let e : c .before .loop .b ≡ blocks = omega arith in rw e at (c .before .loop .inv .2)
 
 pub write-map-spec : {M : Type 1} → statement M
 write-map-spec =

@@ -7,14 +7,15 @@ use lib.ListN.{length, length-set}
 use borrow.Author.Needs.{needs}
 use Rattle.laws.specs.Tab.{elementAt}
 use Rattle.laws.specs.Overlay.{overlay, overlay-none, overlay-more}
+use Rattle.file_rules.specs.Sizes.{slotBytes}
 use Rattle.files.proofs.listing.copy_slot.Statement.{statement}
 use Rattle.files.proofs.listing.copy_slot.Tie as tie
 
 abbrev Inv-loop : tie.InvT-loop
-Inv-loop image at out₀ c i₀ out i = (i ≤ 64) × (length out ≡ length out₀) × (out ≡ overlay out₀ c i (elementAt image at))
+Inv-loop image at out₀ c i₀ out i = (i ≤ slotBytes) × (length out ≡ length out₀) × (out ≡ overlay out₀ c i (elementAt image at))
 
 abbrev μ-loop : tie.MeasureT-loop
-μ-loop image at out₀ c i₀ out i = 64 - i
+μ-loop image at out₀ c i₀ out i = slotBytes - i
 
 loop-holds : tie.Need-loop-holds Inv-loop μ-loop
 loop-holds c = (omega arith, refl, overlay-none _ _ _)
@@ -42,7 +43,7 @@ same-length : tie.Need-same-length Inv-loop μ-loop
 same-length c = search needs
 
 returns : tie.Need-returns Inv-loop μ-loop
-returns c = let e : c .before .loop .i ≡ 64 = omega arith in rw e at (c .before .loop .inv .2)
+returns c = let e : c .before .loop .i ≡ slotBytes = omega arith in rw e at (c .before .loop .inv .2)
 
 pub copy-slot-spec : {M : Type 1} → statement M
 copy-slot-spec =

@@ -1,6 +1,6 @@
 -- `list_sound` meets its contract.
 -- Assumes nothing.
-use mathlib.Core.Path.{_≡_, refl, sym, ap, _∙_}
+use mathlib.Core.Path.{ap, _∙_}
 use Prim.Native.Nat.{ℕ, _*_}
 use Rattle.laws.specs.Count.{count}
 use Rattle.laws.specs.Overlay.{put}

@@ -6,6 +6,7 @@ use Prim.Native.Nat.{ℕ, _-_, _≤_}
 use native.Mathlib.Omega.{arith}
 use borrow.Author.Needs.{needs}
 use Rattle.laws.specs.Count.{count}
+use Rattle.sector_rules.specs.Geometry.{blocks}
 use Rattle.file_rules.specs.declared.MapRecord.{MapRecord}
 use Rattle.file_rules.specs.Map.{isFree}
 use Rattle.files.specs.Laws.Loading.Loaded.{recordIn}
@@ -14,10 +15,10 @@ use Rattle.files.proofs.map.count_free.Statement.{statement}
 use Rattle.files.proofs.map.count_free.Tie as tie
 
 abbrev Inv-loop : tie.InvT-loop
-Inv-loop map n₀ b₀ n b = (b ≤ 480) × (n ≤ b) × (n ≡ count b (λ (j : ℕ). isFree (recordIn map j)))
+Inv-loop map n₀ b₀ n b = (b ≤ blocks) × (n ≤ b) × (n ≡ count b (λ (j : ℕ). isFree (recordIn map j)))
 
 abbrev μ-loop : tie.MeasureT-loop
-μ-loop map n₀ b₀ n b = 480 - b
+μ-loop map n₀ b₀ n b = blocks - b
 
 loop-holds : tie.Need-loop-holds Inv-loop μ-loop
 unfolding count
@@ -49,7 +50,7 @@ loop-again c = (
 )
 
 returns : tie.Need-returns Inv-loop μ-loop
-returns c = let e : c .before .loop .b ≡ 480 = omega arith in (rw e at (c .before .loop .inv .2), omega arith)
+returns c = let e : c .before .loop .b ≡ blocks = omega arith in (rw e at (c .before .loop .inv .2), omega arith)
 
 pub count-free-spec : {M : Type 1} → statement M
 count-free-spec =

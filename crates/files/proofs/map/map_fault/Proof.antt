@@ -7,6 +7,7 @@ use native.Mathlib.Omega.{arith}
 use borrow.Author.Needs.{needs}
 use borrow.Author.Count.{below-none, below-more}
 use Rattle.laws.specs.Lowest.{lowest-some, lowest-none}
+use Rattle.sector_rules.specs.Geometry.{blocks}
 use Rattle.file_rules.specs.declared.MapRecord.{MapRecord}
 use Rattle.file_rules.specs.Check.{recordFault}
 use Rattle.files.specs.Laws.Loading.Loaded.{recordIn}
@@ -14,10 +15,10 @@ use Rattle.files.proofs.map.map_fault.Statement.{statement}
 use Rattle.files.proofs.map.map_fault.Tie as tie
 
 abbrev Inv-loop : tie.InvT-loop
-Inv-loop map b₀ b = (b ≤ 480) × ((j : ℕ) → j < b → recordFault j (recordIn map j) ≡ false)
+Inv-loop map b₀ b = (b ≤ blocks) × ((j : ℕ) → j < b → recordFault j (recordIn map j) ≡ false)
 
 abbrev μ-loop : tie.MeasureT-loop
-μ-loop map b₀ b = 480 - b
+μ-loop map b₀ b = blocks - b
 
 loop-holds : tie.Need-loop-holds Inv-loop μ-loop
 loop-holds c = (omega arith, below-none _)

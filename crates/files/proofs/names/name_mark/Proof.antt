@@ -5,12 +5,12 @@ use Prim.Native.Nat.{_-_, _≤_, _<_, _+_}
 use native.Mathlib.Omega.{arith}
 use borrow.Author.Needs.{needs}
 use Rattle.laws.specs.Tab.{elementAt}
-use Rattle.files.specs.Laws.Loading.Marks.{rowMark, mark-more, mark-row}
+use Rattle.files.specs.Laws.Loading.Marks.{rowMark, mark-more, mark-row, markCount}
 use Rattle.files.proofs.names.name_mark.Statement.{statement}
 use Rattle.files.proofs.names.name_mark.Tie as tie
 
 abbrev Inv-loop : tie.InvT-loop
-Inv-loop image at n mark₀ i₀ mark i = (i ≤ n) × (mark < 16384) × (mark ≡ rowMark (elementAt image (at + 16)) i)
+Inv-loop image at n mark₀ i₀ mark i = (i ≤ n) × (mark < markCount) × (mark ≡ rowMark (elementAt image (at + 16)) i)
 
 abbrev μ-loop : tie.MeasureT-loop
 μ-loop image at n mark₀ i₀ mark i = n - i

@@ -1,8 +1,8 @@
 -- `tally_names` meets its contract: the slots below k are counted.
 -- Assumes nothing.
-use mathlib.Core.Path.{_≡_, refl, sym, ap, _∙_}
-use Prim.Native.Nat.{ℕ, suc, _+_, _-_, _≤_, _<_}
-use Rattle.file_rules.specs.Disk.{diskOf, imageOf}
+use mathlib.Core.Path.{_≡_}
+use Prim.Native.Nat.{suc, _-_, _≤_}
+use Rattle.file_rules.specs.Disk.{diskOf}
 use Rattle.files.specs.Laws.Loading.Tally.{Tallied, tally-more}
 use Rattle.files.specs.Laws.Loading.Marks.{markCount, slotMark}
 use borrow.Author.Needs.{needs}

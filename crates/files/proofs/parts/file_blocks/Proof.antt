@@ -1,8 +1,8 @@
 -- `file_blocks` meets its contract: the last i blocks are placed.
 -- Assumes nothing.
-use mathlib.Core.Path.{_≡_, refl, sym, ap, _∙_}
+use mathlib.Core.Path.{_≡_, ap, _∙_}
 use mathlib.Core.Logic.{⊎-elim}
-use Prim.Native.Nat.{ℕ, suc, _+_, _-_, _≤_, _<_}
+use Prim.Native.Nat.{_-_, _≤_}
 use Rattle.sector_rules.specs.Geometry.{blocks}
 use Rattle.file_rules.specs.declared.MapRecord.{MapRecord}
 use Rattle.files.specs.Laws.Loading.Parts.{partOf, PartsFrom, from-part, from-other, from-all}

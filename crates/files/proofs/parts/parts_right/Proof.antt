@@ -1,5 +1,7 @@
 -- `parts_right` meets its contract.
 -- Assumes nothing.
+use Rattle.sector_rules.specs.Geometry.{blocks}
+use Prim.Native.Nat.{suc}
 use Rattle.files.specs.Laws.Loading.Tally.{tally-none}
 use Rattle.files.specs.Laws.Loading.Parts.{parts-many, parts-later, parts-once}
 use borrow.Author.Needs.{needs}
@@ -10,7 +12,7 @@ returns : tie.Need-returns
 returns c = parts-many _ _ _ (c .if1 .taken)
 
 tally-parts-requires : tie.Need-tally-parts-requires
-tally-parts-requires c κs = (c .before .if1 .left, c .before .before .pre, tally-none 481 _)
+tally-parts-requires c κs = (c .before .if1 .left, c .before .before .pre, tally-none (suc blocks) _)
 
 array-read-if2 : tie.Need-array-read-if2
 array-read-if2 c = search needs

@@ -1,10 +1,10 @@
 -- `data_length` meets its contract.
 -- Assumes nothing.
-use mathlib.Core.Path.{_≡_, refl, sym, ap, _∙_}
+use mathlib.Core.Path.{_≡_, sym, ap, _∙_}
 use Prim.Native.Nat.{ℕ}
 use Rattle.laws.specs.Tab.{elementAt}
 use Rattle.file_rules.specs.declared.Entry.{Entry}
-use Rattle.file_rules.specs.Disk.{diskOf, imageOf}
+use Rattle.file_rules.specs.Disk.{diskOf}
 use Rattle.file_rules.specs.Directory.{entryOf, slotEntry}
 use Rattle.files.specs.Laws.Loading.Slots.{entry-row}
 use borrow.Author.Needs.{needs}

@@ -1,6 +1,6 @@
 -- `read_sound` meets its contract.
 -- Assumes nothing.
-use mathlib.Core.Path.{_≡_, refl, sym, ap, _∙_}
+use mathlib.Core.Path.{sym, _∙_}
 use borrow.Author.Tests.{not-true, not-false}
 use Rattle.files.specs.Laws.Loading.Parts.{from-none}
 use Rattle.files.specs.Laws.Loading.Slots.{located}

@@ -1,6 +1,5 @@
 -- `bearer` meets its contract.
 -- Assumes nothing.
-use Prim.Native.Nat.{_-_}
 use borrow.Author.Needs.{needs}
 use Rattle.files.specs.Laws.Loading.Chains.{bearer-free, bearer-system, bearer-other, bearer-file, bearer-far}
 use Rattle.files.proofs.records.bearer.Statement.{statement}

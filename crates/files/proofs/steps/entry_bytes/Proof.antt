@@ -4,11 +4,12 @@ use mathlib.Core.Path.{_≡_, refl}
 use lib.ListN.{length}
 use borrow.Author.Needs.{needs}
 use Rattle.laws.specs.Tab.{tab}
+use Rattle.file_rules.specs.Sizes.{nameMost}
 use Rattle.files.specs.Laws.Writing.Steps.{entry-row}
 use Rattle.files.proofs.steps.entry_bytes.Statement.{statement}
 use Rattle.files.proofs.steps.entry_bytes.Tie as tie
 
-name-long : (c : tie.Start) → length (c .args .e .name) ≡ 36
+name-long : (c : tie.Start) → length (c .args .e .name) ≡ nameMost
 name-long c = search needs
 
 slice-aggregate-put-high4 : tie.Need-slice-aggregate-put-high4

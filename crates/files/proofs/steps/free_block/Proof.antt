@@ -1,6 +1,6 @@
 -- `free_block` meets its contract.
 -- Assumes nothing.
-use mathlib.Core.Path.{_≡_, refl, sym, ap, _∙_}
+use mathlib.Core.Path.{refl, sym, ap, _∙_}
 use borrow.Author.Tests.{not-false}
 use Rattle.laws.specs.Tests.{not-was}
 use Rattle.file_rules.specs.declared.MapRecord.{MapRecord}

@@ -1,7 +1,7 @@
 -- `free_blocks` meets its contract: the blocks below b are freed.
 -- Assumes nothing.
-use mathlib.Core.Path.{_≡_, refl, sym, ap, _∙_}
-use Prim.Native.Nat.{ℕ, suc, _+_, _-_, _≤_, _<_}
+use mathlib.Core.Path.{_≡_, sym, _∙_}
+use Prim.Native.Nat.{_-_, _≤_}
 use Rattle.sector_rules.specs.Geometry.{blocks}
 use Rattle.file_rules.specs.Disk.{diskOf, imageOf}
 use Rattle.file_rules.specs.Written.{freeBlocks}

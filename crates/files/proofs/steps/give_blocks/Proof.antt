@@ -2,12 +2,12 @@
 -- Assumes nothing.
 use mathlib.Core.Path.{_≡_, refl, sym, ap, _∙_}
 use mathlib.Core.Logic.{⊎-elim}
-use Prim.Native.Nat.{ℕ, suc, _+_, _-_, _≤_, _<_}
+use Prim.Native.Nat.{ℕ, _-_, _≤_, _<_}
 use lib.Dec.{ltb}
 use Rattle.laws.specs.Truth.{and-right}
 use Rattle.sector_rules.specs.Geometry.{blocks}
 use Rattle.file_rules.specs.declared.MapRecord.{MapRecord}
-use Rattle.file_rules.specs.Disk.{diskOf, imageOf}
+use Rattle.file_rules.specs.Disk.{diskOf}
 use Rattle.file_rules.specs.Map.{recordAt, isFree}
 use Rattle.files.specs.Laws.Loading.Loaded.{recordIn, record-mapped}
 use Rattle.files.specs.Laws.Writing.Steps.{storedRow}

@@ -5,6 +5,7 @@ use Prim.Native.Nat.{ℕ, _+_, _-_, _*_, _≤_}
 use native.Mathlib.Omega.{arith}
 use lib.ListN.{length}
 use borrow.Author.Needs.{needs}
+use Rattle.sector_rules.specs.Geometry.{imageBytes, blockSectors}
 use Rattle.files.specs.Laws.Writing.Stored.{patched, patched-none}
 use Rattle.files.specs.Laws.Writing.Steps.{storedRow, part-written}
 use Rattle.files.specs.Laws.Writing.Rows.{sector-next}
@@ -13,10 +14,10 @@ use Rattle.files.proofs.steps.put_part.Statement.{statement}
 use Rattle.files.proofs.steps.put_part.Tie as tie
 
 abbrev Inv-loop : tie.InvT-loop
-Inv-loop image₀ b s head content p₀ image p = (p ≤ 3) × (length image ≡ 737280) × (image ≡ imageOf (patched (diskOf image₀) b 0 (p * 512) (λ (i : ℕ). storedRow head content (s * 1536 + i))))
+Inv-loop image₀ b s head content p₀ image p = (p ≤ blockSectors) × (length image ≡ imageBytes) × (image ≡ imageOf (patched (diskOf image₀) b 0 (p * 512) (λ (i : ℕ). storedRow head content (s * 1536 + i))))
 
 abbrev μ-loop : tie.MeasureT-loop
-μ-loop image₀ b s head content p₀ image p = 3 - p
+μ-loop image₀ b s head content p₀ image p = blockSectors - p
 
 loop-holds : tie.Need-loop-holds Inv-loop μ-loop
 loop-holds c = (omega arith, c .before .before .before .pre .0, patched-none _ _ _ _ (c .before .before .before .pre .0))
@@ -46,7 +47,7 @@ same-length : tie.Need-same-length Inv-loop μ-loop
 same-length c = search needs
 
 returns : tie.Need-returns Inv-loop μ-loop
-returns c = let e : c .before .loop .p ≡ 3 = omega arith in (rw e at (c .before .loop .inv .2)) ∙ part-written _ _ _ _
+returns c = let e : c .before .loop .p ≡ blockSectors = omega arith in (rw e at (c .before .loop .inv .2)) ∙ part-written _ _ _ _
 
 pub put-part-spec : {M : Type 1} → statement M
 put-part-spec =

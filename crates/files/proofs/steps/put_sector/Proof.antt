@@ -5,15 +5,17 @@ use Prim.Native.Nat.{_+_, _-_, _≤_}
 use native.Mathlib.Omega.{arith}
 use lib.ListN.{length}
 use borrow.Author.Needs.{needs}
+use Rattle.sector_rules.specs.Geometry.{sectorBytes}
+use Rattle.file_rules.specs.Sizes.{slotBytes}
 use Rattle.files.specs.Laws.Writing.Stored.{patched-row}
 use Rattle.files.specs.Laws.Writing.Rows.{content-row, content-past, content-within}
 use Rattle.files.proofs.steps.put_sector.Statement.{statement}
 use Rattle.files.proofs.steps.put_sector.Tie as tie
 
-past : (c : tie.Then1) → 64 ≤ c .before .before .before .before .args .i
+past : (c : tie.Then1) → slotBytes ≤ c .before .before .before .before .args .i
 past c = content-past (c .before .before .before .before .args .content .now) (c .before .before .before .before .args .i) (c .if1 .taken)
 
-within : (c : tie.Then1) → c .before .before .before .before .args .i + 512 - 64 ≤ length (c .before .before .before .before .args .content .now)
+within : (c : tie.Then1) → c .before .before .before .before .args .i + sectorBytes - slotBytes ≤ length (c .before .before .before .before .args .content .now)
 within c = content-within (c .before .before .before .before .args .content .now) (c .before .before .before .before .args .i) (c .if1 .taken)
 
 add-end : tie.Need-add-end

@@ -1,6 +1,6 @@
 -- `set_free` meets its contract.
 -- Assumes nothing.
-use mathlib.Core.Path.{_≡_, refl, sym, ap, _∙_}
+use mathlib.Core.Path.{_∙_}
 use Rattle.file_rules.specs.Written.{setFree, setWord}
 use Rattle.files.specs.Laws.Loading.Loaded.{free-mapped}
 use borrow.Author.Needs.{needs}

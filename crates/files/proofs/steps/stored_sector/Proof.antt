@@ -7,16 +7,17 @@ use lib.ListN.{length, getD, length-set}
 use borrow.Author.Needs.{needs}
 use borrow.Author.Count.{below-none}
 use Rattle.laws.specs.Tab.{eq-tab}
+use Rattle.sector_rules.specs.Geometry.{sectorBytes}
 use Rattle.files.specs.Laws.Writing.Steps.{storedRow}
 use Rattle.files.specs.Laws.Writing.Rows.{bytes-more}
 use Rattle.files.proofs.steps.stored_sector.Statement.{statement}
 use Rattle.files.proofs.steps.stored_sector.Tie as tie
 
 abbrev Inv-loop : tie.InvT-loop
-Inv-loop head content i row₀ k₀ row k = (k ≤ 512) × (length row ≡ 512) × ((j : ℕ) → j < k → getD row j 0 ≡ storedRow head content (i + j))
+Inv-loop head content i row₀ k₀ row k = (k ≤ sectorBytes) × (length row ≡ sectorBytes) × ((j : ℕ) → j < k → getD row j 0 ≡ storedRow head content (i + j))
 
 abbrev μ-loop : tie.MeasureT-loop
-μ-loop head content i row₀ k₀ row k = 512 - k
+μ-loop head content i row₀ k₀ row k = sectorBytes - k
 
 loop-holds : tie.Need-loop-holds Inv-loop μ-loop
 loop-holds c = (omega arith, refl, below-none _)

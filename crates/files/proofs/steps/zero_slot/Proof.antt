@@ -1,6 +1,6 @@
 -- `zero_slot` meets its contract.
 -- Assumes nothing.
-use mathlib.Core.Path.{_≡_, refl, sym, ap, _∙_}
+use mathlib.Core.Path.{_∙_}
 use Rattle.file_rules.specs.Written.{zeros}
 use Rattle.files.specs.Laws.Loading.Loaded.{part-mapped}
 use Rattle.files.specs.Laws.Writing.Given.{slot-written}

@@ -5,6 +5,7 @@ use Prim.Native.Nat.{ℕ, _-_, _≤_}
 use native.Mathlib.Omega.{arith}
 use lib.ListN.{length, getD}
 use borrow.Author.Needs.{needs}
+use Rattle.sector_rules.specs.Geometry.{imageBytes}
 use Rattle.files.specs.Laws.Writing.Stored.{patched, patched-none}
 use Rattle.files.specs.Laws.Writing.Rows.{rows-part}
 use Rattle.file_rules.specs.Disk.{diskOf, imageOf}
@@ -12,7 +13,7 @@ use Rattle.files.proofs.store.put_bytes.Statement.{statement}
 use Rattle.files.proofs.store.put_bytes.Tie as tie
 
 abbrev Inv-loop : tie.InvT-loop
-Inv-loop image₀ b o src i₀ image i = (i ≤ length src) × (length image ≡ 737280) × (image ≡ imageOf (patched (diskOf image₀) b o i (λ (k : ℕ). getD src k 0)))
+Inv-loop image₀ b o src i₀ image i = (i ≤ length src) × (length image ≡ imageBytes) × (image ≡ imageOf (patched (diskOf image₀) b o i (λ (k : ℕ). getD src k 0)))
 
 abbrev μ-loop : tie.MeasureT-loop
 μ-loop image₀ b o src i₀ image i = length src - i

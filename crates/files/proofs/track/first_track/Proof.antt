@@ -1,6 +1,6 @@
 -- `first_track` meets its contract.
 -- Assumes nothing.
-use mathlib.Core.Path.{_≡_, refl, sym, ap, _∙_}
+use mathlib.Core.Path.{refl, sym, ap, _∙_}
 use Rattle.file_rules.specs.FirstTrack.{refusedTrack}
 use Rattle.files.specs.Laws.Judging.Track.{track-length, track-refused, track-passed}
 use borrow.Author.Needs.{needs}

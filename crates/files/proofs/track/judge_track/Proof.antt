@@ -1,6 +1,6 @@
 -- `judge_track` meets its contract.
 -- Assumes nothing.
-use mathlib.Core.Path.{_≡_, refl, sym, ap, _∙_}
+use mathlib.Core.Path.{sym, ap, _∙_}
 use Rattle.files.specs.Laws.Judging.Verdict.{verdictOf}
 use Rattle.files.specs.Laws.Judging.Sound.{refusal-mapped}
 use Rattle.files.specs.Laws.Judging.Track.{track-header, track-map, track-free}

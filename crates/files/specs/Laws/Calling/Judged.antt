@@ -1,11 +1,10 @@
 -- A disk that passed the judgement has a vacant slot that fits a record. Whether there is room; add and remove case by case.
 -- Assumes nothing.
 use mathlib.Core.Path.{_≡_, refl, sym, ap, ap₂, _∙_}
-use mathlib.Core.Logic.{_≢_}
 use mathlib.Core.Bool.{Bool, true, false, not, _&&_}
 use mathlib.Core.List.{List}
 use mathlib.Core.Option.{none}
-use Prim.Native.Nat.{ℕ, suc, _+_, _-_, _%_, _≤_, _<_}
+use Prim.Native.Nat.{ℕ, suc, _+_, _-_, _%_, _≤_, _<_, _/_}
 use native.Mathlib.Numerals.{add-one}
 use native.Mathlib.Omega.{arith}
 use lib.Dec.{leb, ltb, eqb}
@@ -28,13 +27,13 @@ use Rattle.sector_rules.specs.declared.Reply.{Reply}
 use Rattle.file_rules.specs.Calls.{Changed, Written, refused, unwritten, opensBlock, needed, addAt, addSound, removeAt, removeSound, imaged}
 use Rattle.file_rules.specs.Check.{partsRight, entryRight, fileRight, fileFault, newName, refusal8, refusal9, refusal10, refusal11, judged}
 use Rattle.file_rules.specs.Directory.{nameRight, entryFor, slotEntry, held, dirEnd, findName, vacantSlot}
-use Rattle.file_rules.specs.Disk.{Disk, byteOf, diskOf, imageOf}
+use Rattle.file_rules.specs.Disk.{Disk, diskOf, imageOf}
 use Rattle.file_rules.specs.Laws.Base.Disk.{image-disk}
 use Rattle.files.specs.Laws.Loading.Records.{decode-none}
 use Rattle.files.specs.Laws.Judging.Ends.{or-none-left, or-none-right, files-right, end-within}
 use Rattle.files.specs.Laws.Writing.Steps.{overlay-tab, put-row}
-use Rattle.file_rules.specs.Map.{decode, recordAt, isPart, within, freeAt, freeCount}
-use Rattle.file_rules.specs.Sizes.{blockBytes, slotBytes, blockSlots, slotCount, nameMost, blocksOf}
+use Rattle.file_rules.specs.Map.{decode, recordAt, isPart, within, freeAt, freeCount, fileNumbers, sequences}
+use Rattle.file_rules.specs.Sizes.{slotBytes, blockSlots, slotCount, nameMost, blocksOf}
 use Rattle.file_rules.specs.Written.{blocksFor}
 
 -- ---- what was passed
@@ -57,7 +56,10 @@ parts-one d f n right s h =
 -- ---- the vacant slot
 
 -- no record bears file 3968 or a higher one
-no-part : (n k s : ℕ) → 3968 ≤ k → isPart k s (decode n) ≡ false
+abbrev fileCount : ℕ
+fileCount = fileNumbers / sequences
+
+no-part : (n k s : ℕ) → fileCount ≤ k → isPart k s (decode n) ≡ false
 unfolding isPart
 no-part n k s hk = decode-none n (isPart k s) refl refl refl (λ f t h. and-false-left (eqb t s) (eq-false {a = f} {b = k} (λ e. omega arith)))
 
@@ -78,13 +80,13 @@ listed-right : (d : Disk) (k : ℕ) → 0 < k → k < dirEnd d → held d k ≡ 
 unfolding fileRight
 listed-right d k pos h t e = sym (cond-false _ _ (eq-false {a = k} {b = 0} (omega arith)) ∙ cond-true _ _ (and-true (lt-true h) t)) ∙ e
 
-far-none : (d : Disk) (k : ℕ) → 3968 ≤ k → count blocks (λ (b : ℕ). isPart k 0 (recordAt d b)) ≡ 0
+far-none : (d : Disk) (k : ℕ) → fileCount ≤ k → count blocks (λ (b : ℕ). isPart k 0 (recordAt d b)) ≡ 0
 unfolding recordAt
 far-none d k hk = count-none blocks (λ (b : ℕ). isPart k 0 (recordAt d b)) (λ b h. no-part _ k 0 hk)
 
 module _ (d : Disk) (passed : judged d ≡ none) where
   -- a held slot from 3968 on could have no block
-  far-vacant : (k : ℕ) → 3968 ≤ k → k < dirEnd d → held d k ≡ false
+  far-vacant : (k : ℕ) → fileCount ≤ k → k < dirEnd d → held d k ≡ false
   far-vacant k hk hd =
       by-test (held d k)
       (λ t.
@@ -94,14 +96,14 @@ module _ (d : Disk) (passed : judged d ≡ none) where
       (λ t. t)
 
   -- so the lowest vacant slot fits a record
-  pub vacant-most : vacantSlot d < 4096
+  pub vacant-most : vacantSlot d < sequences
   unfolding vacantSlot
   vacant-most =
       let asked : ℕ → Bool = λ (k : ℕ). ltb 0 k && not (held d k) in
-      by-order 3968 (lowest asked (dirEnd d))
+      by-order fileCount (lowest asked (dirEnd d))
       (λ h.
-      let e : held d 3968 ≡ false = far-vacant 3968 (omega arith) (omega (arith, lowest-le asked (dirEnd d))) in
-      true≢false (asked 3968) (and-true {a = ltb 0 3968} (lt-true {a = 0} {b = 3968} (omega arith)) (ap not e)) (lowest-low asked (dirEnd d) 3968 h))
+      let e : held d fileCount ≡ false = far-vacant fileCount (omega arith) (omega (arith, lowest-le asked (dirEnd d))) in
+      true≢false (asked fileCount) (and-true {a = ltb 0 fileCount} (lt-true {a = 0} {b = fileCount} (omega arith)) (ap not e)) (lowest-low asked (dirEnd d) fileCount h))
       (λ h. omega arith)
 
 -- ---- whether there is room

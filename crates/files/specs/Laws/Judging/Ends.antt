@@ -17,7 +17,7 @@ use Rattle.sector_rules.specs.Replies.{reply}
 use Rattle.sector_rules.specs.declared.Fault.the-variants.{At, Sound}
 use Rattle.sector_rules.specs.Faults.{faultBelow, refusalAt}
 use Rattle.sector_rules.specs.Geometry.{blocks}
-use Rattle.file_rules.specs.Sizes.{blockBytes, slotCount, blocksOf}
+use Rattle.file_rules.specs.Sizes.{slotCount, blocksOf}
 use Rattle.file_rules.specs.Disk.{Disk}
 use Rattle.file_rules.specs.declared.Record.{Record}
 use Rattle.file_rules.specs.declared.Record.the-variants.{Free, System, File, Other}

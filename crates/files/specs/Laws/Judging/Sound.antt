@@ -5,34 +5,32 @@ use mathlib.Core.Bool.{Bool, true, false, not, cond, _&&_}
 use mathlib.Core.List.{List}
 use mathlib.Core.Logic.{_≢_}
 use mathlib.Core.Option.{Option, none, some}
-use Prim.Native.Nat.{ℕ, _+_, _*_, _/_, _%_, _≤_, _<_}
-use native.Mathlib.Numerals.{add-one}
+use Prim.Native.Nat.{ℕ, _+_, _≤_, _<_}
 use native.Mathlib.Omega.{arith}
 use lib.Dec.{leb, ltb, eqb}
 use lib.ListN.{length, take}
-use Rattle.laws.specs.Below.{all, all-is}
+use Rattle.laws.specs.Below.{all}
 use Rattle.laws.specs.Count.{count, count-cong}
 use Rattle.laws.specs.Lowest.{lowest, lowest-some, lowest-none}
-use Rattle.laws.specs.Numbers.{up, at16}
-use Rattle.laws.specs.Order.{by-order}
-use Rattle.laws.specs.Tests.{by-equal, true-le, lt-true, lt-false, eq-true, eq-false, cond-true, cond-false, and-false-left, and-false-right}
+use Rattle.laws.specs.Numbers.{at16}
+use Rattle.laws.specs.Tests.{true-le, lt-true, lt-false, eq-true, eq-false, cond-true, cond-false, and-false-left, and-false-right}
 use Rattle.laws.specs.Tab.{tab-length}
-use Rattle.laws.specs.Truth.{by-test, and-right}
+use Rattle.laws.specs.Truth.{and-right}
 use Rattle.sector_rules.specs.declared.Fault.{Fault}
 use Rattle.sector_rules.specs.declared.Fault.the-variants.{At, Sound}
 use Rattle.sector_rules.specs.Faults.{faultBelow, refusalAt}
-use Rattle.sector_rules.specs.Geometry.{blocks, blockSectors, imageBytes}
+use Rattle.sector_rules.specs.Geometry.{blocks, imageBytes}
 use Rattle.sector_rules.specs.Replies.{reply, refusal}
 use Rattle.sector_rules.specs.declared.Reply.{Reply}
 use Rattle.file_rules.specs.declared.Record.{Record}
 use Rattle.file_rules.specs.declared.Entry.{Entry}
 use Rattle.files.specs.declared.Verdict.{Verdict}
 use Rattle.files.specs.declared.Verdict.the-variants.{Passed, Refused}
-use Rattle.file_rules.specs.Sizes.{blockBytes, slotBytes, slotCount, nameMost, blocksOf, freeSectors}
+use Rattle.file_rules.specs.Sizes.{slotBytes, slotCount, nameMost, blocksOf, freeSectors}
 use Rattle.file_rules.specs.Disk.{Disk, diskOf}
 use Rattle.file_rules.specs.Map.{freeCount, recordAt, bears, isPart, within}
 use Rattle.file_rules.specs.Directory.{nameEq, nameOf, entryOf, slotEntry, slotName, held, dirBytes, dirEnd}
-use Rattle.file_rules.specs.Check.{recordFault, partsRight, unborne, newName, entryRight, fileRight, fileFault, freeRight, mapFault, refusal8, refusal9, refusal10, refusal11, judged}
+use Rattle.file_rules.specs.Check.{recordFault, partsRight, unborne, newName, entryRight, fileRight, fileFault, freeRight, refusal8, refusal9, refusal10, refusal11, judged}
 use Rattle.files.specs.Laws.Loading.Loaded.{recordIn, Mapped, record-mapped, fault-mapped}
 use Rattle.files.specs.Laws.Loading.Chains.{Chained, unborneIn}
 use Rattle.files.specs.Laws.Loading.Slots.{Located}

@@ -5,7 +5,6 @@ use mathlib.Core.Bool.{Bool, _&&_}
 use mathlib.Core.List.{List}
 use mathlib.Core.Option.{Option, none, some}
 use Prim.Native.Nat.{ℕ, _+_, _*_, _/_, _%_, _≤_, _<_}
-use native.Mathlib.Nat.{zero-add}
 use native.Mathlib.Omega.{arith}
 use lib.ListN.{length, getD}
 use Rattle.laws.specs.Same.{same, bytesAre, standsAt}
@@ -52,17 +51,17 @@ verdict-some (some x) r e = ap some (let z : x ≡ r = cc in z)
 
 -- ---- the header
 
-first-place : (o : ℕ) → o < 512 → byteOf 0 o ≡ o
+first-place : (o : ℕ) → o < sectorBytes → byteOf 0 o ≡ o
 unfolding byteOf
 first-place o h =
     let e : running 0 (o / sectorBytes) ≡ 0 = omega arith in
     ap (λ (n : ℕ). imageSector n * sectorBytes + o % sectorBytes) e ∙ ap (λ (n : ℕ). n * sectorBytes + o % sectorBytes) image-first ∙ omega arith
 
 -- the first sector of block 0 is the image's first
-pub first-byte : (l : List ℕ) (o : ℕ) → o < 512 → diskOf l 0 o ≡ getD l o 0
+pub first-byte : (l : List ℕ) (o : ℕ) → o < sectorBytes → diskOf l 0 o ≡ getD l o 0
 first-byte l o h = disk-in l 0 o (omega arith) (omega arith) ∙ ap (λ (i : ℕ). getD l i 0) (first-place o h)
 
-bytes-stand : (l : List ℕ) (o : ℕ) (xs : List ℕ) → 512 ≤ length l → o + length xs ≤ 512 → standsAt l o xs ≡ bytesAre (diskOf l 0) o xs
+bytes-stand : (l : List ℕ) (o : ℕ) (xs : List ℕ) → sectorBytes ≤ length l → o + length xs ≤ sectorBytes → standsAt l o xs ≡ bytesAre (diskOf l 0) o xs
 unfolding standsAt bytesAre
 bytes-stand l o xs h k =
     ap₂ (λ (x : Bool) (y : List ℕ). x && same y xs)
@@ -70,7 +69,7 @@ bytes-stand l o xs h k =
     (tab-ext (λ (i : ℕ). getD l (o + i) 0) (λ (i : ℕ). diskOf l 0 (o + i)) (length xs) (λ i b. sym (first-byte l (o + i) (omega arith))))
 
 -- a field of fixed bytes, as the code judges it
-pub bytes-fault : (f : Fault) (right : Bool) (l : List ℕ) (o : ℕ) (xs : List ℕ) → 512 ≤ length l → o + length xs ≤ 512
+pub bytes-fault : (f : Fault) (right : Bool) (l : List ℕ) (o : ℕ) (xs : List ℕ) → sectorBytes ≤ length l → o + length xs ≤ sectorBytes
     → f ≡ wrongAt o right → right ≡ standsAt l o xs → f ≡ wrongAt o (bytesAre (diskOf l 0) o xs)
 bytes-fault f right l o xs h k e q = e ∙ ap (wrongAt o) (q ∙ bytes-stand l o xs h k)
 

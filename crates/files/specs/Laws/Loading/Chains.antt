@@ -1,7 +1,6 @@
 -- The blocks of each file in chains, upwards, as the code follows them from a file to its records.
 -- Assumes nothing.
 use mathlib.Core.Path.{_≡_, refl, sym, ap, _∙_}
-use mathlib.Core.Logic.{_≢_}
 use mathlib.Core.Bool.{Bool, true, false, not, cond}
 use mathlib.Core.List.{List}
 use Prim.Native.Nat.{ℕ, zero, suc, _+_, _-_, _≤_, _<_}
@@ -18,7 +17,7 @@ use Rattle.laws.specs.Tests.{by-equal, lt-true, lt-false, eq-true, eq-false, tr
 use Rattle.sector_rules.specs.Geometry.{blocks}
 use Rattle.file_rules.specs.declared.Record.{Record}
 use Rattle.file_rules.specs.declared.Record.the-variants.{Free, System, File, Other}
-use Rattle.file_rules.specs.Map.{sequences, decode, bears}
+use Rattle.file_rules.specs.Map.{sequences, bears}
 use Rattle.files.specs.Laws.Loading.Loaded.{recordIn}
 use Rattle.files.specs.Laws.Loading.Records.{decode-none}
 use Rattle.files.specs.Laws.Loading.Parts.{partOf, part-unborne}

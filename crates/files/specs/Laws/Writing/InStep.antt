@@ -2,7 +2,7 @@
 -- Assumes nothing.
 use mathlib.Core.Path.{_≡_, refl, sym, ap, _∙_}
 use mathlib.Core.Logic.{_≢_}
-use mathlib.Core.Bool.{Bool, true, false, not, cond}
+use mathlib.Core.Bool.{Bool, true, false}
 use mathlib.Core.List.{List}
 use mathlib.Core.Option.{none}
 use Prim.Native.Nat.{ℕ, suc, _+_, _-_, _*_, _/_, _%_, _≤_, _<_}
@@ -13,7 +13,7 @@ use Rattle.laws.specs.Change.{upd, patch, upd₂-same, upd₂-other, patch-in, 
 use Rattle.laws.specs.Order.{by-order}
 use Rattle.laws.specs.Search.{lowest-hit}
 use Rattle.laws.specs.Tests.{by-equal, eq-true, eq-false, true≢false, cond-true, cond-false}
-use Rattle.laws.specs.Words.{bigEndian, highByte, big-ext, high-is}
+use Rattle.laws.specs.Words.{highByte, big-ext, high-is}
 use Rattle.sector_rules.specs.Geometry.{blocks, imageBytes}
 use Rattle.file_rules.specs.declared.Record.{Record}
 use Rattle.file_rules.specs.declared.Record.the-variants.{Free, System, File, Other}

@@ -3,7 +3,7 @@
 use mathlib.Core.Path.{_≡_, refl, sym, ap, _∙_, fun-ext}
 use mathlib.Core.Bool.{cond, _&&_}
 use mathlib.Core.List.{List}
-use Prim.Native.Nat.{ℕ, _+_, _-_, _*_, _/_, _%_, _≤_, _<_}
+use Prim.Native.Nat.{ℕ, _+_, _-_, _*_, _≤_, _<_}
 use native.Mathlib.Nat.{zero-add, add-zero}
 use native.Mathlib.Omega.{arith}
 use lib.Dec.{leb, ltb}
@@ -16,7 +16,7 @@ use Rattle.laws.specs.Order.{by-order}
 use Rattle.laws.specs.Overlay.{overlay, overlay-cong, put}
 use Rattle.laws.specs.Tab.{tab, tab-length, tab-in, tab-ext, elementAt}
 use Rattle.laws.specs.Tests.{lt-true, lt-false, by-equal, cond-true, cond-false}
-use Rattle.sector_rules.specs.Geometry.{blockSectors, blocks}
+use Rattle.sector_rules.specs.Geometry.{blocks}
 use Rattle.file_rules.specs.declared.Record.{Record}
 use Rattle.file_rules.specs.declared.Record.the-variants.{Free, System, File, Other}
 use Rattle.file_rules.specs.declared.Entry.{Entry}
@@ -24,15 +24,15 @@ use Rattle.file_rules.specs.Directory.{entryByte}
 use Rattle.file_rules.specs.Disk.{Disk, diskOf, imageOf}
 use Rattle.files.specs.Laws.Loading.Loaded.{number-cong}
 use Rattle.files.specs.Laws.Writing.Stored.{Near, near-step, patched, patched-block}
-use Rattle.file_rules.specs.Map.{decode, recordAt, isFree, freeAt, freeCount}
-use Rattle.file_rules.specs.Sizes.{blockBytes, slotBytes, nameMost, mapStart, recordBytes, freeSectors, wholeBlocks, bytesOver}
+use Rattle.file_rules.specs.Map.{decode, recordAt, isFree, freeAt, freeCount, sequences}
+use Rattle.file_rules.specs.Sizes.{blockBytes, slotBytes, nameMost, freeSectors, wholeBlocks, bytesOver}
 use Rattle.file_rules.specs.Written.{storedByte, part, zeros, setBlock, setWord, setFree, setEnd, stepUpdate}
 
 -- the record fits its three bytes
 abbrev pub Packs : Record → Type 0
 Packs Free = Unit {0}
 Packs System = Unit {0}
-Packs (File f s) = (f < 4096) × (s < 4096)
+Packs (File f s) = (f < sequences) × (s < sequences)
 Packs Other = Unit {0}
 
 -- ---- a row that is written field by field
