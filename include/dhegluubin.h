@@ -15,6 +15,7 @@
  *   stays to be freed. A pointer must be good for the length behind it; where that is 0 the pointer
  *   is not used and may be NULL. Memory that a call writes must not overlap anything else that is
  *   lent to the same call. No alignment is asked for.
+ * - It uses at most DHEG_STACK_LEN bytes of stack.
  * - It keeps no state between calls and has none in common with other calls. Several threads may
  *   call at the same time, each on its own memory; memory that is only read may be shared.
  *
@@ -48,6 +49,9 @@ extern "C" {
 /* Most bytes of a file name, and of a disk name. */
 #define DHEG_FILE_NAME_LEN 36
 #define DHEG_DISK_NAME_LEN 10
+
+/* Bytes of stack that no call exceeds. Measured, not proved: on a thread's painted stack. */
+#define DHEG_STACK_LEN 65536
 
 /* The numbers of a reply, and what their places mean. */
 enum dheg_number {

@@ -44,14 +44,47 @@ fn compiled(source: &Path, name: &str) -> PathBuf {
     program
 }
 
-#[test]
-fn every_call() {
-    let source = Path::new(env!("CARGO_MANIFEST_DIR")).join("tests/c/every_call.c");
-    let program = compiled(&source, "every_call");
+/// What a program of `tests/c` prints; its status must be 0.
+fn printed(name: &str) -> String {
+    let source = Path::new(env!("CARGO_MANIFEST_DIR")).join(format!("tests/c/{name}.c"));
+    let program = compiled(&source, name);
     let run = Command::new(&program).output().expect("the program runs");
     let text = String::from_utf8_lossy(&run.stdout);
     assert!(run.status.success(), "{}:\n{text}", run.status);
+    text.into_owned()
+}
+
+#[test]
+fn every_call() {
+    let text = printed("every_call");
     assert!(text.ends_with(" checks, 0 failed\n"), "{text}");
+}
+
+/// The bytes of stack that a call of the list uses.
+fn stack_of(text: &str, name: &str) -> usize {
+    let of_call = |line: &str| Some(line.strip_prefix(name)?.strip_prefix(' ')?.to_string());
+    let figure = text.lines().find_map(of_call);
+    figure
+        .and_then(|figure| figure.parse().ok())
+        .unwrap_or_else(|| panic!("no {name}:\n{text}"))
+}
+
+/// No call uses more stack than the header says, to which the program compares each. Those that judge
+/// a disk stay well below it.
+#[test]
+fn stack() {
+    let text = printed("stack");
+    for name in [
+        "dheg_check",
+        "dheg_list",
+        "dheg_read",
+        "dheg_add",
+        "dheg_remove",
+    ] {
+        let used = stack_of(&text, name);
+        assert!((1..40_000).contains(&used), "{name} uses {used} bytes");
+    }
+    assert_eq!(text.lines().count(), 10, "{text}");
 }
 
 /// Runs the readme's example on these bytes.

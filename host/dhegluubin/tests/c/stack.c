@@ -1,0 +1,193 @@
+/*
+ * Tells how much stack each function of the library uses: it is called on a thread whose stack was
+ * painted, and the lowest byte that is painted no more is looked for. Prints a line a function with
+ * the most of its calls here, and fails where one is over what the header says.
+ */
+
+#define _DEFAULT_SOURCE /* for pthread_attr_setstack and posix_memalign */
+
+#include "dhegluubin.h"
+
+#include <pthread.h>
+#include <stdio.h>
+#include <stdlib.h>
+#include <string.h>
+
+#define STACK_LEN (1024 * 1024)
+#define PAINT 0xA7
+#define FILES 459
+
+/* Where the directory begins in the image: block 1 stands in image sector 9. */
+#define DIRECTORY (9 * 512)
+
+static uint8_t image[DHEG_IMAGE_LEN], other[DHEG_IMAGE_LEN], hfe[DHEG_HFE_LEN];
+static uint8_t content[DHEG_IMAGE_LEN], out[DHEG_IMAGE_LEN];
+
+/* The name of the n-th file. Names of one length differ in a few letters. */
+static const uint8_t *name_of(size_t n)
+{
+    static char name[16];
+    sprintf(name, "cue_%06lu", (unsigned long)n);
+    return (const uint8_t *)name;
+}
+
+#define NAME_LEN 10
+
+/* ---- the calls, each as a thread runs it; *done tells whether it was done */
+
+static size_t file, length;
+
+static void *nothing(void *done)
+{
+    *(int *)done = 1;
+    return NULL;
+}
+
+#define CALL(NAME, REPLY)                                                                          \
+    static void *NAME(void *done)                                                                  \
+    {                                                                                              \
+        *(int *)done = (REPLY).number == DHEG_DONE;                                                \
+        return NULL;                                                                               \
+    }
+
+CALL(unpack, dheg_unpack(hfe, sizeof hfe, other, sizeof other))
+CALL(pack, dheg_pack(image, sizeof image, hfe, sizeof hfe))
+CALL(place, dheg_place(479, 2))
+CALL(format, dheg_format(image, sizeof image, (const uint8_t *)"STAGE", 5, 7))
+CALL(check, dheg_check(image, sizeof image))
+CALL(list, dheg_list(image, sizeof image, out, length))
+CALL(read, dheg_read(image, sizeof image, name_of(file), NAME_LEN, out, sizeof out))
+CALL(add, dheg_add(image, sizeof image, name_of(file), NAME_LEN, 1, content, length))
+CALL(take, dheg_remove(image, sizeof image, name_of(file), NAME_LEN))
+CALL(first_track, dheg_first_track(image, DHEG_FIRST_TRACK_LEN).reply)
+
+/* ---- the measurement */
+
+static void fail(const char *what)
+{
+    printf("failed: %s\n", what);
+    exit(1);
+}
+
+/* How deep a thread that runs the call goes. The call must be done, or refused, as is said. */
+static size_t depth(void *(*call)(void *), int wanted)
+{
+    static uint8_t *stack;
+    pthread_attr_t attributes;
+    pthread_t thread;
+    size_t kept = 0;
+    int done = -1;
+
+    if (!stack && posix_memalign((void **)&stack, 4096, STACK_LEN))
+        fail("no memory for a stack");
+    memset(stack, PAINT, STACK_LEN);
+    if (pthread_attr_init(&attributes) || pthread_attr_setstack(&attributes, stack, STACK_LEN)
+        || pthread_create(&thread, &attributes, call, &done) || pthread_join(thread, NULL))
+        fail("no thread");
+    pthread_attr_destroy(&attributes);
+    if (done != wanted)
+        fail(wanted ? "a call was refused" : "a call was not refused");
+    while (kept < STACK_LEN && stack[kept] == PAINT)
+        kept++;
+    return STACK_LEN - kept;
+}
+
+enum { UNPACK, PACK, PLACE, FORMAT, CHECK, LIST, READ, ADD, REMOVE, FIRST_TRACK, COUNT };
+
+static const char *const names[COUNT] = {"dheg_unpack", "dheg_pack",   "dheg_place", "dheg_format",
+                                         "dheg_check",  "dheg_list",   "dheg_read",  "dheg_add",
+                                         "dheg_remove", "dheg_first_track"};
+static void *(*const calls[COUNT])(void *) = {unpack, pack, place, format, check,
+                                              list,   read, add,   take,   first_track};
+static size_t most[COUNT];
+
+/* What a thread uses without a call. */
+static size_t before;
+
+static void measure(int call, int wanted)
+{
+    size_t used = depth(calls[call], wanted) - before;
+    if (used > most[call])
+        most[call] = used;
+}
+
+/* All functions that only read, on the disk as it is. */
+static void measure_readers(int sound)
+{
+    measure(CHECK, sound);
+    length = sizeof out;
+    measure(LIST, sound);
+    measure(READ, sound);
+    measure(FIRST_TRACK, 1);
+}
+
+/* A disk with as many files as fit, one by one, so that the directory grows. */
+static void fill_disk(void)
+{
+    for (file = 0; file < FILES; file++) {
+        length = file % 7;
+        if (file % 23 == 0 || file + 2 >= FILES)
+            measure(ADD, 1);
+        else if (dheg_add(image, sizeof image, name_of(file), NAME_LEN, 1, content, length).number)
+            fail("an add was refused");
+    }
+    length = 1;
+    measure(ADD, 0);
+    file = FILES / 2;
+}
+
+/* One file that takes all blocks. */
+static void one_file(void)
+{
+    measure(FORMAT, 1);
+    file = 0;
+    length = 477 * 1536 - 64;
+    measure(ADD, 1);
+    measure_readers(1);
+    measure(REMOVE, 1);
+    measure(REMOVE, 0);
+}
+
+int main(void)
+{
+    size_t byte;
+    int call, over = 0;
+
+    for (byte = 0; byte < sizeof content; byte++)
+        content[byte] = (uint8_t)(byte * 31 + byte / 251);
+    before = depth(nothing, 1);
+
+    measure(PLACE, 1);
+    measure(FORMAT, 1);
+    fill_disk();
+    measure_readers(1);
+    measure(PACK, 1);
+    measure(UNPACK, 1);
+    file = FILES - 1;
+    measure(READ, 1);
+    measure(REMOVE, 1);
+    length = 1;
+    measure(ADD, 1);
+    /* The second slot gets the name of the first, so that names are compared byte by byte. */
+    memcpy(image + DIRECTORY + 2 * DHEG_ENTRY_LEN + 14, image + DIRECTORY + DHEG_ENTRY_LEN + 14, 38);
+    measure_readers(0);
+    measure(ADD, 0);
+    measure(REMOVE, 0);
+    one_file();
+    /* A damaged sector, a wrong header, a wrong free word. */
+    memset(hfe + 200000, 0x22, 64);
+    measure(UNPACK, 0);
+    image[0] ^= 1;
+    measure(CHECK, 0);
+    image[0] ^= 1;
+    image[21] ^= 1;
+    measure(CHECK, 0);
+    measure(LIST, 0);
+    measure(FIRST_TRACK, 0);
+
+    for (call = 0; call < COUNT; call++) {
+        printf("%s %lu\n", names[call], (unsigned long)most[call]);
+        over |= most[call] > DHEG_STACK_LEN;
+    }
+    return over;
+}
