@@ -14,13 +14,15 @@ use Rattle.file_rules.specs.Disk.{Disk}
 
 -- ---- a record's number: its three bytes, highest first
 
--- below this, 12 bits of file and 12 of sequence; that of a free record; the system's
-abbrev pub fileNumbers : ℕ
-fileNumbers = 0xF80000
+-- first byte below F8: a file with its sequence
+abbrev pub fileBound : ℕ
+fileBound = 0xF80000
 
+-- FD FF FF: free
 abbrev pub freeNumber : ℕ
 freeNumber = 0xFDFFFF
 
+-- F8 00 00: the system's
 abbrev pub systemNumber : ℕ
 systemNumber = 0xF80000
 
@@ -28,10 +30,10 @@ systemNumber = 0xF80000
 abbrev pub sequences : ℕ
 sequences = 4096
 
--- what a number says
+-- what a number says: 12 bits of file and 12 of sequence, free, the system's, or none of these
 unfoldable pub decode : ℕ → Record
 decode n =
-    cond (ltb n fileNumbers) (File (n / sequences) (n % sequences))
+    cond (ltb n fileBound) (File (n / sequences) (n % sequences))
     (cond (eqb n freeNumber) Free
     (cond (eqb n systemNumber) System Other))
 

@@ -49,7 +49,7 @@ pub fn load_map(image: &[u8], map: &mut MapNumbers)
     }
 }
 
-// A block's record beside its number.
+// A block's record beside the block's number.
 pub fn map_record(map: &MapNumbers, block: BlockNumber) -> MapRecord
     requires { ⌜ block .0 < blocks ⌝ }
     ensures { λ r. ⌜ r ≡ mapRecord (now (map .entry)) block ⌝ }

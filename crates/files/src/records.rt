@@ -1,5 +1,5 @@
 // Map records: their numbers and bytes, and every question that is asked of one. A record's number has 24 bits, 12 of
-// file and 12 of sequence; those from FILE_NUMBERS on say other kinds.
+// file and 12 of sequence; those from FILE_BOUND on say other kinds.
 ghost use mathlib.Core.Path.{_≡_};
 ghost use Prim.Native.Nat.{_+_, _≤_, _<_};
 ghost use Rattle.laws.specs.Tab.{tab};
@@ -14,9 +14,9 @@ use file_rules::MapRecord;
 use file_rules::Record;
 use sectors::Geometry;
 
-// The numbers of records that bear a file are below this; those of a free record, of the system's, and of none of the
-// kinds.
-const FILE_NUMBERS: u32 = 0xF8_0000;
+// Records whose numbers are below this bear a file; then the numbers of a free record, of the system's, and of one that
+// is none of the kinds.
+const FILE_BOUND: u32 = 0xF8_0000;
 
 const FREE: u32 = 0xFD_FFFF;
 
@@ -24,7 +24,7 @@ const SYSTEM: u32 = 0xF8_0000;
 
 const OTHER: u32 = 0xFF_FFFF;
 
-// How many sequences, and file numbers, 12 bits have; no file has the last as its number.
+// How many sequences, and file numbers, 12 bits have; so this many is no file's number.
 const SEQUENCES: u32 = 4096;
 
 pub const NO_FILE: usize = SEQUENCES as usize;
@@ -38,7 +38,7 @@ const ELSEWHERE: usize = Geometry::BLOCKS + 1;
 pub fn record_of(n: u32) -> Record
     ensures { λ r. ⌜ r ≡ decode n ⌝ }
 {
-    if n < FILE_NUMBERS {
+    if n < FILE_BOUND {
         return Record::File((n / SEQUENCES) as u16, (n % SEQUENCES) as u16);
     }
     if n == FREE {

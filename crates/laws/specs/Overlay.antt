@@ -166,9 +166,3 @@ pub overlay-all : (d : List ℕ) (n : ℕ) (g : ℕ → ℕ) → length d ≡ n 
 overlay-all d n g e =
     eq-tab (overlay d 0 n g) g n (overlay-length d 0 n g ∙ e)
     (λ k h. let z : k - 0 ≡ k = omega arith in overlay-in d 0 n g k (omega arith) (omega arith) (omega arith) ∙ ap g z)
-
--- one more written, from the front
-pub overlay-first : (d : List ℕ) (n : ℕ) (g : ℕ → ℕ) (out : List ℕ) (v : ℕ)
-    → n < length d → out ≡ overlay d 0 n g → v ≡ g n → set out n v ≡ overlay d 0 (n + 1) g
-overlay-first d n g out v b e q =
-    ap (λ (i : ℕ). set out i v) (sym (zero-add n)) ∙ overlay-more d 0 n g out v (omega arith) e q

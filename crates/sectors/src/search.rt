@@ -118,13 +118,13 @@ fn field_at(part: &[u8], side: Side, j: usize) -> Sector
     requires { ⌜ j < 2 ^ 33 ⌝ }
     ensures { λ r. ⌜ r ≡ fieldAt (stream (now (part .entry)) side) j ⌝ }
 {
-    let bytes = j + 64;
+    let data_place = j + 64;
     if cells::cells_from(side, j) < FIELD_CELLS {
         return Sector::Fieldless;
     }
     if cells::data_byte(part, side, j, 48) == DATA_MARK {
         if crc_holds(part, side, j, FIELD_BYTES) {
-            return Sector::Delivered(bytes);
+            return Sector::Delivered(data_place);
         }
         return Sector::Damaged;
     }

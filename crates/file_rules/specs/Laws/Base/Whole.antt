@@ -19,7 +19,7 @@ use Rattle.file_rules.specs.declared.Record.{Record}
 use Rattle.file_rules.specs.declared.Record.the-variants.{Free, System, File, Other}
 use Rattle.file_rules.specs.Calls.{read}
 use Rattle.file_rules.specs.Disk.{Disk}
-use Rattle.file_rules.specs.Map.{fileNumbers, sequences, decode, numberOf, encode, numberAt, recordAt, isFree, bears, isPart, freeAt, freeCount, partBlock}
+use Rattle.file_rules.specs.Map.{fileBound, sequences, decode, numberOf, encode, numberAt, recordAt, isFree, bears, isPart, freeAt, freeCount, partBlock}
 use Rattle.file_rules.specs.Model.{content}
 use Rattle.file_rules.specs.Sizes.{blockBytes, mapStart, recordBytes}
 use Rattle.file_rules.specs.Written.{diskWith, part, zeros, setBlock, setRecord, freeBlock, freeBlocks}
@@ -39,7 +39,7 @@ decode-number System v = refl
 decode-number (File f s) v =
     let a : (f * sequences + s) / sequences ≡ f = omega (arith, v .0, v .1) in
     let b : (f * sequences + s) % sequences ≡ s = omega (arith, v .0, v .1) in
-    let c : f * sequences + s < fileNumbers = omega (arith, v .0, v .1) in
+    let c : f * sequences + s < fileBound = omega (arith, v .0, v .1) in
     cond-true _ _ (lt-true c) ∙ ap₂ File a b
 decode-number Other v = absurd v
 

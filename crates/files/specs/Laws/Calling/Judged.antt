@@ -32,7 +32,7 @@ use Rattle.file_rules.specs.Laws.Base.Disk.{image-disk}
 use Rattle.files.specs.Laws.Loading.Records.{decode-none}
 use Rattle.files.specs.Laws.Judging.Ends.{or-none-left, or-none-right, files-right, end-within}
 use Rattle.files.specs.Laws.Writing.Steps.{overlay-tab, put-row}
-use Rattle.file_rules.specs.Map.{decode, recordAt, isPart, within, freeAt, freeCount, fileNumbers, sequences}
+use Rattle.file_rules.specs.Map.{decode, recordAt, isPart, within, freeAt, freeCount, fileBound, sequences}
 use Rattle.file_rules.specs.Sizes.{slotBytes, blockSlots, slotCount, nameMost, blocksOf}
 use Rattle.file_rules.specs.Written.{blocksFor}
 
@@ -57,7 +57,7 @@ parts-one d f n right s h =
 
 -- no record bears file 3968 or a higher one
 abbrev fileCount : ℕ
-fileCount = fileNumbers / sequences
+fileCount = fileBound / sequences
 
 no-part : (n k s : ℕ) → fileCount ≤ k → isPart k s (decode n) ≡ false
 unfolding isPart

@@ -15,17 +15,17 @@ use Rattle.laws.specs.Words.{highByte}
 use Rattle.file_rules.specs.declared.Record.{Record}
 use Rattle.file_rules.specs.declared.Record.the-variants.{Free, System, File, Other}
 use Rattle.file_rules.specs.Check.{recordFault}
-use Rattle.file_rules.specs.Map.{fileNumbers, freeNumber, systemNumber, sequences, decode, numberOf, encode, isSystem, isOther}
+use Rattle.file_rules.specs.Map.{fileBound, freeNumber, systemNumber, sequences, decode, numberOf, encode, isSystem, isOther}
 use Rattle.file_rules.specs.Sizes.{recordBytes}
 
 -- ---- numbers
 
 -- no number says what no record of a file below 3968 does, nor one of the other kinds
 pub decode-none : (n : ℕ) (p : Record → Bool) → p Free ≡ false → p System ≡ false → p Other ≡ false
-    → ((f s : ℕ) → f < fileNumbers / sequences → p (File f s) ≡ false) → p (decode n) ≡ false
+    → ((f s : ℕ) → f < fileBound / sequences → p (File f s) ≡ false) → p (decode n) ≡ false
 unfolding decode
 decode-none n p free system other file =
-    by-order n fileNumbers
+    by-order n fileBound
     (λ h. ap p (cond-true _ _ (lt-true h)) ∙ file (n / sequences) (n % sequences) (omega arith))
     (λ h.
     ap p (cond-false _ _ (lt-false h))

@@ -7,8 +7,8 @@ use Rattle.sectors.specs.Laws.Reading.Search.{field-past, field-fits}
 use Rattle.sectors.proofs.search.field_at.Statement.{statement}
 use Rattle.sectors.proofs.search.field_at.Tie as tie
 
-add-bytes : tie.Need-add-bytes
-add-bytes c = search needs
+add-data-place : tie.Need-add-data-place
+add-data-place c = search needs
 
 cells-from-requires : tie.Need-cells-from-requires
 cells-from-requires c κs = search needs
@@ -37,7 +37,7 @@ pub field-at-spec : {M : Type 1} → statement M
 field-at-spec =
     tie.close
     (tie.spec
-    add-bytes
+    add-data-place
     cells-from-requires
     returns
     data-byte-requires
