@@ -1,4 +1,7 @@
 // Document 01's program: judges track 0 on standard input, and prints a refusal or three counts.
+use sectors::Geometry;
+
+const TRACK_BYTES: usize = Geometry::TRACK_SECTORS * Geometry::SECTOR_BYTES;
 
 // A word, a number and a line's end.
 fn line(name: &[u8], n: usize) {
@@ -9,7 +12,7 @@ fn line(name: &[u8], n: usize) {
 
 fn main() {
     // One byte more than a track, so that a longer input is seen to be longer.
-    let mut track = [0u8; 9217];
+    let mut track = [0u8; TRACK_BYTES + 1];
     let n = io::read_full(0, &mut track);
     let judged = files::first_track(&track[..n]);
     let reply = judged.reply;
