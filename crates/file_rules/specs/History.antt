@@ -1,5 +1,6 @@
 -- history: demand 3 as one statement, for every format that is accepted, whatever the image held, and every list of calls.
--- Assumes nothing: these are definitions. The proof is `history` in Laws/Theorem/History.antt.
+-- Beside it history-check: the check passes after every history.
+-- Assumes nothing: these are definitions. The proofs are `history` and `history-check` in Laws/Theorem/History.antt.
 use mathlib.Core.Path.{_≡_}
 use mathlib.Core.Bool.{true, cond}
 use mathlib.Core.List.{List, []}
@@ -12,7 +13,7 @@ use Rattle.sector_rules.specs.Geometry.{imageBytes}
 use Rattle.sector_rules.specs.Replies.{done, refusal}
 use Rattle.file_rules.specs.declared.Record.the-variants.{File}
 use Rattle.file_rules.specs.Arguments.{FormatArguments}
-use Rattle.file_rules.specs.Calls.{Outcome, format, read, add}
+use Rattle.file_rules.specs.Calls.{Outcome, format, check, read, add}
 use Rattle.file_rules.specs.Directory.{entryByte, slotByte, held, dirEnd}
 use Rattle.file_rules.specs.Disk.{Disk, diskOf, imageOf}
 use Rattle.file_rules.specs.Histories.{Call, imageOuts, imageEnd, modelOuts, modelEnd, filesLeft, mostPresent, sizeOf, fileNamed, Present}
@@ -78,3 +79,9 @@ History =
     (imageOuts (formatted old args) calls)
     (filesLeft [] calls (imageOuts (formatted old args) calls))
     (mostPresent [] calls (imageOuts (formatted old args) calls))
+
+-- after every history the image is sound: none of 1 and 8 to 11 is found
+abbrev pub HistoryCheck : Type 0
+HistoryCheck =
+    (old : List ℕ) (args : FormatArguments) (calls : List Call) → length old ≡ imageBytes → length (args .title) ≤ titleMost
+    → check (imageEnd (formatted old args) calls) ≡ done

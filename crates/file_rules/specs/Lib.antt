@@ -11,5 +11,6 @@ pub mod FirstTrack
 pub mod Model
 pub mod Histories
 pub mod History
+pub mod Refusals
 pub mod Values
 pub mod Laws

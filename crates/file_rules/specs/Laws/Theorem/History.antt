@@ -14,14 +14,13 @@ use Rattle.laws.specs.Order.{by-order}
 use Rattle.laws.specs.Search.{lowest-low}
 use Rattle.laws.specs.Tests.{lt-true, lt-false, true≢false, cond-true, cond-false, isSome}
 use Rattle.laws.specs.Truth.{by-test}
-use Rattle.sector_rules.specs.Geometry.{imageBytes}
 use Rattle.sector_rules.specs.Replies.{done, refusal}
 use Rattle.file_rules.specs.Calls.{Outcome, Written, kept, freshOwner, formatDisk, format, check, deliver, read, add}
 use Rattle.file_rules.specs.Directory.{nameEq, nameRight, held, dirEnd}
 use Rattle.file_rules.specs.Arguments.{FormatArguments}
 use Rattle.file_rules.specs.Disk.{Disk, diskOf, imageOf}
 use Rattle.file_rules.specs.Histories.{Call, imageOut, imageOuts, imageEnd, modelOuts, modelEnd, filesLeft, mostPresent, sizeOf, fileNamed, Present, toAdd, toRead}
-use Rattle.file_rules.specs.History.{dataFound, HasEntry, Belongs, Holds, formatted, History}
+use Rattle.file_rules.specs.History.{dataFound, HasEntry, Belongs, Holds, formatted, History, HistoryCheck}
 use Rattle.file_rules.specs.Laws.InModel.Agree.{agree, fresh-listed, start-is}
 use Rattle.file_rules.specs.Laws.Base.Disk.{length-image}
 use Rattle.file_rules.specs.Laws.InnerModel.Facts.{dirEnd-is, word20, held-is, found-slot}
@@ -35,7 +34,7 @@ use Rattle.file_rules.specs.Laws.Base.Results.{result-is}
 use Rattle.file_rules.specs.Laws.OnImages.Run.{format-done, format-is, format-inv, img-disk, img-sound, out-is, runs, end-inv}
 use Rattle.file_rules.specs.Laws.FilesLeft.Zero.{by-slot, filled-below, slot-entry, zero-outside}
 use Rattle.file_rules.specs.Model.{NamedFile, HeldFile, Model, dirBlocks, usable, freeWord, modelDisk, modelFormat, named, heldData}
-use Rattle.file_rules.specs.Sizes.{nameMost, titleMost}
+use Rattle.file_rules.specs.Sizes.{nameMost}
 use Rattle.file_rules.specs.Written.{blocksFor}
 
 -- ---- the accepted format
@@ -216,8 +215,7 @@ history old args calls long short =
     )
 
 -- after every history the check passes
-pub history-check : (old : List ℕ) (args : FormatArguments) (calls : List Call) → length old ≡ imageBytes → length (args .title) ≤ titleMost
-    → check (imageEnd (formatted old args) calls) ≡ done
+pub history-check : HistoryCheck
 unfolding check
 history-check old args calls long short =
     let n : Inner = endM (formatM args) calls in

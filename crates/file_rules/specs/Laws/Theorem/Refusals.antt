@@ -1,4 +1,5 @@
--- A call that is refused changes no lent byte: demand 1 for the definitions.
+-- refusals-keep: a call that is refused changes no lent byte. An add or a remove that is refused on a sound disk leaves the disk, and so the image of it
+-- (image-disk); each other refusal gives back what was lent.
 -- Assumes nothing.
 use mathlib.Core.Path.{_≡_, refl, sym, ap, _∙_, subst}
 use mathlib.Core.Bool.{Bool, true, false, cond}
@@ -6,11 +7,13 @@ use mathlib.Core.List.{List}
 use Prim.Native.Nat.{ℕ}
 use lib.Dec.{leb, ltb}
 use lib.ListN.{length}
-use Rattle.laws.specs.Tests.{cond-true, cond-false}
+use Rattle.laws.specs.Tests.{eq-false, cond-true, cond-false}
 use Rattle.laws.specs.Truth.{by-test}
 use Rattle.sector_rules.specs.Geometry.{imageBytes}
 use Rattle.sector_rules.specs.Replies.{done, refusal}
 use Rattle.sector_rules.specs.declared.Reply.{Reply}
+use Rattle.sector_rules.specs.Packed.{packReply, packHfe}
+use Rattle.sector_rules.specs.Unpacked.{unpackReply, unpackImage}
 use Rattle.file_rules.specs.Calls.{Outcome, Changed, Written, kept, refused, unwritten, imageRight, wrongLength, format, deliver, listSound, list, readSound, read, needed, addSound, imaged, add, removeSound, remove}
 use Rattle.file_rules.specs.Directory.{nameRight, dirEnd, findName, vacantSlot}
 use Rattle.file_rules.specs.Arguments.{FormatArguments}
@@ -18,11 +21,8 @@ use Rattle.file_rules.specs.Disk.{Disk, diskOf, imageOf}
 use Rattle.file_rules.specs.Laws.Base.Disk.{image-disk}
 use Rattle.file_rules.specs.Laws.Base.OnSound.{by-sound}
 use Rattle.file_rules.specs.Map.{freeCount}
-use Rattle.file_rules.specs.Model.{content}
+use Rattle.file_rules.specs.Refusals.{Refuses, RefusalsKeep}
 use Rattle.file_rules.specs.Sizes.{titleMost}
-
-abbrev Refuses : Reply → Type 0
-Refuses r = r .number ≡ 0 → ⊥
 
 -- ---- on a disk
 
@@ -40,17 +40,17 @@ by-cond : (d : Disk) (b : Bool) (x y : Changed) → KeepsDisk d x → KeepsDisk 
 by-cond d true x y p q = p
 by-cond d false x y p q = q
 
-add-keeps : (d : Disk) (name : List ℕ) (date : ℕ) (content : List ℕ) → KeepsDisk d (addSound d name date content)
+addSound-keeps : (d : Disk) (name : List ℕ) (date : ℕ) (content : List ℕ) → KeepsDisk d (addSound d name date content)
 unfolding addSound
-add-keeps d name date content =
+addSound-keeps d name date content =
     by-cond d (nameRight name) _ _
     (by-cond d (ltb (findName d name) (dirEnd d)) _ _ (refused-keeps d _)
     (by-cond d (leb (needed d (vacantSlot d) (length content)) (freeCount d)) _ _ (done-keeps d _) (refused-keeps d _)))
     (refused-keeps d _)
 
-remove-keeps : (d : Disk) (name : List ℕ) → KeepsDisk d (removeSound d name)
+removeSound-keeps : (d : Disk) (name : List ℕ) → KeepsDisk d (removeSound d name)
 unfolding removeSound
-remove-keeps d name =
+removeSound-keeps d name =
     by-cond d (nameRight name) _ _
     (by-cond d (ltb (findName d name) (dirEnd d)) _ _ (done-keeps d _) (refused-keeps d _))
     (refused-keeps d _)
@@ -68,19 +68,19 @@ imaged-keeps : (image : List ℕ) → length image ≡ imageBytes → (c : Chang
 unfolding imaged
 imaged-keeps image long c k n = ap imageOf (k n) ∙ image-disk image long
 
-pub add-refused : (image name : List ℕ) (date : ℕ) (content : List ℕ) → KeepsImage image (add image name date content)
+add-unchanged : (image name : List ℕ) (date : ℕ) (content : List ℕ) → KeepsImage image (add image name date content)
 unfolding add
-add-refused image name date content =
-    by-sound image _ _ (KeepsImage image) (unwritten-keeps image) (λ long e. imaged-keeps image long _ (add-keeps (diskOf image) name date content))
+add-unchanged image name date content =
+    by-sound image _ _ (KeepsImage image) (unwritten-keeps image) (λ long e. imaged-keeps image long _ (addSound-keeps (diskOf image) name date content))
 
-pub remove-refused : (image name : List ℕ) → KeepsImage image (remove image name)
+remove-unchanged : (image name : List ℕ) → KeepsImage image (remove image name)
 unfolding remove
-remove-refused image name =
-    by-sound image _ _ (KeepsImage image) (unwritten-keeps image) (λ long e. imaged-keeps image long _ (remove-keeps (diskOf image) name))
+remove-unchanged image name =
+    by-sound image _ _ (KeepsImage image) (unwritten-keeps image) (λ long e. imaged-keeps image long _ (removeSound-keeps (diskOf image) name))
 
-pub format-refused : (image : List ℕ) (args : FormatArguments) → KeepsImage image (format image args)
+format-unchanged : (image : List ℕ) (args : FormatArguments) → KeepsImage image (format image args)
 unfolding format
-format-refused image args =
+format-unchanged image args =
     by-test (imageRight image)
     (λ t. subst (KeepsImage image) (sym (cond-true _ _ t))
     (by-test (leb (length (args .title)) titleMost)
@@ -108,14 +108,38 @@ by-buffer : (buf : List ℕ) (b : Bool) (x y : Outcome) → KeepsBuffer buf x �
 by-buffer buf true x y p q = p
 by-buffer buf false x y p q = q
 
-pub list-refused : (image buf : List ℕ) → KeepsBuffer buf (list image buf)
+list-unchanged : (image buf : List ℕ) → KeepsBuffer buf (list image buf)
 unfolding list listSound
-list-refused image buf = by-sound image _ _ (KeepsBuffer buf) (kept-keeps buf) (λ long e. deliver-keeps _ buf)
+list-unchanged image buf = by-sound image _ _ (KeepsBuffer buf) (kept-keeps buf) (λ long e. deliver-keeps _ buf)
 
-pub read-refused : (image name buf : List ℕ) → KeepsBuffer buf (read image name buf)
+read-unchanged : (image name buf : List ℕ) → KeepsBuffer buf (read image name buf)
 unfolding read readSound
-read-refused image name buf =
+read-unchanged image name buf =
     by-sound image _ _ (KeepsBuffer buf) (kept-keeps buf)
     (λ long e. by-buffer buf (nameRight name) _ _
     (by-buffer buf (ltb (findName (diskOf image) name) (dirEnd (diskOf image))) _ _ (deliver-keeps _ buf) (kept-keeps buf (refusal 14)))
     (kept-keeps buf (refusal 12)))
+
+-- ---- the sector layer's calls
+
+unpack-unchanged : (hfe image : List ℕ) → Refuses (unpackReply hfe (length image)) → unpackImage hfe image ≡ image
+unfolding unpackImage
+unpack-unchanged hfe image n = cond-false _ _ (eq-false n)
+
+pack-unchanged : (image hfe : List ℕ) → Refuses (packReply (length image) (length hfe)) → packHfe image hfe ≡ hfe
+unfolding packHfe
+pack-unchanged image hfe n = cond-false _ _ (eq-false n)
+
+-- ---- the whole
+
+pub refusals-keep : RefusalsKeep
+refusals-keep =
+    record {
+      unpack-keeps = unpack-unchanged;
+      pack-keeps = pack-unchanged;
+      format-keeps = format-unchanged;
+      list-keeps = list-unchanged;
+      read-keeps = read-unchanged;
+      add-keeps = add-unchanged;
+      remove-keeps = remove-unchanged;
+    }
