@@ -10,10 +10,9 @@ use native.Mathlib.Omega.{arith}
 use lib.Dec.{lit<}
 use lib.ListN.{getD}
 use lib.Seq.{ext-getD}
-use Rattle.laws.specs.Count.{count}
-use Rattle.laws.specs.Numbers.{at16}
-use Rattle.laws.specs.Tab.{tab}
-use Rattle.laws.specs.Words.{bigEndian}
+use Rattle.laws.specs.Lists.{tab}
+use Rattle.laws.specs.Below.{count}
+use Rattle.laws.specs.Numbers.{at16, bigEndian}
 use Rattle.cells.specs.Crc.{crcStart, crcBit, crcBits, crcFrom, crc, crcFollows}
 use Rattle.cells.specs.Mfm.{bitOf}
 use Rattle.cells.specs.Damage.{rowBit, bitsByte, register, EndsWithCrc, wrongBits, burstBits, fewBits, longestRow, Detectable, burst, few, odd, filled}

@@ -5,8 +5,8 @@ use mathlib.Core.List.{List, [], _∷_}
 use Prim.Native.Nat.{ℕ, zero, suc, _+_, _*_, _/_, _%_}
 use lib.Bits.{bitXor}
 use lib.Dec.{eqb}
+use Rattle.laws.specs.Lists.{tab}
 use Rattle.laws.specs.Numbers.{at16}
-use Rattle.laws.specs.Tab.{tab}
 use Rattle.cells.specs.Mfm.{bitOf}
 
 -- the register's start

@@ -7,7 +7,7 @@ use mathlib.Core.List.{List}
 use Prim.Native.Nat.{ℕ, zero, suc, _+_, _-_, _*_, _/_, _%_, _^_, _≤_, _<_}
 use lib.Dec.{leb, ltb, eqb}
 use lib.ListN.{length, getD}
-use Rattle.laws.specs.Count.{count}
+use Rattle.laws.specs.Below.{count}
 use Rattle.cells.specs.Mfm.{bitOf}
 use Rattle.cells.specs.Crc.{crcBit, crcFollows}
 

@@ -3,7 +3,7 @@
 use mathlib.Core.List.{List}
 use Prim.Native.Nat.{ℕ, zero, suc, _+_, _-_, _*_, _/_, _%_, _^_}
 use lib.ListN.{getD, drop}
-use Rattle.laws.specs.Tab.{tab}
+use Rattle.laws.specs.Lists.{tab}
 use Rattle.cells.specs.declared.Side.{Side}
 
 -- where byte b of a side stands in the track's part: runs of 256 bytes, the first at `first`, each `stride` bytes after the one before

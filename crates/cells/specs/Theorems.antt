@@ -5,7 +5,7 @@ use mathlib.Core.Path.{_≡_, refl, sym, ap, _∙_}
 use mathlib.Core.Bool.{true}
 use Prim.Native.Nat.{ℕ, _*_, _/_, _<_}
 use native.Mathlib.Nat.{add-zero}
-use Rattle.laws.specs.Tab.{tab}
+use Rattle.laws.specs.Lists.{tab}
 use Rattle.cells.specs.Stream.{bytePlace, cellAt, stream, hfeSide, from, number, word, dataByte, packedBits, packed}
 use Rattle.cells.specs.Mfm.{bitOf, clock, before, mfmCell}
 use Rattle.cells.specs.Sync.{syncWord, syncAt, threeSync}

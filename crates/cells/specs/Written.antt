@@ -5,7 +5,7 @@ use mathlib.Core.Path.{_≡_}
 use mathlib.Core.Bool.{cond}
 use Prim.Native.Nat.{ℕ, zero, suc, _+_, _*_, _/_, _%_}
 use lib.Dec.{eqb}
-use Rattle.laws.specs.Tab.{tab}
+use Rattle.laws.specs.Lists.{tab}
 use Rattle.cells.specs.Stream.{word}
 use Rattle.cells.specs.Mfm.{bitOf, mfmCell}
 use Rattle.cells.specs.declared.Item.{Item}

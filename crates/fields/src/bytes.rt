@@ -2,8 +2,8 @@
 ghost use mathlib.Core.Path.{_≡_};
 ghost use Prim.Native.Nat.{ℕ, _+_, _-_, _<_, _≤_, min};
 ghost use lib.ListN.{length, getD};
-ghost use Rattle.laws.specs.Overlay.{overlay, put};
-ghost use Rattle.laws.specs.Same.{standsAt};
+ghost use Rattle.laws.specs.Lists.{standsAt};
+ghost use Rattle.laws.specs.Changes.{overlay, put};
 
 // The byte k places after the place at, 0 past the end.
 pub fn byte(s: &[u8], at: usize, k: usize) -> u8

@@ -3,9 +3,9 @@
 ghost use mathlib.Core.Path.{_≡_};
 ghost use Prim.Native.Nat.{_+_, _-_, _<_, _≤_, _^_, min};
 ghost use lib.ListN.{length, getD};
-ghost use Rattle.laws.specs.Overlay.{overlay, put};
-ghost use Rattle.laws.specs.Same.{standsAt};
-ghost use Rattle.laws.specs.Words.{highFirst, lowFirst, highByte, lowByte};
+ghost use Rattle.laws.specs.Lists.{standsAt};
+ghost use Rattle.laws.specs.Changes.{overlay, put};
+ghost use Rattle.laws.specs.Numbers.{highFirst, lowFirst, highByte, lowByte};
 
 mod bytes;
 mod words;

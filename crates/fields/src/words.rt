@@ -2,8 +2,8 @@
 ghost use mathlib.Core.Path.{_≡_};
 ghost use Prim.Native.Nat.{_<_, _^_};
 ghost use lib.ListN.{getD};
-ghost use Rattle.laws.specs.Overlay.{overlay};
-ghost use Rattle.laws.specs.Words.{highFirst, lowFirst, highByte, lowByte};
+ghost use Rattle.laws.specs.Changes.{overlay};
+ghost use Rattle.laws.specs.Numbers.{highFirst, lowFirst, highByte, lowByte};
 use crate::bytes;
 
 // A byte as a wider number.

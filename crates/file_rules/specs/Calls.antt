@@ -6,9 +6,9 @@ use mathlib.Core.List.{List, [], _++_}
 use Prim.Native.Nat.{ℕ, zero, suc, _+_, _-_, _/_, _%_}
 use lib.Dec.{leb, ltb, eqb}
 use lib.ListN.{length}
-use Rattle.laws.specs.Tab.{tab}
-use Rattle.laws.specs.Overlay.{put}
-use Rattle.laws.specs.Firsts.{firsts}
+use Rattle.laws.specs.Lists.{tab}
+use Rattle.laws.specs.Changes.{put}
+use Rattle.laws.specs.Below.{firsts}
 use Rattle.sector_rules.specs.declared.Reply.{Reply}
 use Rattle.sector_rules.specs.Replies.{reply, done, refusal}
 pub use Rattle.sector_rules.specs.Replies.{wrongLength}

@@ -5,12 +5,10 @@ use mathlib.Core.List.{List, [], _∷_}
 use mathlib.Core.Option.{Option, none, some}
 use Prim.Native.Nat.{ℕ, _%_}
 use lib.Dec.{leb, ltb, eqb}
-use Rattle.laws.specs.Tests.{orElse}
-use Rattle.laws.specs.Below.{all}
-use Rattle.laws.specs.Lowest.{lowest}
-use Rattle.laws.specs.Same.{bytesAre}
-use Rattle.laws.specs.Count.{count}
+use Rattle.laws.specs.Lists.{bytesAre}
+use Rattle.laws.specs.Below.{all, lowest, count}
 use Rattle.laws.specs.Numbers.{at16}
+use Rattle.laws.specs.Options.{orElse}
 use Rattle.sector_rules.specs.declared.Fault.{Fault}
 use Rattle.sector_rules.specs.declared.Reply.{Reply}
 use Rattle.sector_rules.specs.Replies.{refusal}

@@ -5,13 +5,10 @@ use mathlib.Core.List.{List}
 use Prim.Native.Nat.{ℕ, _+_, _*_, _/_, _%_}
 use lib.Dec.{leb, ltb, eqb}
 use lib.ListN.{length, getD, take}
-use Rattle.laws.specs.Tab.{tab}
-use Rattle.laws.specs.Below.{all}
-use Rattle.laws.specs.Lowest.{lowest}
-use Rattle.laws.specs.Same.{same}
-use Rattle.laws.specs.Change.{patch}
-use Rattle.laws.specs.Words.{highByte}
-use Rattle.laws.specs.Numbers.{at16, at32}
+use Rattle.laws.specs.Lists.{tab, same}
+use Rattle.laws.specs.Changes.{patch}
+use Rattle.laws.specs.Below.{all, lowest}
+use Rattle.laws.specs.Numbers.{highByte, at16, at32}
 use Rattle.file_rules.specs.declared.Entry.{Entry}
 use Rattle.file_rules.specs.Sizes.{blockBytes, slotBytes, blockSlots, nameMost}
 use Rattle.file_rules.specs.Disk.{Disk}

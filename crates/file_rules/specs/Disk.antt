@@ -7,8 +7,8 @@ use mathlib.Core.List.{List}
 use Prim.Native.Nat.{ℕ, _+_, _*_, _/_, _%_}
 use lib.Dec.{ltb}
 use lib.ListN.{getD}
-use Rattle.laws.specs.Tab.{tab}
-use Rattle.laws.specs.Change.{upd}
+use Rattle.laws.specs.Lists.{tab}
+use Rattle.laws.specs.Changes.{upd}
 use Rattle.sector_rules.specs.Geometry.{sectorBytes, blockSectors, blocks, imageBytes, running, imageSector, runningSector}
 use Rattle.file_rules.specs.Sizes.{blockBytes}
 

@@ -6,9 +6,9 @@ use mathlib.Core.Option.{Option, none, some}
 use Prim.Native.Nat.{ℕ}
 use lib.Dec.{eqb}
 use lib.ListN.{length}
-use Rattle.laws.specs.Tests.{orElse}
-use Rattle.laws.specs.Count.{count}
+use Rattle.laws.specs.Below.{count}
 use Rattle.laws.specs.Numbers.{at16}
+use Rattle.laws.specs.Options.{orElse}
 use Rattle.sector_rules.specs.declared.Reply.{Reply}
 use Rattle.sector_rules.specs.Replies.{done}
 use Rattle.sector_rules.specs.Geometry.{blocks}

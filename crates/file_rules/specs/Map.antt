@@ -3,9 +3,8 @@
 use mathlib.Core.Bool.{Bool, true, false, cond, _&&_}
 use Prim.Native.Nat.{ℕ, _+_, _*_, _/_, _%_}
 use lib.Dec.{ltb, eqb}
-use Rattle.laws.specs.Lowest.{lowest}
-use Rattle.laws.specs.Count.{count}
-use Rattle.laws.specs.Words.{bigEndian, highByte}
+use Rattle.laws.specs.Below.{lowest, count}
+use Rattle.laws.specs.Numbers.{bigEndian, highByte}
 use Rattle.sector_rules.specs.Geometry.{blocks}
 use Rattle.file_rules.specs.declared.Record.{Record}
 use Rattle.file_rules.specs.declared.Record.the-variants.{Free, System, File, Other}

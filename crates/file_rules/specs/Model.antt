@@ -8,12 +8,10 @@ use mathlib.Core.Option.{Option, none, some}
 use Prim.Native.Nat.{ℕ, zero, suc, _+_, _-_, _*_, _/_, _%_, max}
 use lib.Dec.{leb, ltb, eqb}
 use lib.ListN.{length, drop}
-use Rattle.laws.specs.Change.{upd}
-use Rattle.laws.specs.Count.{count, sum}
-use Rattle.laws.specs.Firsts.{firsts}
-use Rattle.laws.specs.Lowest.{lowest}
-use Rattle.laws.specs.Tab.{tab}
-use Rattle.laws.specs.Tests.{isSome}
+use Rattle.laws.specs.Lists.{tab}
+use Rattle.laws.specs.Changes.{upd}
+use Rattle.laws.specs.Below.{count, sum, firsts, lowest}
+use Rattle.laws.specs.Options.{isSome}
 use Rattle.sector_rules.specs.Geometry.{blockSectors, blocks}
 use Rattle.sector_rules.specs.Replies.{reply, done, refusal}
 use Rattle.sector_rules.specs.declared.Reply.{Reply}

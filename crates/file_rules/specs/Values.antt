@@ -3,8 +3,8 @@
 -- Assumes nothing.
 use mathlib.Core.Path.{_≡_, refl}
 use mathlib.Core.List.{[], _∷_}
-use Rattle.laws.specs.Tab.{tab, elementAt}
-use Rattle.laws.specs.Words.{bigEndian, highFirst, highByte}
+use Rattle.laws.specs.Lists.{tab, elementAt}
+use Rattle.laws.specs.Numbers.{bigEndian, highFirst, highByte}
 use Rattle.sector_rules.specs.Values.{placements, placed, listed, placement-values}
 use Rattle.file_rules.specs.declared.Record.the-variants.{Free, System, File, Other}
 use Rattle.file_rules.specs.Map.{decode, numberOf, encode}

@@ -5,9 +5,8 @@ use mathlib.Core.List.{List, [], _∷_}
 use Prim.Native.Nat.{ℕ, zero, suc, _+_, _-_, _*_, _/_, _%_}
 use lib.Dec.{ltb, eqb}
 use lib.ListN.{length, getD}
-use Rattle.laws.specs.Change.{upd, patch}
-use Rattle.laws.specs.Words.{highByte}
-use Rattle.laws.specs.Numbers.{at32}
+use Rattle.laws.specs.Changes.{upd, patch}
+use Rattle.laws.specs.Numbers.{highByte, at32}
 use Rattle.sector_rules.specs.Geometry.{tracks, sectors, blockSectors, turn, trackSectors, allSectors, blocks, sidePlace, backward}
 use Rattle.file_rules.specs.declared.Record.{Record}
 use Rattle.file_rules.specs.declared.Record.the-variants.{Free, File}

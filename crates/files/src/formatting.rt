@@ -2,7 +2,7 @@
 ghost use mathlib.Core.Path.{_≡_};
 ghost use Prim.Native.Nat.{_≤_};
 ghost use lib.ListN.{length};
-ghost use Rattle.laws.specs.Tab.{tab};
+ghost use Rattle.laws.specs.Lists.{tab};
 ghost use Rattle.sector_rules.specs.Geometry.{blocks, imageBytes};
 ghost use Rattle.file_rules.specs.Sizes.{mapStart, titleMost};
 ghost use Rattle.file_rules.specs.Disk.{diskOf, imageOf};

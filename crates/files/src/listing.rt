@@ -2,9 +2,9 @@
 ghost use mathlib.Core.Path.{_≡_};
 ghost use Prim.Native.Nat.{_+_, _≤_, _<_};
 ghost use lib.ListN.{length};
-ghost use Rattle.laws.specs.Count.{count};
-ghost use Rattle.laws.specs.Overlay.{overlay, put};
-ghost use Rattle.laws.specs.Tab.{elementAt};
+ghost use Rattle.laws.specs.Lists.{elementAt};
+ghost use Rattle.laws.specs.Changes.{overlay, put};
+ghost use Rattle.laws.specs.Below.{count};
 ghost use Rattle.sector_rules.specs.Geometry.{imageBytes};
 ghost use Rattle.file_rules.specs.Sizes.{slotBytes, slotCount};
 ghost use Rattle.file_rules.specs.Disk.{diskOf};

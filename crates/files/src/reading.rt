@@ -2,7 +2,7 @@
 ghost use mathlib.Core.Path.{_≡_};
 ghost use Prim.Native.Nat.{ℕ, _+_, _-_, _%_, _≤_, _<_, _^_};
 ghost use lib.ListN.{length};
-ghost use Rattle.laws.specs.Overlay.{overlay};
+ghost use Rattle.laws.specs.Changes.{overlay};
 ghost use Rattle.sector_rules.specs.Geometry.{sectorBytes, imageBytes};
 ghost use Rattle.file_rules.specs.Sizes.{blockBytes, slotBytes, slotCount};
 ghost use Rattle.file_rules.specs.Disk.{diskOf};

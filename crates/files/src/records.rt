@@ -2,7 +2,7 @@
 // file and 12 of sequence; those from FILE_BOUND on say other kinds.
 ghost use mathlib.Core.Path.{_≡_};
 ghost use Prim.Native.Nat.{_+_, _≤_, _<_};
-ghost use Rattle.laws.specs.Tab.{tab};
+ghost use Rattle.laws.specs.Lists.{tab};
 ghost use Rattle.sector_rules.specs.Geometry.{blocks};
 ghost use Rattle.file_rules.specs.Sizes.{recordBytes};
 ghost use Rattle.file_rules.specs.Map.{decode, numberOf, encode, isFree, bears, isPart};

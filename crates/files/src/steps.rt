@@ -2,7 +2,7 @@
 ghost use mathlib.Core.Path.{_≡_};
 ghost use Prim.Native.Nat.{ℕ, _+_, _-_, _*_, _/_, _<_, _≤_, _^_};
 ghost use lib.ListN.{length, set};
-ghost use Rattle.laws.specs.Tab.{tab};
+ghost use Rattle.laws.specs.Lists.{tab};
 ghost use Rattle.sector_rules.specs.Geometry.{sectorBytes, blockSectors, blocks, imageBytes};
 ghost use Rattle.file_rules.specs.Sizes.{slotBytes};
 ghost use Rattle.file_rules.specs.Disk.{diskOf, imageOf};

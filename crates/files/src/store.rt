@@ -2,7 +2,7 @@
 ghost use mathlib.Core.Path.{_≡_};
 ghost use Prim.Native.Nat.{ℕ, _+_, _%_, _<_, _≤_};
 ghost use lib.ListN.{length, getD};
-ghost use Rattle.laws.specs.Words.{highByte};
+ghost use Rattle.laws.specs.Numbers.{highByte};
 ghost use Rattle.sector_rules.specs.Geometry.{sectorBytes, imageBytes};
 ghost use Rattle.file_rules.specs.Sizes.{blockBytes};
 ghost use Rattle.file_rules.specs.Disk.{diskOf, imageOf};

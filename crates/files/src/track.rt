@@ -2,7 +2,7 @@
 ghost use mathlib.Core.Path.{_≡_};
 ghost use Prim.Native.Nat.{_≤_};
 ghost use lib.ListN.{length};
-ghost use Rattle.laws.specs.Tests.{orElse};
+ghost use Rattle.laws.specs.Options.{orElse};
 ghost use Rattle.sector_rules.specs.Geometry.{sectorBytes};
 ghost use Rattle.file_rules.specs.Disk.{diskOf};
 ghost use Rattle.file_rules.specs.Check.{refusal8, refusal9, refusal11};

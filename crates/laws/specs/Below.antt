@@ -1,37 +1,37 @@
--- What holds of every number below a bound: as a test, by one computation, and pointwise.
--- Assumes nothing.
-use mathlib.Core.Path.{_≡_, refl, subst, sym}
-use mathlib.Core.Logic.{⊎-elim}
-use mathlib.Core.Bool.{Bool, true, _&&_}
-use Prim.Native.Nat.{ℕ, zero, suc, _<_}
-use native.Mathlib.Nat.{le-of-suc-le-suc, not-suc-le-zero, eq-or-lt-of-le}
-use native.Mathlib.Omega.{arith}
-use lib.Dec.{eqb, ltb}
-use borrow.Author.Tests.{eqb-true, ltb-true}
-use Rattle.laws.specs.Truth.{and-left, and-right, and-both}
+-- Of the numbers below a bound: whether all pass a test, the lowest that does, how many do, the first that do; and the sum of their values.
+use mathlib.Core.Bool.{Bool, true, false, cond, _&&_}
+use mathlib.Core.List.{List, [], _∷_}
+use Prim.Native.Nat.{ℕ, zero, suc, _+_}
+use lib.Dec.{ltb}
 
--- the test passes at each number below n
+-- whether each number below n passes the test
 unfoldable pub all : (ℕ → Bool) → ℕ → Bool
 all f zero = true
 all f (suc n) = f n && all f n
 
-pub all-at : (f : ℕ → Bool) (n : ℕ) → all f n ≡ true → (k : ℕ) → k < n → f k ≡ true
-unfolding all
-all-at f zero t k h = absurd (not-suc-le-zero h)
-all-at f (suc n) t k h =
-    ⊎-elim
-    (λ (e : k ≡ n). subst (λ (m : ℕ). f m ≡ true) (sym e) (and-left (f n) (all f n) t))
-    (λ (l : k < n). all-at f n (and-right (f n) (all f n) t) k l)
-    (eq-or-lt-of-le (le-of-suc-le-suc h))
+-- the lowest number below n that passes the test, or n where none does
+unfoldable pub lowest : (ℕ → Bool) → ℕ → ℕ
+lowest test zero = zero
+lowest test (suc n) =
+    let m : ℕ = lowest test n in
+    cond (ltb m n) m (cond (test n) n (suc n))
 
-pub all-is : (f : ℕ → Bool) (n : ℕ) → ((k : ℕ) → k < n → f k ≡ true) → all f n ≡ true
-unfolding all
-all-is f zero h = refl
-all-is f (suc n) h = and-both (f n) (all f n) (h n (omega arith)) (all-is f n (λ k l. h k (omega arith)))
+-- how many numbers below n pass the test; the count is bound, so that it is computed once
+unfoldable pub count : ℕ → (ℕ → Bool) → ℕ
+count zero p = zero
+count (suc n) p = let c : ℕ = count n p in cond (p n) (suc c) c
 
--- two readings that are equal, or in order, at every number below n
-pub all-eq : (f g : ℕ → ℕ) (n : ℕ) → all (λ (k : ℕ). eqb (f k) (g k)) n ≡ true → (k : ℕ) → k < n → f k ≡ g k
-all-eq f g n t k h = eqb-true (f k) (g k) (all-at (λ (i : ℕ). eqb (f i) (g i)) n t k h)
+-- of n numbers from i on, those that pass, upwards, the first k of them
+unfoldable pub firstsFrom : ℕ → ℕ → ℕ → (ℕ → Bool) → List ℕ
+firstsFrom zero i k p = []
+firstsFrom (suc n) i zero p = []
+firstsFrom (suc n) i (suc k) p = elim (p i) [ true ↦ i ∷ firstsFrom n (suc i) k p | false ↦ firstsFrom n (suc i) (suc k) p ]
 
-pub all-lt : (f g : ℕ → ℕ) (n : ℕ) → all (λ (k : ℕ). ltb (f k) (g k)) n ≡ true → (k : ℕ) → k < n → f k < g k
-all-lt f g n t k h = ltb-true (f k) (g k) (all-at (λ (i : ℕ). ltb (f i) (g i)) n t k h)
+-- the k lowest numbers below n that pass
+unfoldable pub firsts : ℕ → ℕ → (ℕ → Bool) → List ℕ
+firsts n k p = firstsFrom n zero k p
+
+-- the sum of f 0 to f (n - 1)
+unfoldable pub sum : ℕ → (ℕ → ℕ) → ℕ
+sum zero f = zero
+sum (suc n) f = sum n f + f n

@@ -1,15 +1,7 @@
-pub mod Order
-pub mod Truth
-pub mod Tab
-pub mod Overlay
-pub mod Words
-pub mod Same
+-- The definitions that contracts and statements of all crates cite; then their laws.
+pub mod Lists
+pub mod Changes
 pub mod Below
-pub mod Lowest
-pub mod Tests
-pub mod Search
-pub mod Change
-pub mod Count
-pub mod Firsts
 pub mod Numbers
-pub mod Rows
+pub mod Options
+pub mod Laws

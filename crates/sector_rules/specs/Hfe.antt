@@ -5,9 +5,8 @@ use mathlib.Core.List.{List, [], _∷_}
 use Prim.Native.Nat.{ℕ, _+_, _*_, _%_}
 use lib.Dec.{leb, ltb, eqb}
 use lib.ListN.{length, getD, take, drop}
-use Rattle.laws.specs.Same.{standsAt}
-use Rattle.laws.specs.Numbers.{up}
-use Rattle.laws.specs.Words.{lowFirst}
+use Rattle.laws.specs.Lists.{standsAt}
+use Rattle.laws.specs.Numbers.{up, lowFirst}
 use Rattle.cells.specs.Stream.{stream, hfeSide}
 use Rattle.sector_rules.specs.declared.Fault.{Fault}
 use Rattle.sector_rules.specs.Faults.{wrongAt, orFault, lowestFault}

@@ -5,8 +5,8 @@ use mathlib.Core.List.{List, [], _∷_, _++_}
 use Prim.Native.Nat.{ℕ, _+_, _-_, _*_, _/_, _%_}
 use lib.Dec.{ltb, eqb}
 use lib.ListN.{length, getD}
-use Rattle.laws.specs.Tab.{tab, window}
-use Rattle.laws.specs.Words.{highByte, lowByte}
+use Rattle.laws.specs.Lists.{tab, window}
+use Rattle.laws.specs.Numbers.{highByte, lowByte}
 use Rattle.cells.specs.Stream.{packed}
 use Rattle.cells.specs.Crc.{crc}
 use Rattle.cells.specs.Written.{writtenCell, written}

@@ -2,8 +2,8 @@
 ghost use mathlib.Core.Path.{_≡_};
 ghost use Prim.Native.Nat.{_+_, _-_, _*_, _<_, _≤_, min};
 ghost use lib.ListN.{length};
-ghost use Rattle.laws.specs.Overlay.{overlay};
-ghost use Rattle.laws.specs.Tab.{tab};
+ghost use Rattle.laws.specs.Lists.{tab};
+ghost use Rattle.laws.specs.Changes.{overlay};
 ghost use Rattle.sector_rules.specs.Geometry.{tracks, sides, imageBytes};
 ghost use Rattle.sector_rules.specs.Hfe.{unitBytes};
 ghost use Rattle.sector_rules.specs.Packed.{headerByte, tableByte, hfeByte, hfeBytes, sideItems, trackUnits, firstUnit, packReply, packHfe};

@@ -2,7 +2,7 @@
 ghost use mathlib.Core.Path.{_≡_};
 ghost use Prim.Native.Nat.{_+_, _*_, _<_, _≤_};
 ghost use lib.ListN.{length};
-ghost use Rattle.laws.specs.Overlay.{overlay};
+ghost use Rattle.laws.specs.Changes.{overlay};
 ghost use Rattle.cells.specs.Stream.{stream};
 ghost use Rattle.sector_rules.specs.Geometry.{tracks, sides, sectors, sectorBytes, allSectors, imageBytes};
 ghost use Rattle.sector_rules.specs.Hfe.{tableFault};

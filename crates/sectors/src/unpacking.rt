@@ -2,7 +2,7 @@
 ghost use mathlib.Core.Path.{_≡_};
 ghost use Prim.Native.Nat.{_+_, _*_, _<_};
 ghost use lib.ListN.{length};
-ghost use Rattle.laws.specs.Tab.{tab};
+ghost use Rattle.laws.specs.Lists.{tab};
 ghost use Rattle.sector_rules.specs.Geometry.{tracks, sides, sectors, allSectors, imageBytes};
 ghost use Rattle.sector_rules.specs.Hfe.{tableFault};
 ghost use Rattle.sector_rules.specs.Replies.{reply};

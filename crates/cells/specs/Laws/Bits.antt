@@ -10,7 +10,8 @@ use native.Mathlib.Omega.{arith}
 use lib.Pow.{shr-shr}
 use lib.Dec.{lit<, lit≤}
 use lib.ListN.{getD}
-use Rattle.laws.specs.Tab.{tab, tab-more}
+use Rattle.laws.specs.Lists.{tab}
+use Rattle.laws.specs.Laws.Tab.{tab-more}
 use Rattle.cells.specs.Stream.{number, dataByte}
 use Rattle.cells.specs.Mfm.{bitOf}
 use Rattle.cells.specs.Crc.{crcStart, crcBit, crcBits, crcFrom, crc, crcFollows}

@@ -6,8 +6,7 @@ use native.Mathlib.Nat.{add-zero, add-suc}
 use native.Mathlib.Omega.{arith}
 use lib.Dec.{lit<}
 use lib.Pow.{pow-pos}
-use Rattle.laws.specs.Order.{by-order}
-use Rattle.laws.specs.Tests.{by-equal}
+use Rattle.laws.specs.Laws.Cases.{by-order, by-equal}
 use Rattle.cells.specs.Crc.{crcBit}
 use Rattle.cells.specs.Damage.{bitsFrom, register, burstBits}
 use Rattle.cells.specs.Laws.Register.{register-lt, held, step-zero, step-only}

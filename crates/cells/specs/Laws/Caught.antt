@@ -8,8 +8,10 @@ use native.Mathlib.Omega.{arith}
 use lib.Bits.{bitXor}
 use lib.Dec.{eqb}
 use lib.ListN.{getD}
-use Rattle.laws.specs.Count.{count, sum, count-yes, count-no, count-none}
-use Rattle.laws.specs.Tests.{by-equal, eq-true, eq-false}
+use Rattle.laws.specs.Below.{count, sum}
+use Rattle.laws.specs.Laws.Cases.{by-equal}
+use Rattle.laws.specs.Laws.Tests.{eq-true, eq-false}
+use Rattle.laws.specs.Laws.Count.{count-yes, count-no, count-none}
 use Rattle.cells.specs.Stream.{dataByte}
 use Rattle.cells.specs.Crc.{crcStart, crcFollows}
 use Rattle.cells.specs.Damage.{dataBit, bitsFrom, bitsByte, register, wrongBits, burstBits, Detectable, burst, few, odd}

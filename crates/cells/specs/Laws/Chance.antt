@@ -5,10 +5,11 @@ use Prim.Native.Nat.{ℕ, _+_, _-_, _*_, _/_, _%_, _^_, _≤_, _<_}
 use native.Mathlib.Omega.{arith}
 use lib.Dec.{leb, ltb, eqb}
 use lib.Pow.{shr-shr, pow-add}
-use Rattle.laws.specs.Order.{by-order}
-use Rattle.laws.specs.Count.{count, count-cong, count-blocks}
-use Rattle.laws.specs.Tests.{le-true, le-false, lt-true, lt-false, and-true, and-false-left, and-false-right, cond-true, cond-false, true-eq, eq-true, true≢false}
-use Rattle.laws.specs.Truth.{by-test}
+use Rattle.laws.specs.Below.{count}
+use Rattle.laws.specs.Laws.Cases.{by-order, by-test}
+use Rattle.laws.specs.Laws.Tests.{le-true, le-false, lt-true, lt-false, and-true, and-false-left, and-false-right, cond-true, cond-false, true-eq}
+use Rattle.laws.specs.Laws.Tests.{eq-true, true≢false}
+use Rattle.laws.specs.Laws.Count.{count-cong, count-blocks}
 use Rattle.cells.specs.Crc.{crcStart, crcFollows}
 use Rattle.cells.specs.Damage.{bitsFrom, bitsByte, register, filled, burst}
 use Rattle.cells.specs.Laws.Bits.{follows-zero, zero-follows, digits-bits}

@@ -4,7 +4,8 @@ use mathlib.Core.Path.{_≡_, refl, sym, ap, ap₂, _∙_}
 use Prim.Native.Nat.{ℕ, _+_, _*_, _/_, _%_}
 use native.Mathlib.Omega.{arith}
 use lib.Dec.{eqb}
-use Rattle.laws.specs.Tests.{by-equal, and-false-right, cond-false}
+use Rattle.laws.specs.Laws.Cases.{by-equal}
+use Rattle.laws.specs.Laws.Tests.{and-false-right, cond-false}
 use Rattle.cells.specs.Mfm.{clock}
 use Rattle.cells.specs.Written.{leftOut, writtenCell}
 use Rattle.cells.specs.declared.Item.{Item}

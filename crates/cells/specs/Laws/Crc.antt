@@ -10,9 +10,10 @@ use lib.Bits.{xor-lt}
 use lib.Dec.{eqb, lit<}
 use lib.ListN.{length, take, getD}
 use lib.Seq.{take-suc}
-use Rattle.laws.specs.Numbers.{at16-is}
-use Rattle.laws.specs.Tab.{tab, tab-ext}
-use Rattle.laws.specs.Tests.{true-eq, eq-true}
+use Rattle.laws.specs.Lists.{tab}
+use Rattle.laws.specs.Laws.Tests.{true-eq, eq-true}
+use Rattle.laws.specs.Laws.Tab.{tab-ext}
+use Rattle.laws.specs.Laws.Numbers.{at16-is}
 use Rattle.cells.specs.Stream.{dataByte, dataBytes}
 use Rattle.cells.specs.Mfm.{bitOf}
 use Rattle.cells.specs.Crc.{crcStart, crcBit, crcBits, crcFrom, crc, crcFollows, polynomial}

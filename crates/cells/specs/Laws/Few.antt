@@ -6,9 +6,9 @@ use mathlib.Core.Bool.{Bool, true, false, cond}
 use Prim.Native.Nat.{ℕ, zero, suc, _≤_, _<_}
 use native.Mathlib.Omega.{arith}
 use lib.Dec.{eqb, lit<}
-use Rattle.laws.specs.Tests.{by-equal, false-eq, true≢false, cond-true, cond-false}
-use Rattle.laws.specs.Truth.{by-test}
-use Rattle.laws.specs.Count.{sum}
+use Rattle.laws.specs.Below.{sum}
+use Rattle.laws.specs.Laws.Cases.{by-equal, by-test}
+use Rattle.laws.specs.Laws.Tests.{false-eq, true≢false, cond-true, cond-false}
 use Rattle.cells.specs.Crc.{crcBit, polynomial}
 use Rattle.cells.specs.Damage.{register, fewBits, longestRow}
 use Rattle.cells.specs.Laws.Register.{register-lt, step-only, step-back}

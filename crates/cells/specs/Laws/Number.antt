@@ -9,7 +9,7 @@ use native.Mathlib.Numerals.{add-one}
 use native.Mathlib.Omega.{arith}
 use lib.ListN.{length, getD}
 use lib.Pow.{pow-mono, shr-shr}
-use Rattle.laws.specs.Tab.{tab-length, tab-in, tab-more, eq-tab}
+use Rattle.laws.specs.Laws.Tab.{tab-more, eq-tab}
 use Rattle.cells.specs.Stream.{number, word, dataByte, dataBytes, from}
 use Rattle.cells.specs.Laws.Stream.{from-at}
 
@@ -97,14 +97,6 @@ number-digits c step i w m hw e (suc n) h =
 pub bytes-more : (c : List ℕ) (k n : ℕ) → dataBytes c k (n + 1) ≡ dataBytes c k n ++ (dataByte c (k + 16 * n) ∷ [])
 unfolding dataBytes
 bytes-more c k n = tab-more (λ (j : ℕ). dataByte c (k + 16 * j)) n
-
-pub bytes-length : (c : List ℕ) (k n : ℕ) → length (dataBytes c k n) ≡ n
-unfolding dataBytes
-bytes-length c k n = tab-length (λ (j : ℕ). dataByte c (k + 16 * j)) n
-
-pub bytes-in : (c : List ℕ) (k n j : ℕ) → j < n → getD (dataBytes c k n) j 0 ≡ dataByte c (k + 16 * j)
-unfolding dataBytes
-bytes-in c k n j h = tab-in (λ (m : ℕ). dataByte c (k + 16 * m)) n j h
 
 -- bytes that are read one by one are a list
 pub bytes-list : (c : List ℕ) (k : ℕ) (xs : List ℕ) → ((j : ℕ) → j < length xs → dataByte c (k + 16 * j) ≡ getD xs j 0)

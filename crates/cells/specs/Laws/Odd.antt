@@ -5,7 +5,7 @@ use Prim.Native.Nat.{ℕ, zero, suc, _+_, _*_, _/_, _%_, _^_, _<_}
 use native.Mathlib.Omega.{arith}
 use lib.Bits.{bitXor}
 use lib.Pow.{field, mod-mod-pow, shr-shr}
-use Rattle.laws.specs.Count.{sum}
+use Rattle.laws.specs.Below.{sum}
 use Rattle.cells.specs.Crc.{crcBit, polynomial}
 use Rattle.cells.specs.Damage.{register}
 use Rattle.cells.specs.Laws.Xor.{xor-digit, xor-half}

@@ -7,7 +7,7 @@ use native.Mathlib.Nat.{zero-div, zero-mod, mod-lt, zero-lt-suc, mul-le-mul-left
 use native.Mathlib.Omega.{arith}
 use lib.ListN.{length, getD, length-drop}
 use lib.Seq.{getD-drop}
-use Rattle.laws.specs.Tab.{tab-length, tab-in, tab-out, tab-below, getD-past}
+use Rattle.laws.specs.Laws.Tab.{tab-length, tab-in, tab-out, tab-below, getD-past}
 use Rattle.cells.specs.declared.Side.{Side}
 use Rattle.cells.specs.Stream.{bytePlace, cellAt, stream, from}
 

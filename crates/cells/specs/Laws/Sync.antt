@@ -9,8 +9,8 @@ use native.Mathlib.Omega.{arith}
 use lib.Dec.{leb, eqb}
 use lib.ListN.{length, getD}
 use borrow.Author.Tests.{le-leb, lt-leb, leb-true, eq-eqb, ne-eqb, eqb-true}
-use Rattle.laws.specs.Order.{by-order}
-use Rattle.laws.specs.Truth.{and-left, and-right}
+use Rattle.laws.specs.Laws.Cases.{by-order}
+use Rattle.laws.specs.Laws.Tests.{and-left, and-right}
 use Rattle.cells.specs.Stream.{word, number, from}
 use Rattle.cells.specs.Sync.{syncWord, syncAt, threeSync}
 use Rattle.cells.specs.Laws.Stream.{from-length}

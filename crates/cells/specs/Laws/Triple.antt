@@ -7,7 +7,7 @@ use Prim.Native.Nat.{ℕ, zero, suc, _+_, _-_, _*_, _/_, _%_, _^_, _≤_, _<_}
 use native.Mathlib.Omega.{arith}
 use lib.Dec.{lit<}
 use lib.ListN.{length}
-use Rattle.laws.specs.Tab.{tab-in}
+use Rattle.laws.specs.Laws.Tab.{tab-in}
 use Rattle.cells.specs.Stream.{number, word}
 use Rattle.cells.specs.Mfm.{bitOf}
 use Rattle.cells.specs.Sync.{syncWord, syncAt}

@@ -8,7 +8,8 @@ use native.Mathlib.Omega.{arith}
 use lib.Dec.{eqb, lit≤}
 use lib.ListN.{length, getD}
 use borrow.Author.Tests.{eq-eqb, ne-eqb, eqb-true, eqb-false}
-use Rattle.laws.specs.Tab.{tab, tab-length, tab-in, tab-below}
+use Rattle.laws.specs.Lists.{tab}
+use Rattle.laws.specs.Laws.Tab.{tab-length, tab-in, tab-below}
 use Rattle.cells.specs.Laws.Packed.{packedBits-same}
 use Rattle.cells.specs.Stream.{packed, number, dataByte}
 use Rattle.cells.specs.Mfm.{bitOf, clock, before, mfmCell}

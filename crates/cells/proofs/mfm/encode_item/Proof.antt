@@ -5,7 +5,8 @@ use Prim.Native.Nat.{_-_, _^_, _≤_, _<_}
 use native.Mathlib.Omega.{arith}
 use native.Mathlib.Nat.{one-mul, zero-add}
 use borrow.Author.Needs.{needs}
-use Rattle.laws.specs.Tab.{tab, tab-in, tab-below}
+use Rattle.laws.specs.Lists.{tab}
+use Rattle.laws.specs.Laws.Tab.{tab-in, tab-below}
 use Rattle.cells.specs.Stream.{number, word}
 use Rattle.cells.specs.Written.{itemCell, itemWord}
 use Rattle.cells.specs.Laws.Number.{number-more, number-below}

@@ -4,7 +4,7 @@ use mathlib.Core.Path.{sym}
 use Prim.Native.Nat.{_+_}
 use native.Mathlib.Omega.{arith}
 use borrow.Author.Needs.{needs}
-use Rattle.laws.specs.Tab.{getD-past}
+use Rattle.laws.specs.Laws.Tab.{getD-past}
 use Rattle.fields.proofs.bytes.byte.Statement.{statement}
 use Rattle.fields.proofs.bytes.byte.Tie as tie
 

@@ -6,8 +6,9 @@ use native.Mathlib.Omega.{arith}
 use native.Mathlib.Nat.{zero-add}
 use lib.ListN.{length, length-set}
 use borrow.Author.Needs.{needs}
-use Rattle.laws.specs.Overlay.{overlay-done, overlay, put, overlay-none, overlay-more}
-use Rattle.laws.specs.Tab.{elementAt}
+use Rattle.laws.specs.Lists.{elementAt}
+use Rattle.laws.specs.Changes.{overlay, put}
+use Rattle.laws.specs.Laws.Overlay.{overlay-done, overlay-none, overlay-more}
 use Rattle.fields.proofs.bytes.copy_into.Statement.{statement}
 use Rattle.fields.proofs.bytes.copy_into.Tie as tie
 

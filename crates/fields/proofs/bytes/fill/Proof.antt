@@ -5,7 +5,8 @@ use Prim.Native.Nat.{ℕ, _-_, _≤_, min}
 use native.Mathlib.Omega.{arith}
 use lib.ListN.{length, length-set}
 use borrow.Author.Needs.{needs}
-use Rattle.laws.specs.Overlay.{overlay-done, overlay, overlay-none, overlay-more}
+use Rattle.laws.specs.Changes.{overlay}
+use Rattle.laws.specs.Laws.Overlay.{overlay-done, overlay-none, overlay-more}
 use Rattle.fields.proofs.bytes.fill.Statement.{statement}
 use Rattle.fields.proofs.bytes.fill.Tie as tie
 

@@ -6,7 +6,7 @@ use native.Mathlib.Omega.{arith}
 use lib.ListN.{length, getD}
 use borrow.Author.Needs.{needs}
 use borrow.Author.Count.{below-more}
-use Rattle.laws.specs.Same.{stands-past, stands-all, stands-not}
+use Rattle.laws.specs.Laws.Same.{stands-past, stands-all, stands-not}
 use Rattle.fields.proofs.bytes.stands_at.Statement.{statement}
 use Rattle.fields.proofs.bytes.stands_at.Tie as tie
 

@@ -2,8 +2,8 @@
 -- Assumes nothing.
 use native.Mathlib.Omega.{arith}
 use borrow.Author.Needs.{needs}
-use Rattle.laws.specs.Tab.{elementAt}
-use Rattle.laws.specs.Words.{bigEndian, highFirst}
+use Rattle.laws.specs.Lists.{elementAt}
+use Rattle.laws.specs.Numbers.{bigEndian, highFirst}
 use Rattle.fields.proofs.words.high2.Statement.{statement}
 use Rattle.fields.proofs.words.high2.Tie as tie
 

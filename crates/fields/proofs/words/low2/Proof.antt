@@ -2,7 +2,7 @@
 -- Assumes nothing.
 use native.Mathlib.Omega.{arith}
 use borrow.Author.Needs.{needs}
-use Rattle.laws.specs.Words.{lowFirst}
+use Rattle.laws.specs.Numbers.{lowFirst}
 use Rattle.fields.proofs.words.low2.Statement.{statement}
 use Rattle.fields.proofs.words.low2.Tie as tie
 

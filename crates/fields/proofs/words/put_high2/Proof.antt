@@ -2,8 +2,10 @@
 -- Assumes nothing.
 use mathlib.Core.Path.{ap, _∙_}
 use borrow.Author.Needs.{needs}
-use Rattle.laws.specs.Overlay.{put, put-tab}
-use Rattle.laws.specs.Words.{highByte, high-row2}
+use Rattle.laws.specs.Changes.{put}
+use Rattle.laws.specs.Numbers.{highByte}
+use Rattle.laws.specs.Laws.Overlay.{put-tab}
+use Rattle.laws.specs.Laws.Numbers.{high-row2}
 use Rattle.fields.proofs.words.put_high2.Statement.{statement}
 use Rattle.fields.proofs.words.put_high2.Tie as tie
 

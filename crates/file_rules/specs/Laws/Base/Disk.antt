@@ -8,11 +8,12 @@ use native.Mathlib.Omega.{arith}
 use lib.Dec.{ltb}
 use lib.ListN.{length, getD, set, length-set}
 use lib.Seq.{ext-getD, getD-set-same, getD-set-other}
-use Rattle.laws.specs.Change.{upd, upd-same, upd-other, upd₂-same, upd₂-other}
-use Rattle.laws.specs.Order.{by-order}
-use Rattle.laws.specs.Search.{tab-self}
-use Rattle.laws.specs.Tab.{tab, tab-length, tab-in, tab-ext}
-use Rattle.laws.specs.Tests.{lt-true, lt-false, by-equal, cond-true, cond-false, and-true, and-false-left, and-false-right}
+use Rattle.laws.specs.Lists.{tab}
+use Rattle.laws.specs.Changes.{upd}
+use Rattle.laws.specs.Laws.Cases.{by-order, by-equal}
+use Rattle.laws.specs.Laws.Tests.{lt-true, lt-false, cond-true, cond-false, and-true, and-false-left, and-false-right}
+use Rattle.laws.specs.Laws.Tab.{tab-self, tab-length, tab-in, tab-ext}
+use Rattle.laws.specs.Laws.Changes.{upd-same, upd-other, upd₂-same, upd₂-other}
 use Rattle.sector_rules.specs.Geometry.{sectorBytes, blockSectors, allSectors, blocks, imageBytes, running, imageSector, runningSector}
 use Rattle.sector_rules.specs.Laws.Base.Geometry.{image-lt, running-lt, running-image, image-running}
 use Rattle.file_rules.specs.Disk.{Disk, byteOf, blockOf, offsetOf, diskOf, imageOf, setByte}

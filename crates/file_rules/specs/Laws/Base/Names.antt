@@ -6,9 +6,8 @@ use mathlib.Core.List.{List}
 use Prim.Native.Nat.{ℕ, _≤_}
 use lib.Dec.{leb}
 use lib.ListN.{length}
-use Rattle.laws.specs.Same.{same-eq, eq-same}
-use Rattle.laws.specs.Tests.{le-true, true-le, and-true}
-use Rattle.laws.specs.Truth.{and-left, and-right}
+use Rattle.laws.specs.Laws.Tests.{le-true, true-le, and-true, and-left, and-right}
+use Rattle.laws.specs.Laws.Same.{same-eq, eq-same}
 use Rattle.file_rules.specs.Directory.{nameEq, nameRight}
 use Rattle.file_rules.specs.Model.{acceptable}
 use Rattle.file_rules.specs.Sizes.{nameMost}

@@ -7,10 +7,11 @@ use native.Mathlib.Omega.{arith}
 use lib.Dec.{leb}
 use lib.ListN.{length, getD, drop, length-append, length-drop, List·getD-append}
 use lib.Seq.{getD-append-add, getD-drop}
-use Rattle.laws.specs.Overlay.{put, overlay-is}
-use Rattle.laws.specs.Tab.{elementAt}
-use Rattle.laws.specs.Tests.{true-le, cond-true, cond-false}
-use Rattle.laws.specs.Truth.{by-test}
+use Rattle.laws.specs.Lists.{elementAt}
+use Rattle.laws.specs.Changes.{put}
+use Rattle.laws.specs.Laws.Cases.{by-test}
+use Rattle.laws.specs.Laws.Tests.{true-le, cond-true, cond-false}
+use Rattle.laws.specs.Laws.Overlay.{overlay-is}
 use Rattle.sector_rules.specs.Replies.{reply}
 use Rattle.file_rules.specs.Calls.{kept, deliver}
 use Rattle.file_rules.specs.Model.{resultOf}

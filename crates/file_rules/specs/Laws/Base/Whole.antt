@@ -6,14 +6,15 @@ use mathlib.Core.Bool.{Bool, true, cond}
 use Prim.Native.Nat.{ℕ, zero, suc, _+_, _-_, _*_, _/_, _%_, _≤_, _<_}
 use native.Mathlib.Omega.{arith}
 use lib.Dec.{ltb}
-use Rattle.laws.specs.Change.{upd, patch, upd-same, upd-other, upd₂-same, upd₂-other, patch-in, patch-below, patch-above, by-place}
-use Rattle.laws.specs.Count.{count, count-cong}
-use Rattle.laws.specs.Lowest.{lowest}
-use Rattle.laws.specs.Order.{by-order}
-use Rattle.laws.specs.Search.{lowest-cong}
-use Rattle.laws.specs.Tests.{lt-true, lt-false, eq-false, true≢false, by-equal, cond-true, cond-false, and-true, and-false-left, and-false-right}
-use Rattle.laws.specs.Truth.{by-test}
-use Rattle.laws.specs.Words.{bigEndian, high-is}
+use Rattle.laws.specs.Changes.{upd, patch}
+use Rattle.laws.specs.Below.{count, lowest}
+use Rattle.laws.specs.Numbers.{bigEndian}
+use Rattle.laws.specs.Laws.Cases.{by-order, by-equal, by-test}
+use Rattle.laws.specs.Laws.Tests.{lt-true, lt-false, eq-false, true≢false, cond-true, cond-false, and-true, and-false-left, and-false-right}
+use Rattle.laws.specs.Laws.Lowest.{lowest-cong}
+use Rattle.laws.specs.Laws.Changes.{upd-same, upd-other, upd₂-same, upd₂-other, patch-in, patch-below, patch-above, by-place}
+use Rattle.laws.specs.Laws.Count.{count-cong}
+use Rattle.laws.specs.Laws.Numbers.{high-is}
 use Rattle.sector_rules.specs.Geometry.{blocks}
 use Rattle.file_rules.specs.declared.Record.{Record}
 use Rattle.file_rules.specs.declared.Record.the-variants.{Free, System, File, Other}

@@ -7,10 +7,9 @@ use mathlib.Core.Option.{some}
 use Prim.Native.Nat.{ℕ, suc, _≤_, _<_, max}
 use native.Mathlib.Omega.{arith}
 use lib.ListN.{length}
-use Rattle.laws.specs.Order.{by-order}
-use Rattle.laws.specs.Same.{same}
-use Rattle.laws.specs.Tests.{lt-true, lt-false, cond-true, cond-false}
-use Rattle.laws.specs.Truth.{by-test}
+use Rattle.laws.specs.Lists.{same}
+use Rattle.laws.specs.Laws.Cases.{by-order, by-test}
+use Rattle.laws.specs.Laws.Tests.{lt-true, lt-false, cond-true, cond-false}
 use Rattle.sector_rules.specs.Replies.{reply, done, refusal}
 use Rattle.sector_rules.specs.declared.Reply.{Reply}
 use Rattle.file_rules.specs.Calls.{Outcome, kept}

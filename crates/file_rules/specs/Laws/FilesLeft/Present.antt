@@ -8,11 +8,13 @@ use mathlib.Core.Option.{none, some}
 use Prim.Native.Nat.{ℕ, suc, _+_, _≤_, _<_}
 use native.Mathlib.Omega.{arith}
 use lib.ListN.{length}
-use Rattle.laws.specs.Change.{upd, upd-same, upd-other}
-use Rattle.laws.specs.Count.{count, sum, count-none, count-drop, sum-change, sum-none}
-use Rattle.laws.specs.Order.{by-order}
-use Rattle.laws.specs.Tests.{true≢false, by-equal, cond-true, cond-false, isSome}
-use Rattle.laws.specs.Truth.{by-test}
+use Rattle.laws.specs.Changes.{upd}
+use Rattle.laws.specs.Below.{count, sum}
+use Rattle.laws.specs.Options.{isSome}
+use Rattle.laws.specs.Laws.Cases.{by-order, by-equal, by-test}
+use Rattle.laws.specs.Laws.Tests.{true≢false, cond-true, cond-false}
+use Rattle.laws.specs.Laws.Changes.{upd-same, upd-other}
+use Rattle.laws.specs.Laws.Count.{count-none, count-drop, sum-change, sum-none}
 use Rattle.file_rules.specs.Directory.{nameEq}
 use Rattle.file_rules.specs.Histories.{without, sizeOf, fileNamed, Present}
 use Rattle.file_rules.specs.Laws.Base.Names.{name-sym, name-trans}

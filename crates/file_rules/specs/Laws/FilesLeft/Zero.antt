@@ -6,8 +6,9 @@ use mathlib.Core.Option.{none, some}
 use Prim.Native.Nat.{ℕ, zero, suc, _+_, _*_, _/_, _%_, _≤_, _<_}
 use native.Mathlib.Omega.{arith}
 use lib.ListN.{length, List·getD-eq-default}
-use Rattle.laws.specs.Order.{by-order}
-use Rattle.laws.specs.Tests.{lt-true, lt-false, true≢false, by-equal, cond-true, cond-false, isSome}
+use Rattle.laws.specs.Options.{isSome}
+use Rattle.laws.specs.Laws.Cases.{by-order, by-equal}
+use Rattle.laws.specs.Laws.Tests.{lt-true, lt-false, true≢false, cond-true, cond-false}
 use Rattle.sector_rules.specs.Geometry.{blocks}
 use Rattle.file_rules.specs.declared.Record.{Record}
 use Rattle.file_rules.specs.declared.Record.the-variants.{Free, System, File, Other}

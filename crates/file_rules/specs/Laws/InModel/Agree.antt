@@ -9,11 +9,13 @@ use Prim.Native.Nat.{ℕ, zero, suc, _+_, _≤_, _<_}
 use native.Mathlib.Omega.{arith}
 use lib.Dec.{ltb}
 use lib.ListN.{length, getD}
-use Rattle.laws.specs.Change.{upd, upd-same, upd-other}
-use Rattle.laws.specs.Firsts.{firsts, firsts-picks, firsts-cong}
-use Rattle.laws.specs.Order.{by-order}
-use Rattle.laws.specs.Tests.{lt-true, lt-false, true-le, true≢false, by-equal, cond-true, cond-false, isSome}
-use Rattle.laws.specs.Truth.{by-test}
+use Rattle.laws.specs.Changes.{upd}
+use Rattle.laws.specs.Below.{firsts}
+use Rattle.laws.specs.Options.{isSome}
+use Rattle.laws.specs.Laws.Cases.{by-order, by-equal, by-test}
+use Rattle.laws.specs.Laws.Tests.{lt-true, lt-false, true-le, true≢false, cond-true, cond-false}
+use Rattle.laws.specs.Laws.Changes.{upd-same, upd-other}
+use Rattle.laws.specs.Laws.Firsts.{firsts-picks, firsts-cong}
 use Rattle.sector_rules.specs.Geometry.{blocks}
 use Rattle.sector_rules.specs.Replies.{refusal}
 use Rattle.file_rules.specs.declared.Record.{Record}

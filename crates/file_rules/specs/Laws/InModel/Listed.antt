@@ -10,11 +10,12 @@ use native.Mathlib.Omega.{arith}
 use lib.Dec.{eqb}
 use lib.ListN.{length, getD, length-append, List·getD-append}
 use lib.Seq.{getD-append-add}
-use Rattle.laws.specs.Change.{upd, upd-same, upd-other}
-use Rattle.laws.specs.Firsts.{Picks}
-use Rattle.laws.specs.Order.{by-order}
-use Rattle.laws.specs.Tests.{eq-true, eq-false, true-eq, true≢false, by-equal, cond-true, cond-false, isSome}
-use Rattle.laws.specs.Truth.{by-test}
+use Rattle.laws.specs.Changes.{upd}
+use Rattle.laws.specs.Options.{isSome}
+use Rattle.laws.specs.Laws.Cases.{by-order, by-equal, by-test}
+use Rattle.laws.specs.Laws.Tests.{eq-true, eq-false, true-eq, true≢false, cond-true, cond-false}
+use Rattle.laws.specs.Laws.Changes.{upd-same, upd-other}
+use Rattle.laws.specs.Laws.Firsts.{Picks}
 use Rattle.sector_rules.specs.Geometry.{blocks}
 use Rattle.file_rules.specs.declared.Record.{Record}
 use Rattle.file_rules.specs.declared.Record.the-variants.{Free, System, File, Other}

@@ -9,18 +9,20 @@ use Prim.Native.Nat.{ℕ, zero, suc, _+_, _-_, _*_, _/_, _%_, _≤_, _<_}
 use native.Mathlib.Omega.{arith}
 use lib.Dec.{ltb, eqb}
 use lib.ListN.{length, getD, take}
-use Rattle.laws.specs.Below.{all-is}
-use Rattle.laws.specs.Change.{patch, patch-in, patch-below}
-use Rattle.laws.specs.Count.{count, count-cong, count-one, sum-at}
-use Rattle.laws.specs.Lowest.{lowest, lowest-none}
-use Rattle.laws.specs.Numbers.{at16, at32, up, at16-is, high2-at, high4-at}
-use Rattle.laws.specs.Order.{by-order}
-use Rattle.laws.specs.Same.{same, bytesAre}
-use Rattle.laws.specs.Search.{lowest-hit, lowest-only, lowest-cong, all-false, tab-self, take-tab}
-use Rattle.laws.specs.Tab.{tab, tab-in, tab-ext}
-use Rattle.laws.specs.Tests.{lt-true, lt-false, le-true, eq-true, eq-false, true-eq, true≢false, by-equal, cond-true, cond-false, and-true, and-false-left, and-false-right, isSome, orElse}
-use Rattle.laws.specs.Truth.{and-left, and-right, by-test}
-use Rattle.laws.specs.Words.{bigEndian, highByte}
+use Rattle.laws.specs.Lists.{same, bytesAre, tab}
+use Rattle.laws.specs.Changes.{patch}
+use Rattle.laws.specs.Below.{count, lowest}
+use Rattle.laws.specs.Numbers.{at16, at32, up, bigEndian, highByte}
+use Rattle.laws.specs.Options.{isSome, orElse}
+use Rattle.laws.specs.Laws.Cases.{by-order, by-equal, by-test}
+use Rattle.laws.specs.Laws.Tests.{lt-true, lt-false, le-true, eq-true, eq-false, true-eq, true≢false, cond-true, cond-false, and-true, and-false-left}
+use Rattle.laws.specs.Laws.Tests.{and-false-right, and-left, and-right}
+use Rattle.laws.specs.Laws.All.{all-is, all-false}
+use Rattle.laws.specs.Laws.Lowest.{lowest-none, lowest-hit, lowest-only, lowest-cong}
+use Rattle.laws.specs.Laws.Tab.{tab-self, take-tab, tab-in, tab-ext}
+use Rattle.laws.specs.Laws.Changes.{patch-in, patch-below}
+use Rattle.laws.specs.Laws.Count.{count-cong, count-one, sum-at}
+use Rattle.laws.specs.Laws.Numbers.{at16-is, high2-at, high4-at}
 use Rattle.sector_rules.specs.declared.Fault.the-variants.{At, Sound}
 use Rattle.sector_rules.specs.Faults.{faultBelow, refusalAt}
 use Rattle.sector_rules.specs.Geometry.{blockSectors, blocks, sidePlace, backward}

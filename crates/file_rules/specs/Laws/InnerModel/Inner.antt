@@ -6,11 +6,9 @@ use mathlib.Core.Option.{none, some}
 use Prim.Native.Nat.{ℕ, suc, _+_, max}
 use lib.Dec.{leb, ltb}
 use lib.ListN.{length}
-use Rattle.laws.specs.Change.{upd}
-use Rattle.laws.specs.Count.{count, sum}
-use Rattle.laws.specs.Firsts.{firsts}
-use Rattle.laws.specs.Lowest.{lowest}
-use Rattle.laws.specs.Tests.{isSome}
+use Rattle.laws.specs.Changes.{upd}
+use Rattle.laws.specs.Below.{count, sum, firsts, lowest}
+use Rattle.laws.specs.Options.{isSome}
 use Rattle.sector_rules.specs.Geometry.{blocks}
 use Rattle.sector_rules.specs.Replies.{reply, done, refusal}
 use Rattle.sector_rules.specs.declared.Reply.{Reply}

@@ -4,12 +4,13 @@ use mathlib.Core.Path.{_≡_, refl, sym, ap, _∙_, subst, fun-ext}
 use mathlib.Core.Logic.{_≢_}
 use Prim.Native.Nat.{ℕ, zero, suc, _+_, _-_, _*_, _/_, _%_, _<_}
 use native.Mathlib.Omega.{arith}
-use Rattle.laws.specs.Change.{upd, patch, upd-same, upd-other, patch-in, patch-below, patch-above, by-place, patch-cong, patch-twice, patch-swap}
-use Rattle.laws.specs.Count.{count}
-use Rattle.laws.specs.Numbers.{at32, high4-at}
-use Rattle.laws.specs.Search.{lowest-only}
-use Rattle.laws.specs.Tests.{true≢false}
-use Rattle.laws.specs.Words.{bigEndian, highByte}
+use Rattle.laws.specs.Changes.{upd, patch}
+use Rattle.laws.specs.Below.{count}
+use Rattle.laws.specs.Numbers.{at32, bigEndian, highByte}
+use Rattle.laws.specs.Laws.Tests.{true≢false}
+use Rattle.laws.specs.Laws.Lowest.{lowest-only}
+use Rattle.laws.specs.Laws.Changes.{upd-same, upd-other, patch-in, patch-below, patch-above, by-place, patch-cong, patch-twice, patch-swap}
+use Rattle.laws.specs.Laws.Numbers.{high4-at}
 use Rattle.sector_rules.specs.Geometry.{blocks}
 use Rattle.file_rules.specs.declared.Record.{Record}
 use Rattle.file_rules.specs.declared.Record.the-variants.{Free, System, File, Other}

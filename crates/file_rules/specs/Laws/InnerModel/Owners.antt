@@ -8,12 +8,14 @@ use Prim.Native.Nat.{ℕ, zero, suc, _+_, _≤_, _<_}
 use native.Mathlib.Omega.{arith}
 use lib.Dec.{ltb, eqb}
 use lib.ListN.{length}
-use Rattle.laws.specs.Change.{upd, upd-same, upd-other}
-use Rattle.laws.specs.Count.{count, count-cong, count-none, count-drop, count-one, count-or}
-use Rattle.laws.specs.Firsts.{Picks, picks-cong}
-use Rattle.laws.specs.Order.{by-order}
-use Rattle.laws.specs.Tests.{lt-true, lt-false, eq-true, eq-false, true-eq, true≢false, by-equal, cond-true, cond-false, and-true, and-false-left, and-false-right, or-left, or-right, or-none}
-use Rattle.laws.specs.Truth.{by-test}
+use Rattle.laws.specs.Changes.{upd}
+use Rattle.laws.specs.Below.{count}
+use Rattle.laws.specs.Laws.Cases.{by-order, by-equal, by-test}
+use Rattle.laws.specs.Laws.Tests.{lt-true, lt-false, eq-true, eq-false, true-eq, true≢false, cond-true, cond-false, and-true, and-false-left}
+use Rattle.laws.specs.Laws.Tests.{and-false-right, or-left, or-right, or-none}
+use Rattle.laws.specs.Laws.Changes.{upd-same, upd-other}
+use Rattle.laws.specs.Laws.Count.{count-cong, count-none, count-drop, count-one, count-or}
+use Rattle.laws.specs.Laws.Firsts.{Picks, picks-cong}
 use Rattle.sector_rules.specs.Geometry.{blocks}
 use Rattle.file_rules.specs.declared.Record.{Record}
 use Rattle.file_rules.specs.declared.Record.the-variants.{Free, System, File, Other}

@@ -9,15 +9,17 @@ use Prim.Native.Nat.{ℕ, zero, suc, _+_, _*_, _/_, _%_, _≤_, _<_}
 use native.Mathlib.Omega.{arith}
 use lib.Dec.{leb, ltb, eqb}
 use lib.ListN.{length}
-use Rattle.laws.specs.Change.{upd, upd-same, upd-other}
-use Rattle.laws.specs.Count.{count, sum, count-cong, count-yes, count-drop, count-but-zero, count-two-out, sum-cong, sum-change}
-use Rattle.laws.specs.Firsts.{firsts, Picks, firsts-picks, firsts-cong, firsts-length}
-use Rattle.laws.specs.Lowest.{lowest}
+use Rattle.laws.specs.Changes.{upd}
+use Rattle.laws.specs.Below.{count, sum, firsts, lowest}
 use Rattle.laws.specs.Numbers.{up}
-use Rattle.laws.specs.Order.{by-order}
-use Rattle.laws.specs.Search.{lowest-le, lowest-hit, lowest-low}
-use Rattle.laws.specs.Tests.{lt-true, lt-false, eq-true, eq-false, true-lt, true-le, true≢false, not-was, by-equal, cond-true, cond-false, and-true, and-false-left, and-false-right, leb-iff, isSome}
-use Rattle.laws.specs.Truth.{and-left, and-right, by-test}
+use Rattle.laws.specs.Options.{isSome}
+use Rattle.laws.specs.Laws.Cases.{by-order, by-equal, by-test}
+use Rattle.laws.specs.Laws.Tests.{lt-true, lt-false, eq-true, eq-false, true-lt, true-le, true≢false, not-was, cond-true, cond-false, and-true}
+use Rattle.laws.specs.Laws.Tests.{and-false-left, and-false-right, leb-iff, and-left, and-right}
+use Rattle.laws.specs.Laws.Lowest.{lowest-le, lowest-hit, lowest-low}
+use Rattle.laws.specs.Laws.Changes.{upd-same, upd-other}
+use Rattle.laws.specs.Laws.Count.{count-cong, count-yes, count-drop, count-but-zero, count-two-out, sum-cong, sum-change}
+use Rattle.laws.specs.Laws.Firsts.{Picks, firsts-picks, firsts-cong, firsts-length}
 use Rattle.sector_rules.specs.Geometry.{blocks}
 use Rattle.file_rules.specs.declared.Record.{Record}
 use Rattle.file_rules.specs.declared.Record.the-variants.{Free, System, File, Other}

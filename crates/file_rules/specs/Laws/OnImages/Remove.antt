@@ -5,9 +5,13 @@ use mathlib.Core.Logic.{_≢_}
 use mathlib.Core.Option.{none, some}
 use Prim.Native.Nat.{ℕ, zero, suc, _+_, _/_, _≤_, _<_}
 use native.Mathlib.Omega.{arith}
-use Rattle.laws.specs.Change.{upd, upd-same, upd-other}
-use Rattle.laws.specs.Count.{count, sum, count-drop, sum-change}
-use Rattle.laws.specs.Tests.{true≢false, by-equal, isSome}
+use Rattle.laws.specs.Changes.{upd}
+use Rattle.laws.specs.Below.{count, sum}
+use Rattle.laws.specs.Options.{isSome}
+use Rattle.laws.specs.Laws.Cases.{by-equal}
+use Rattle.laws.specs.Laws.Tests.{true≢false}
+use Rattle.laws.specs.Laws.Changes.{upd-same, upd-other}
+use Rattle.laws.specs.Laws.Count.{count-drop, sum-change}
 use Rattle.sector_rules.specs.Geometry.{blocks}
 use Rattle.file_rules.specs.declared.Record.{Record}
 use Rattle.file_rules.specs.declared.Record.the-variants.{Free, System, File, Other}

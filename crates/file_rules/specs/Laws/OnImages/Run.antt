@@ -8,10 +8,10 @@ use Prim.Native.Nat.{ℕ, zero, suc, _-_, _≤_, _<_}
 use native.Mathlib.Omega.{arith}
 use lib.Dec.{ltb}
 use lib.ListN.{length}
-use Rattle.laws.specs.Count.{count, sum}
-use Rattle.laws.specs.Order.{by-order}
-use Rattle.laws.specs.Tests.{lt-true, lt-false, le-true, eq-true, true-le, true≢false, cond-true, cond-false, isSome}
-use Rattle.laws.specs.Truth.{by-test}
+use Rattle.laws.specs.Below.{count, sum}
+use Rattle.laws.specs.Options.{isSome}
+use Rattle.laws.specs.Laws.Cases.{by-order, by-test}
+use Rattle.laws.specs.Laws.Tests.{lt-true, lt-false, le-true, eq-true, true-le, true≢false, cond-true, cond-false}
 use Rattle.sector_rules.specs.Geometry.{blocks, imageBytes}
 use Rattle.sector_rules.specs.Replies.{reply, done, refusal}
 use Rattle.sector_rules.specs.declared.Reply.{Reply}

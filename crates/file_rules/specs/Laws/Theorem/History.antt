@@ -8,12 +8,12 @@ use Prim.Native.Nat.{ℕ, suc, _+_, _≤_, _<_, max}
 use native.Mathlib.Omega.{arith}
 use lib.Dec.{leb}
 use lib.ListN.{length}
-use Rattle.laws.specs.Count.{count}
+use Rattle.laws.specs.Below.{count}
 use Rattle.laws.specs.Numbers.{at16}
-use Rattle.laws.specs.Order.{by-order}
-use Rattle.laws.specs.Search.{lowest-low}
-use Rattle.laws.specs.Tests.{lt-true, lt-false, true≢false, cond-true, cond-false, isSome}
-use Rattle.laws.specs.Truth.{by-test}
+use Rattle.laws.specs.Options.{isSome}
+use Rattle.laws.specs.Laws.Cases.{by-order, by-test}
+use Rattle.laws.specs.Laws.Tests.{lt-true, lt-false, true≢false, cond-true, cond-false}
+use Rattle.laws.specs.Laws.Lowest.{lowest-low}
 use Rattle.sector_rules.specs.Replies.{done, refusal}
 use Rattle.file_rules.specs.Calls.{Outcome, Written, kept, freshOwner, formatDisk, format, check, deliver, read, add}
 use Rattle.file_rules.specs.Directory.{nameEq, nameRight, held, dirEnd}

@@ -1,7 +1,7 @@
 -- `block_word2` meets its contract.
 -- Assumes nothing.
 use borrow.Author.Needs.{needs}
-use Rattle.laws.specs.Numbers.{at16-is}
+use Rattle.laws.specs.Laws.Numbers.{at16-is}
 use Rattle.files.proofs.blocks.block_word2.Statement.{statement}
 use Rattle.files.proofs.blocks.block_word2.Tie as tie
 

@@ -1,7 +1,7 @@
 -- `block_word4` meets its contract.
 -- Assumes nothing.
 use borrow.Author.Needs.{needs}
-use Rattle.laws.specs.Numbers.{at32-is}
+use Rattle.laws.specs.Laws.Numbers.{at32-is}
 use Rattle.files.proofs.blocks.block_word4.Statement.{statement}
 use Rattle.files.proofs.blocks.block_word4.Tie as tie
 

@@ -3,7 +3,7 @@
 use mathlib.Core.Path.{sym, _∙_}
 use Prim.Native.Nat.{_-_}
 use borrow.Author.Needs.{needs}
-use Rattle.laws.specs.Tests.{lt-true, lt-false, cond-true, cond-false}
+use Rattle.laws.specs.Laws.Tests.{lt-true, lt-false, cond-true, cond-false}
 use Rattle.files.specs.Laws.Writing.Rows.{runPlace}
 use Rattle.files.proofs.blocks.run_place.Statement.{statement}
 use Rattle.files.proofs.blocks.run_place.Tie as tie

@@ -1,7 +1,7 @@
 -- `first_block` meets its contract.
 -- Assumes nothing.
 use mathlib.Core.Path.{sym, _∙_}
-use Rattle.laws.specs.Tests.{lt-true, lt-false, cond-true, cond-false}
+use Rattle.laws.specs.Laws.Tests.{lt-true, lt-false, cond-true, cond-false}
 use Rattle.files.specs.Laws.Loading.Chains.{firstOf}
 use borrow.Author.Needs.{needs}
 use Rattle.files.proofs.chains.first_block.Statement.{statement}

@@ -2,7 +2,7 @@
 -- Assumes nothing.
 use mathlib.Core.Path.{sym, ap, _∙_}
 use Prim.Native.Nat.{ℕ}
-use Rattle.laws.specs.Tab.{elementAt}
+use Rattle.laws.specs.Lists.{elementAt}
 use Rattle.file_rules.specs.Disk.{diskOf}
 use Rattle.file_rules.specs.Directory.{entryOf}
 use Rattle.file_rules.specs.Check.{partsRight}

@@ -4,7 +4,7 @@ use mathlib.Core.Path.{sym, ap, _∙_}
 use mathlib.Core.Bool.{Bool, _&&_}
 use Prim.Native.Nat.{_-_}
 use borrow.Author.Needs.{needs}
-use Rattle.laws.specs.Tests.{lt-true, lt-false}
+use Rattle.laws.specs.Laws.Tests.{lt-true, lt-false}
 use Rattle.file_rules.specs.Disk.{diskOf}
 use Rattle.file_rules.specs.Directory.{held}
 use Rattle.files.proofs.checking.is_listed.Statement.{statement}

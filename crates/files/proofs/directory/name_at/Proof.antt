@@ -6,7 +6,8 @@ use native.Mathlib.Omega.{arith}
 use lib.ListN.{length, getD, length-set}
 use borrow.Author.Needs.{needs}
 use borrow.Author.Count.{below-none}
-use Rattle.laws.specs.Tab.{elementAt, eq-tab}
+use Rattle.laws.specs.Lists.{elementAt}
+use Rattle.laws.specs.Laws.Tab.{eq-tab}
 use Rattle.file_rules.specs.Sizes.{nameMost}
 use Rattle.files.specs.Laws.Loading.Slots.{parts-more}
 use Rattle.files.proofs.directory.name_at.Statement.{statement}

@@ -4,8 +4,8 @@ use mathlib.Core.Path.{_≡_, _∙_}
 use Prim.Native.Nat.{_-_}
 use native.Mathlib.Omega.{arith}
 use borrow.Author.Needs.{needs}
+use Rattle.laws.specs.Lists.{elementAt}
 use Rattle.laws.specs.Numbers.{at16}
-use Rattle.laws.specs.Tab.{elementAt}
 use Rattle.files.specs.Laws.Loading.Slots.{word2-row}
 use Rattle.files.proofs.directory.name_length.Statement.{statement}
 use Rattle.files.proofs.directory.name_length.Tie as tie

@@ -2,7 +2,7 @@
 -- Assumes nothing.
 use mathlib.Core.Path.{sym, ap, _∙_}
 use Prim.Native.Nat.{ℕ, _*_, _%_}
-use Rattle.laws.specs.Tests.{lt-true, lt-false, cond-true, cond-false}
+use Rattle.laws.specs.Laws.Tests.{lt-true, lt-false, cond-true, cond-false}
 use Rattle.file_rules.specs.Disk.{byteOf}
 use Rattle.file_rules.specs.Sizes.{slotBytes, blockSlots}
 use Rattle.files.specs.Laws.Loading.Slots.{slotPlace}

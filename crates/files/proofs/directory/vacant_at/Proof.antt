@@ -7,10 +7,9 @@ use native.Mathlib.Omega.{arith}
 use lib.Dec.{eqb}
 use borrow.Author.Needs.{needs}
 use borrow.Author.Count.{below-none, below-more}
-use Rattle.laws.specs.Tests.{eq-true, eq-false}
-use Rattle.laws.specs.Below.{all-is}
-use Rattle.laws.specs.Search.{all-false}
-use Rattle.laws.specs.Tab.{elementAt}
+use Rattle.laws.specs.Lists.{elementAt}
+use Rattle.laws.specs.Laws.Tests.{eq-true, eq-false}
+use Rattle.laws.specs.Laws.All.{all-is, all-false}
 use Rattle.file_rules.specs.Sizes.{slotBytes}
 use Rattle.files.proofs.directory.vacant_at.Statement.{statement}
 use Rattle.files.proofs.directory.vacant_at.Tie as tie

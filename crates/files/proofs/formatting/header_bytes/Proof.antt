@@ -3,7 +3,7 @@
 use mathlib.Core.Path.{refl}
 use Prim.Native.Nat.{_-_}
 use borrow.Author.Needs.{needs}
-use Rattle.laws.specs.Tab.{tab}
+use Rattle.laws.specs.Lists.{tab}
 use Rattle.files.specs.Laws.Calling.Fresh.{header-row}
 use Rattle.files.proofs.formatting.header_bytes.Statement.{statement}
 use Rattle.files.proofs.formatting.header_bytes.Tie as tie

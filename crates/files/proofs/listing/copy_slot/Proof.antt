@@ -5,8 +5,9 @@ use Prim.Native.Nat.{_-_, _≤_}
 use native.Mathlib.Omega.{arith}
 use lib.ListN.{length, length-set}
 use borrow.Author.Needs.{needs}
-use Rattle.laws.specs.Tab.{elementAt}
-use Rattle.laws.specs.Overlay.{overlay, overlay-none, overlay-more}
+use Rattle.laws.specs.Lists.{elementAt}
+use Rattle.laws.specs.Changes.{overlay}
+use Rattle.laws.specs.Laws.Overlay.{overlay-none, overlay-more}
 use Rattle.file_rules.specs.Sizes.{slotBytes}
 use Rattle.files.proofs.listing.copy_slot.Statement.{statement}
 use Rattle.files.proofs.listing.copy_slot.Tie as tie

@@ -5,7 +5,7 @@ use Prim.Native.Nat.{_-_, _≤_}
 use native.Mathlib.Omega.{arith}
 use lib.ListN.{length}
 use borrow.Author.Needs.{needs}
-use Rattle.laws.specs.Overlay.{put}
+use Rattle.laws.specs.Changes.{put}
 use Rattle.file_rules.specs.Disk.{diskOf}
 use Rattle.file_rules.specs.Calls.{entries}
 use Rattle.files.specs.Laws.Calling.Delivered.{entries-room, next-place, next-put, put-length, entries-none}

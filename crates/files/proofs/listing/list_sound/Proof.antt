@@ -2,8 +2,8 @@
 -- Assumes nothing.
 use mathlib.Core.Path.{ap, _∙_}
 use Prim.Native.Nat.{ℕ, _*_}
-use Rattle.laws.specs.Count.{count}
-use Rattle.laws.specs.Overlay.{put}
+use Rattle.laws.specs.Changes.{put}
+use Rattle.laws.specs.Below.{count}
 use Rattle.file_rules.specs.Disk.{diskOf}
 use Rattle.file_rules.specs.Sizes.{slotBytes}
 use Rattle.file_rules.specs.Directory.{held, dirEnd}

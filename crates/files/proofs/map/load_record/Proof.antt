@@ -2,7 +2,7 @@
 -- Assumes nothing.
 use native.Mathlib.Nat.{zero-add, add-zero}
 use borrow.Author.Needs.{needs}
-use Rattle.laws.specs.Words.{bigEndian}
+use Rattle.laws.specs.Numbers.{bigEndian}
 use Rattle.file_rules.specs.Map.{numberAt}
 use Rattle.files.proofs.map.load_record.Statement.{statement}
 use Rattle.files.proofs.map.load_record.Tie as tie

@@ -4,7 +4,7 @@ use mathlib.Core.Path.{_≡_, refl, _∙_}
 use Prim.Native.Nat.{_-_, _≤_, _<_, _+_}
 use native.Mathlib.Omega.{arith}
 use borrow.Author.Needs.{needs}
-use Rattle.laws.specs.Tab.{elementAt}
+use Rattle.laws.specs.Lists.{elementAt}
 use Rattle.files.specs.Laws.Loading.Marks.{rowMark, mark-more, mark-row, markCount}
 use Rattle.files.proofs.names.name_mark.Statement.{statement}
 use Rattle.files.proofs.names.name_mark.Tie as tie

@@ -6,8 +6,7 @@ use Prim.Native.Nat.{ℕ, _-_, _≤_, _<_}
 use native.Mathlib.Omega.{arith}
 use borrow.Author.Needs.{needs}
 use borrow.Author.Count.{below-none, below-more}
-use Rattle.laws.specs.Below.{all-is}
-use Rattle.laws.specs.Search.{all-false}
+use Rattle.laws.specs.Laws.All.{all-is, all-false}
 use Rattle.file_rules.specs.Disk.{diskOf}
 use Rattle.file_rules.specs.Directory.{nameEq, held, slotName}
 use Rattle.files.proofs.names.new_name.Statement.{statement}

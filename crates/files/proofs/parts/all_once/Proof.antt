@@ -8,9 +8,8 @@ use lib.Dec.{eqb}
 use lib.ListN.{getD}
 use borrow.Author.Needs.{needs}
 use borrow.Author.Count.{below-none, below-more}
-use Rattle.laws.specs.Tests.{eq-true, eq-false}
-use Rattle.laws.specs.Below.{all-is}
-use Rattle.laws.specs.Search.{all-false}
+use Rattle.laws.specs.Laws.Tests.{eq-true, eq-false}
+use Rattle.laws.specs.Laws.All.{all-is, all-false}
 use Rattle.files.proofs.parts.all_once.Statement.{statement}
 use Rattle.files.proofs.parts.all_once.Tie as tie
 

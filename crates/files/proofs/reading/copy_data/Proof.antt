@@ -6,7 +6,8 @@ use Prim.Native.Nat.{ℕ, _-_, _≤_, _+_}
 use native.Mathlib.Omega.{arith}
 use lib.ListN.{length}
 use borrow.Author.Needs.{needs}
-use Rattle.laws.specs.Overlay.{overlay, overlay-none, overlay-next, overlay-length}
+use Rattle.laws.specs.Changes.{overlay}
+use Rattle.laws.specs.Laws.Overlay.{overlay-none, overlay-next, overlay-length}
 use Rattle.file_rules.specs.Disk.{diskOf}
 use Rattle.file_rules.specs.Map.{fileByte}
 use Rattle.files.specs.Laws.Loading.Loaded.{part-mapped}

@@ -6,7 +6,8 @@ use native.Mathlib.Nat.{add-assoc}
 use native.Mathlib.Omega.{arith}
 use lib.ListN.{length}
 use borrow.Author.Needs.{needs}
-use Rattle.laws.specs.Overlay.{overlay, overlay-none, overlay-length}
+use Rattle.laws.specs.Changes.{overlay}
+use Rattle.laws.specs.Laws.Overlay.{overlay-none, overlay-length}
 use Rattle.file_rules.specs.Disk.{diskOf}
 use Rattle.files.specs.Laws.Writing.Rows.{overlay-on}
 use Rattle.files.proofs.reading.copy_part.Statement.{statement}

@@ -2,7 +2,7 @@
 -- Assumes nothing.
 use mathlib.Core.Path.{sym, _∙_}
 use borrow.Author.Tests.{not-false}
-use Rattle.laws.specs.Tests.{not-was}
+use Rattle.laws.specs.Laws.Tests.{not-was}
 use Rattle.files.specs.Laws.Loading.Parts.{from-none}
 use Rattle.files.specs.Laws.Loading.Slots.{located}
 use Rattle.files.specs.Laws.Judging.Ends.{end-within}

@@ -3,7 +3,7 @@
 use mathlib.Core.Path.{_≡_, refl}
 use lib.ListN.{length}
 use borrow.Author.Needs.{needs}
-use Rattle.laws.specs.Tab.{tab}
+use Rattle.laws.specs.Lists.{tab}
 use Rattle.file_rules.specs.Sizes.{nameMost}
 use Rattle.files.specs.Laws.Writing.Steps.{entry-row}
 use Rattle.files.proofs.steps.entry_bytes.Statement.{statement}

@@ -2,7 +2,7 @@
 -- Assumes nothing.
 use mathlib.Core.Path.{refl, sym, ap, _∙_}
 use borrow.Author.Tests.{not-false}
-use Rattle.laws.specs.Tests.{not-was}
+use Rattle.laws.specs.Laws.Tests.{not-was}
 use Rattle.file_rules.specs.declared.MapRecord.{MapRecord}
 use Rattle.file_rules.specs.Map.{bears}
 use Rattle.files.specs.Laws.Loading.Loaded.{record-mapped}

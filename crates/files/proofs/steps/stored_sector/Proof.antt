@@ -6,7 +6,7 @@ use native.Mathlib.Omega.{arith}
 use lib.ListN.{length, getD, length-set}
 use borrow.Author.Needs.{needs}
 use borrow.Author.Count.{below-none}
-use Rattle.laws.specs.Tab.{eq-tab}
+use Rattle.laws.specs.Laws.Tab.{eq-tab}
 use Rattle.sector_rules.specs.Geometry.{sectorBytes}
 use Rattle.files.specs.Laws.Writing.Steps.{storedRow}
 use Rattle.files.specs.Laws.Writing.Rows.{bytes-more}

@@ -2,7 +2,8 @@
 -- Assumes nothing.
 use mathlib.Core.Path.{_∙_}
 use borrow.Author.Needs.{needs}
-use Rattle.laws.specs.Words.{highByte, high-row2}
+use Rattle.laws.specs.Numbers.{highByte}
+use Rattle.laws.specs.Laws.Numbers.{high-row2}
 use Rattle.files.specs.Laws.Writing.Stored.{patched-row}
 use Rattle.files.proofs.store.put_word2.Statement.{statement}
 use Rattle.files.proofs.store.put_word2.Tie as tie

@@ -2,7 +2,8 @@
 -- Assumes nothing.
 use mathlib.Core.Path.{_∙_}
 use borrow.Author.Needs.{needs}
-use Rattle.laws.specs.Words.{highByte, high-row4}
+use Rattle.laws.specs.Numbers.{highByte}
+use Rattle.laws.specs.Laws.Numbers.{high-row4}
 use Rattle.files.specs.Laws.Writing.Stored.{patched-row}
 use Rattle.files.proofs.store.put_word4.Statement.{statement}
 use Rattle.files.proofs.store.put_word4.Tie as tie

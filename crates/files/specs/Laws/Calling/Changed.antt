@@ -7,8 +7,9 @@ use Prim.Native.Nat.{ℕ, suc, _+_, _-_, _/_, _%_}
 use native.Mathlib.Numerals.{add-one}
 use lib.Dec.{eqb}
 use lib.ListN.{length}
-use Rattle.laws.specs.Tab.{tab}
-use Rattle.laws.specs.Tests.{eq-true, eq-false, by-equal, cond-true, cond-false, and-true, and-false-left, and-false-right}
+use Rattle.laws.specs.Lists.{tab}
+use Rattle.laws.specs.Laws.Cases.{by-equal}
+use Rattle.laws.specs.Laws.Tests.{eq-true, eq-false, cond-true, cond-false, and-true, and-false-left, and-false-right}
 use Rattle.sector_rules.specs.Geometry.{blocks, imageBytes}
 use Rattle.file_rules.specs.declared.Entry.{Entry}
 use Rattle.file_rules.specs.Calls.{opensBlock, growDir, endAfter, addAt, removeAt}

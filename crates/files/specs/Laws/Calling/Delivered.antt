@@ -9,11 +9,14 @@ use native.Mathlib.Numerals.{add-one}
 use native.Mathlib.Omega.{arith}
 use lib.ListN.{length, getD, length-append, List·getD-append}
 use lib.Seq.{getD-append-add}
-use Rattle.laws.specs.Count.{count, count-yes, count-no}
-use Rattle.laws.specs.Overlay.{overlay, put, overlay-none, overlay-next, overlay-cong, overlay-length, put-tab}
-use Rattle.laws.specs.Tab.{tab, tab-length, elementAt}
-use Rattle.laws.specs.Tests.{by-equal, lt-true, lt-false, le-true, le-false, cond-true, cond-false}
-use Rattle.laws.specs.Truth.{by-test}
+use Rattle.laws.specs.Lists.{tab, elementAt}
+use Rattle.laws.specs.Changes.{overlay, put}
+use Rattle.laws.specs.Below.{count}
+use Rattle.laws.specs.Laws.Cases.{by-equal, by-test}
+use Rattle.laws.specs.Laws.Tests.{lt-true, lt-false, le-true, le-false, cond-true, cond-false}
+use Rattle.laws.specs.Laws.Tab.{tab-length}
+use Rattle.laws.specs.Laws.Overlay.{overlay-none, overlay-next, overlay-cong, overlay-length, put-tab}
+use Rattle.laws.specs.Laws.Count.{count-yes, count-no}
 use Rattle.sector_rules.specs.declared.Reply.{Reply}
 use Rattle.sector_rules.specs.Replies.{reply, refusal}
 use Rattle.sector_rules.specs.Geometry.{imageBytes}

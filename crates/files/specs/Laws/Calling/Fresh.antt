@@ -8,12 +8,13 @@ use native.Mathlib.Nat.{zero-add, not-suc-le-zero, le-of-suc-le-suc}
 use native.Mathlib.Numerals.{add-one}
 use native.Mathlib.Omega.{arith}
 use lib.ListN.{length, getD, List·getD-eq-default}
-use Rattle.laws.specs.Change.{patch, upd₂-same, upd₂-other, patch-in, patch-below}
-use Rattle.laws.specs.Order.{by-order}
-use Rattle.laws.specs.Overlay.{overlay, overlay-length, overlay-in, overlay-before, overlay-after, overlay-is, overlay-all, put}
-use Rattle.laws.specs.Tab.{tab, elementAt}
-use Rattle.laws.specs.Tests.{by-equal, le-false, eq-true, eq-false, cond-true, cond-false}
-use Rattle.laws.specs.Words.{highByte}
+use Rattle.laws.specs.Lists.{tab, elementAt}
+use Rattle.laws.specs.Changes.{patch, overlay, put}
+use Rattle.laws.specs.Numbers.{highByte}
+use Rattle.laws.specs.Laws.Cases.{by-order, by-equal}
+use Rattle.laws.specs.Laws.Tests.{le-false, eq-true, eq-false, cond-true, cond-false}
+use Rattle.laws.specs.Laws.Changes.{upd₂-same, upd₂-other, patch-in, patch-below}
+use Rattle.laws.specs.Laws.Overlay.{overlay-length, overlay-in, overlay-before, overlay-after, overlay-is, overlay-all}
 use Rattle.sector_rules.specs.Geometry.{tracks, sectors, blockSectors, turn, trackSectors, allSectors, blocks, imageBytes, sidePlace, backward}
 use Rattle.sector_rules.specs.Replies.{refusal}
 use Rattle.file_rules.specs.declared.Record.{Record}

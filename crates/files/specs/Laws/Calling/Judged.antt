@@ -10,17 +10,19 @@ use native.Mathlib.Omega.{arith}
 use lib.Dec.{leb, ltb, eqb}
 use lib.ListN.{length, getD}
 use borrow.Author.Tests.{not-false}
-use Rattle.laws.specs.Below.{all, all-at}
-use Rattle.laws.specs.Change.{patch, patch-in, patch-above}
-use Rattle.laws.specs.Count.{count, count-none, count-le}
-use Rattle.laws.specs.Lowest.{lowest, lowest-all}
+use Rattle.laws.specs.Lists.{tab}
+use Rattle.laws.specs.Changes.{patch, put}
+use Rattle.laws.specs.Below.{all, count, lowest}
 use Rattle.laws.specs.Numbers.{up}
-use Rattle.laws.specs.Order.{by-order}
-use Rattle.laws.specs.Overlay.{put}
-use Rattle.laws.specs.Search.{lowest-le, lowest-low}
-use Rattle.laws.specs.Tab.{tab, tab-ext, getD-past}
-use Rattle.laws.specs.Tests.{lt-true, lt-false, le-false, true-le, eq-false, true-eq, true≢false, cond-true, cond-false, and-true, and-false-left, orElse}
-use Rattle.laws.specs.Truth.{and-left, and-right, by-test}
+use Rattle.laws.specs.Options.{orElse}
+use Rattle.laws.specs.Laws.Cases.{by-order, by-test}
+use Rattle.laws.specs.Laws.Tests.{lt-true, lt-false, le-false, true-le, eq-false, true-eq, true≢false, cond-true, cond-false, and-true}
+use Rattle.laws.specs.Laws.Tests.{and-false-left, and-left, and-right}
+use Rattle.laws.specs.Laws.All.{all-at}
+use Rattle.laws.specs.Laws.Lowest.{lowest-all, lowest-le, lowest-low}
+use Rattle.laws.specs.Laws.Tab.{tab-ext, getD-past}
+use Rattle.laws.specs.Laws.Changes.{patch-in, patch-above}
+use Rattle.laws.specs.Laws.Count.{count-none, count-le}
 use Rattle.sector_rules.specs.Geometry.{blocks, imageBytes}
 use Rattle.sector_rules.specs.Replies.{reply, done, refusal}
 use Rattle.sector_rules.specs.declared.Reply.{Reply}

@@ -8,11 +8,11 @@ use Prim.Native.Nat.{ℕ, _≤_}
 use native.Mathlib.Omega.{arith}
 use borrow.Author.Tests.{not-false}
 use Rattle.laws.specs.Below.{all}
-use Rattle.laws.specs.Lowest.{lowest-all}
 use Rattle.laws.specs.Numbers.{up}
-use Rattle.laws.specs.Order.{by-order}
-use Rattle.laws.specs.Tests.{orElse, lt-true, true≢false, cond-true}
-use Rattle.laws.specs.Truth.{and-right}
+use Rattle.laws.specs.Options.{orElse}
+use Rattle.laws.specs.Laws.Cases.{by-order}
+use Rattle.laws.specs.Laws.Tests.{lt-true, true≢false, cond-true, and-right}
+use Rattle.laws.specs.Laws.Lowest.{lowest-all}
 use Rattle.sector_rules.specs.Replies.{reply}
 use Rattle.sector_rules.specs.declared.Fault.the-variants.{At, Sound}
 use Rattle.sector_rules.specs.Faults.{faultBelow, refusalAt}

@@ -9,13 +9,12 @@ use Prim.Native.Nat.{ℕ, _+_, _≤_, _<_}
 use native.Mathlib.Omega.{arith}
 use lib.Dec.{leb, ltb, eqb}
 use lib.ListN.{length, take}
-use Rattle.laws.specs.Below.{all}
-use Rattle.laws.specs.Count.{count, count-cong}
-use Rattle.laws.specs.Lowest.{lowest, lowest-some, lowest-none}
+use Rattle.laws.specs.Below.{all, count, lowest}
 use Rattle.laws.specs.Numbers.{at16}
-use Rattle.laws.specs.Tests.{true-le, lt-true, lt-false, eq-true, eq-false, cond-true, cond-false, and-false-left, and-false-right}
-use Rattle.laws.specs.Tab.{tab-length}
-use Rattle.laws.specs.Truth.{and-right}
+use Rattle.laws.specs.Laws.Tests.{true-le, lt-true, lt-false, eq-true, eq-false, cond-true, cond-false, and-false-left, and-false-right, and-right}
+use Rattle.laws.specs.Laws.Lowest.{lowest-some, lowest-none}
+use Rattle.laws.specs.Laws.Tab.{tab-length}
+use Rattle.laws.specs.Laws.Count.{count-cong}
 use Rattle.sector_rules.specs.declared.Fault.{Fault}
 use Rattle.sector_rules.specs.declared.Fault.the-variants.{At, Sound}
 use Rattle.sector_rules.specs.Faults.{faultBelow, refusalAt}

@@ -8,10 +8,12 @@ use mathlib.Core.Option.{Option, none, some}
 use Prim.Native.Nat.{ℕ, zero, suc, _+_, _-_}
 use native.Mathlib.Omega.{arith}
 use lib.ListN.{length}
-use Rattle.laws.specs.Count.{count, count-yes, count-no}
+use Rattle.laws.specs.Below.{count}
 use Rattle.laws.specs.Numbers.{at16}
-use Rattle.laws.specs.Tests.{orElse, eq-true, eq-false, cond-true, cond-false}
-use Rattle.laws.specs.Truth.{by-test}
+use Rattle.laws.specs.Options.{orElse}
+use Rattle.laws.specs.Laws.Cases.{by-test}
+use Rattle.laws.specs.Laws.Tests.{eq-true, eq-false, cond-true, cond-false}
+use Rattle.laws.specs.Laws.Count.{count-yes, count-no}
 use Rattle.sector_rules.specs.declared.Reply.{Reply}
 use Rattle.sector_rules.specs.Replies.{done}
 use Rattle.sector_rules.specs.Geometry.{blocks}

@@ -7,9 +7,10 @@ use mathlib.Core.Option.{Option, none, some}
 use Prim.Native.Nat.{ℕ, _+_, _*_, _/_, _%_, _≤_, _<_}
 use native.Mathlib.Omega.{arith}
 use lib.ListN.{length, getD}
-use Rattle.laws.specs.Same.{same, bytesAre, standsAt}
-use Rattle.laws.specs.Tab.{tab-ext}
-use Rattle.laws.specs.Tests.{orElse, le-true}
+use Rattle.laws.specs.Lists.{same, bytesAre, standsAt}
+use Rattle.laws.specs.Options.{orElse}
+use Rattle.laws.specs.Laws.Tests.{le-true}
+use Rattle.laws.specs.Laws.Tab.{tab-ext}
 use Rattle.sector_rules.specs.declared.Fault.{Fault}
 use Rattle.sector_rules.specs.declared.Fault.the-variants.{At, Sound}
 use Rattle.sector_rules.specs.declared.Reply.{Reply}

@@ -5,7 +5,7 @@ use mathlib.Core.List.{List}
 use Prim.Native.Nat.{ℕ, _≤_, _<_}
 use lib.Dec.{ltb}
 use lib.ListN.{getD}
-use Rattle.laws.specs.Tests.{lt-true, lt-false, cond-true, cond-false, and-true, and-false-left, and-false-right}
+use Rattle.laws.specs.Laws.Tests.{lt-true, lt-false, cond-true, cond-false, and-true, and-false-left, and-false-right}
 use Rattle.sector_rules.specs.Geometry.{blocks}
 use Rattle.file_rules.specs.Sizes.{blockBytes}
 use Rattle.file_rules.specs.Disk.{byteOf, diskOf}

@@ -10,10 +10,10 @@ use native.Mathlib.Omega.{arith}
 use lib.Dec.{ltb, eqb}
 use lib.ListN.{length, getD, set, replicate, length-set, length-replicate, getD-replicate}
 use lib.Seq.{getD-set-same, getD-set-other}
-use Rattle.laws.specs.Below.{all, all-is}
-use Rattle.laws.specs.Order.{by-order}
-use Rattle.laws.specs.Search.{all-false}
-use Rattle.laws.specs.Tests.{by-equal, lt-true, lt-false, eq-true, eq-false, true-eq, cond-true, cond-false}
+use Rattle.laws.specs.Below.{all}
+use Rattle.laws.specs.Laws.Cases.{by-order, by-equal}
+use Rattle.laws.specs.Laws.Tests.{lt-true, lt-false, eq-true, eq-false, true-eq, cond-true, cond-false}
+use Rattle.laws.specs.Laws.All.{all-is, all-false}
 use Rattle.sector_rules.specs.Geometry.{blocks}
 use Rattle.file_rules.specs.declared.Record.{Record}
 use Rattle.file_rules.specs.declared.Record.the-variants.{Free, System, File, Other}

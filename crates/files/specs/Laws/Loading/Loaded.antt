@@ -6,11 +6,11 @@ use Prim.Native.Nat.{ℕ, _+_, _*_, _≤_, _<_}
 use native.Mathlib.Omega.{arith}
 use lib.ListN.{length, getD, set}
 use lib.Seq.{getD-set-same, getD-set-other}
-use Rattle.laws.specs.Lowest.{lowest}
-use Rattle.laws.specs.Search.{lowest-cong}
-use Rattle.laws.specs.Count.{count, count-cong}
-use Rattle.laws.specs.Tests.{by-equal}
-use Rattle.laws.specs.Words.{big-ext}
+use Rattle.laws.specs.Below.{lowest, count}
+use Rattle.laws.specs.Laws.Cases.{by-equal}
+use Rattle.laws.specs.Laws.Lowest.{lowest-cong}
+use Rattle.laws.specs.Laws.Count.{count-cong}
+use Rattle.laws.specs.Laws.Numbers.{big-ext}
 use Rattle.sector_rules.specs.Geometry.{blocks}
 use Rattle.sector_rules.specs.declared.BlockNumber.{BlockNumber}
 use Rattle.file_rules.specs.declared.Record.{Record}

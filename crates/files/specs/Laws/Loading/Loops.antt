@@ -5,8 +5,8 @@ use mathlib.Core.Bool.{Bool, true, false, _&&_}
 use Prim.Native.Nat.{ℕ, zero, suc, _+_, _<_}
 use native.Mathlib.Numerals.{add-one}
 use native.Mathlib.Omega.{arith}
-use Rattle.laws.specs.Below.{all}
-use Rattle.laws.specs.Count.{count, count-yes, count-no}
+use Rattle.laws.specs.Below.{all, count}
+use Rattle.laws.specs.Laws.Count.{count-yes, count-no}
 
 module _ (p : ℕ → Bool) (k c : ℕ) (e : c ≡ count k p) where
   pub counted-yes : p k ≡ true → c + 1 ≡ count (k + 1) p

@@ -8,12 +8,14 @@ use native.Mathlib.Numerals.{add-one}
 use native.Mathlib.Omega.{arith}
 use lib.Dec.{ltb}
 use lib.ListN.{length, getD}
-use Rattle.laws.specs.Below.{all, all-is}
+use Rattle.laws.specs.Lists.{tab, elementAt}
+use Rattle.laws.specs.Below.{all}
 use Rattle.laws.specs.Numbers.{at16}
-use Rattle.laws.specs.Same.{same-eq}
-use Rattle.laws.specs.Tab.{tab, tab-length, tab-in, elementAt}
-use Rattle.laws.specs.Tests.{true-lt, cond-true, cond-false}
-use Rattle.laws.specs.Truth.{by-test, and-left, and-right}
+use Rattle.laws.specs.Laws.Cases.{by-test}
+use Rattle.laws.specs.Laws.Tests.{true-lt, cond-true, cond-false, and-left, and-right}
+use Rattle.laws.specs.Laws.All.{all-is}
+use Rattle.laws.specs.Laws.Tab.{tab-length, tab-in}
+use Rattle.laws.specs.Laws.Same.{same-eq}
 use Rattle.sector_rules.specs.Geometry.{imageBytes}
 use Rattle.file_rules.specs.Sizes.{slotCount, nameMost}
 use Rattle.file_rules.specs.Disk.{Disk, diskOf}

@@ -9,12 +9,13 @@ use native.Mathlib.Omega.{arith}
 use lib.Dec.{ltb, eqb}
 use lib.ListN.{length, getD, set, replicate, length-set, length-replicate, getD-replicate}
 use lib.Seq.{getD-set-same, getD-set-other}
-use Rattle.laws.specs.Below.{all, all-at}
-use Rattle.laws.specs.Count.{count, count-cong, count-yes, count-no, sum, sum-cong, sum-change, sum-none}
-use Rattle.laws.specs.Lowest.{lowest, lowest-some, lowest-none}
-use Rattle.laws.specs.Order.{by-order}
-use Rattle.laws.specs.Tests.{by-equal, lt-true, lt-false, eq-true, eq-false, true-eq, true-lt, false-lt, cond-true, cond-false, and-false-left, and-false-right}
-use Rattle.laws.specs.Truth.{by-test}
+use Rattle.laws.specs.Below.{all, count, sum, lowest}
+use Rattle.laws.specs.Laws.Cases.{by-order, by-equal, by-test}
+use Rattle.laws.specs.Laws.Tests.{lt-true, lt-false, eq-true, eq-false, true-eq, true-lt, false-lt, cond-true, cond-false, and-false-left}
+use Rattle.laws.specs.Laws.Tests.{and-false-right}
+use Rattle.laws.specs.Laws.All.{all-at}
+use Rattle.laws.specs.Laws.Lowest.{lowest-some, lowest-none}
+use Rattle.laws.specs.Laws.Count.{count-cong, count-yes, count-no, sum-cong, sum-change, sum-none}
 use Rattle.sector_rules.specs.Geometry.{blocks}
 use Rattle.file_rules.specs.declared.Record.{Record}
 use Rattle.file_rules.specs.declared.Record.the-variants.{Free, System, File, Other}

@@ -7,11 +7,10 @@ use Prim.Native.Nat.{ℕ, _+_, _*_, _/_, _%_, _≤_, _<_}
 use native.Mathlib.Nat.{div-one}
 use native.Mathlib.Omega.{arith}
 use lib.Dec.{ltb, eqb}
-use Rattle.laws.specs.Order.{by-order}
-use Rattle.laws.specs.Tab.{tab}
-use Rattle.laws.specs.Tests.{lt-true, lt-false, cond-true, cond-false}
-use Rattle.laws.specs.Truth.{by-test}
-use Rattle.laws.specs.Words.{highByte}
+use Rattle.laws.specs.Lists.{tab}
+use Rattle.laws.specs.Numbers.{highByte}
+use Rattle.laws.specs.Laws.Cases.{by-order, by-test}
+use Rattle.laws.specs.Laws.Tests.{lt-true, lt-false, cond-true, cond-false}
 use Rattle.file_rules.specs.declared.Record.{Record}
 use Rattle.file_rules.specs.declared.Record.the-variants.{Free, System, File, Other}
 use Rattle.file_rules.specs.Check.{recordFault}

@@ -9,15 +9,15 @@ use native.Mathlib.Omega.{arith}
 use lib.Dec.{ltb, eqb}
 use lib.ListN.{length, getD, set}
 use lib.Seq.{getD-set-same, getD-set-other, take-all}
+use Rattle.laws.specs.Lists.{tab, elementAt}
 use Rattle.laws.specs.Below.{all}
-use Rattle.laws.specs.Lowest.{lowest-some, lowest-none}
-use Rattle.laws.specs.Numbers.{at16, at32}
-use Rattle.laws.specs.Order.{by-order}
-use Rattle.laws.specs.Same.{eq-same, ne-same}
-use Rattle.laws.specs.Search.{take-tab}
-use Rattle.laws.specs.Tab.{tab, tab-length, tab-in, tab-ext, eq-tab, elementAt, getD-past}
-use Rattle.laws.specs.Tests.{by-equal, lt-true, lt-false, cond-true, cond-false, and-false-right}
-use Rattle.laws.specs.Words.{bigEndian, highFirst, high-row}
+use Rattle.laws.specs.Numbers.{at16, at32, bigEndian, highFirst}
+use Rattle.laws.specs.Laws.Cases.{by-order, by-equal}
+use Rattle.laws.specs.Laws.Tests.{lt-true, lt-false, cond-true, cond-false, and-false-right}
+use Rattle.laws.specs.Laws.Lowest.{lowest-some, lowest-none}
+use Rattle.laws.specs.Laws.Tab.{take-tab, tab-length, tab-in, tab-ext, eq-tab, getD-past}
+use Rattle.laws.specs.Laws.Same.{eq-same, ne-same}
+use Rattle.laws.specs.Laws.Numbers.{high-row}
 use Rattle.sector_rules.specs.Geometry.{sectorBytes, blocks, imageBytes, running, imageSector}
 use Rattle.file_rules.specs.declared.Entry.{Entry}
 use Rattle.file_rules.specs.Sizes.{slotBytes, blockSlots, slotCount, nameMost}

@@ -10,11 +10,12 @@ use native.Mathlib.Omega.{arith}
 use lib.Dec.{eqb}
 use lib.ListN.{length, getD, set, replicate, length-set, length-replicate, getD-replicate}
 use lib.Seq.{getD-set-same, getD-set-other}
-use Rattle.laws.specs.Below.{all}
-use Rattle.laws.specs.Change.{upd, upd-same, upd-other}
-use Rattle.laws.specs.Count.{count, count-yes, count-no, count-drop}
-use Rattle.laws.specs.Tests.{by-equal, eq-true, eq-false, and-false-left}
-use Rattle.laws.specs.Truth.{by-test}
+use Rattle.laws.specs.Changes.{upd}
+use Rattle.laws.specs.Below.{all, count}
+use Rattle.laws.specs.Laws.Cases.{by-equal, by-test}
+use Rattle.laws.specs.Laws.Tests.{eq-true, eq-false, and-false-left}
+use Rattle.laws.specs.Laws.Changes.{upd-same, upd-other}
+use Rattle.laws.specs.Laws.Count.{count-yes, count-no, count-drop}
 
 -- none, one or more
 unfoldable pub cap : ℕ → ℕ

@@ -9,12 +9,12 @@ use native.Mathlib.Numerals.{add-one}
 use native.Mathlib.Omega.{arith}
 use lib.Dec.{ltb}
 use lib.ListN.{length}
-use Rattle.laws.specs.Change.{upd₂-same, upd₂-other}
-use Rattle.laws.specs.Firsts.{firstsFrom, firsts, firsts-cong}
-use Rattle.laws.specs.Order.{by-order}
-use Rattle.laws.specs.Search.{lowest-cong}
-use Rattle.laws.specs.Tests.{lt-true, lt-false, true-lt, by-equal, cond-true, cond-false, and-not}
-use Rattle.laws.specs.Truth.{and-left, and-right, by-test}
+use Rattle.laws.specs.Below.{firstsFrom, firsts}
+use Rattle.laws.specs.Laws.Cases.{by-order, by-equal, by-test}
+use Rattle.laws.specs.Laws.Tests.{lt-true, lt-false, true-lt, cond-true, cond-false, and-not, and-left, and-right}
+use Rattle.laws.specs.Laws.Lowest.{lowest-cong}
+use Rattle.laws.specs.Laws.Changes.{upd₂-same, upd₂-other}
+use Rattle.laws.specs.Laws.Firsts.{firsts-cong}
 use Rattle.sector_rules.specs.Geometry.{blocks, imageBytes}
 use Rattle.file_rules.specs.declared.Record.{Record}
 use Rattle.file_rules.specs.declared.Record.the-variants.{Free, File}

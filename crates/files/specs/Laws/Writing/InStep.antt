@@ -9,11 +9,13 @@ use Prim.Native.Nat.{ℕ, suc, _+_, _-_, _*_, _/_, _%_, _≤_, _<_}
 use native.Mathlib.Omega.{arith}
 use lib.ListN.{length, getD, set, length-set}
 use lib.Seq.{getD-set-same, getD-set-other}
-use Rattle.laws.specs.Change.{upd, patch, upd₂-same, upd₂-other, patch-in, patch-below, patch-above}
-use Rattle.laws.specs.Order.{by-order}
-use Rattle.laws.specs.Search.{lowest-hit}
-use Rattle.laws.specs.Tests.{by-equal, eq-true, eq-false, true≢false, cond-true, cond-false}
-use Rattle.laws.specs.Words.{highByte, big-ext, high-is}
+use Rattle.laws.specs.Changes.{upd, patch}
+use Rattle.laws.specs.Numbers.{highByte}
+use Rattle.laws.specs.Laws.Cases.{by-order, by-equal}
+use Rattle.laws.specs.Laws.Tests.{eq-true, eq-false, true≢false, cond-true, cond-false}
+use Rattle.laws.specs.Laws.Lowest.{lowest-hit}
+use Rattle.laws.specs.Laws.Changes.{upd₂-same, upd₂-other, patch-in, patch-below, patch-above}
+use Rattle.laws.specs.Laws.Numbers.{big-ext, high-is}
 use Rattle.sector_rules.specs.Geometry.{blocks, imageBytes}
 use Rattle.file_rules.specs.declared.Record.{Record}
 use Rattle.file_rules.specs.declared.Record.the-variants.{Free, System, File, Other}

@@ -10,12 +10,14 @@ use native.Mathlib.Omega.{arith}
 use lib.Dec.{leb, ltb}
 use lib.ListN.{length, getD, set, take, drop}
 use lib.Seq.{getD-set-same, getD-set-other}
-use Rattle.laws.specs.Change.{upd, patch, upd-same, upd-twice, patch-next}
-use Rattle.laws.specs.Order.{by-order}
-use Rattle.laws.specs.Overlay.{overlay, put, overlay-none, overlay-more, overlay-in, overlay-before, overlay-after, overlay-is, overlay-cong, overlay-clip, overlay-length, put-tab}
-use Rattle.laws.specs.Tab.{tab, tab-ext, elementAt, window, window-part}
-use Rattle.laws.specs.Tests.{by-equal, lt-true, lt-false, true-le, cond-true, cond-false}
-use Rattle.laws.specs.Truth.{and-left, and-right}
+use Rattle.laws.specs.Lists.{tab, elementAt, window}
+use Rattle.laws.specs.Changes.{upd, patch, overlay, put}
+use Rattle.laws.specs.Laws.Cases.{by-order, by-equal}
+use Rattle.laws.specs.Laws.Tests.{lt-true, lt-false, true-le, cond-true, cond-false, and-left, and-right}
+use Rattle.laws.specs.Laws.Tab.{tab-ext, window-part}
+use Rattle.laws.specs.Laws.Changes.{upd-same, upd-twice, patch-next}
+use Rattle.laws.specs.Laws.Overlay.{overlay-none, overlay-more, overlay-in, overlay-before, overlay-after, overlay-is, overlay-cong, overlay-clip}
+use Rattle.laws.specs.Laws.Overlay.{overlay-length, put-tab}
 use Rattle.sector_rules.specs.Geometry.{sectorBytes, blocks, imageBytes, running}
 use Rattle.sector_rules.specs.Laws.Base.Geometry.{image-lt}
 use Rattle.file_rules.specs.Disk.{Disk, byteOf, diskOf, imageOf}

@@ -8,14 +8,16 @@ use native.Mathlib.Nat.{zero-add, add-zero}
 use native.Mathlib.Omega.{arith}
 use lib.Dec.{leb, ltb}
 use lib.ListN.{length, getD}
-use Rattle.laws.specs.Change.{upd, patch, upd₂-same, upd₂-other, patch-cong}
-use Rattle.laws.specs.Count.{count, count-cong}
-use Rattle.laws.specs.Numbers.{at32}
-use Rattle.laws.specs.Words.{bigEndian, highByte}
-use Rattle.laws.specs.Order.{by-order}
-use Rattle.laws.specs.Overlay.{overlay, overlay-cong, put}
-use Rattle.laws.specs.Tab.{tab, tab-length, tab-in, tab-ext, elementAt}
-use Rattle.laws.specs.Tests.{lt-true, lt-false, by-equal, cond-true, cond-false}
+use Rattle.laws.specs.Lists.{tab, elementAt}
+use Rattle.laws.specs.Changes.{upd, patch, overlay, put}
+use Rattle.laws.specs.Below.{count}
+use Rattle.laws.specs.Numbers.{at32, bigEndian, highByte}
+use Rattle.laws.specs.Laws.Cases.{by-order, by-equal}
+use Rattle.laws.specs.Laws.Tests.{lt-true, lt-false, cond-true, cond-false}
+use Rattle.laws.specs.Laws.Tab.{tab-length, tab-in, tab-ext}
+use Rattle.laws.specs.Laws.Changes.{upd₂-same, upd₂-other, patch-cong}
+use Rattle.laws.specs.Laws.Overlay.{overlay-cong}
+use Rattle.laws.specs.Laws.Count.{count-cong}
 use Rattle.sector_rules.specs.Geometry.{blocks}
 use Rattle.file_rules.specs.declared.Record.{Record}
 use Rattle.file_rules.specs.declared.Record.the-variants.{Free, System, File, Other}

@@ -6,9 +6,12 @@ use mathlib.Core.List.{List}
 use Prim.Native.Nat.{ℕ, _+_, _-_, _≤_, _<_}
 use native.Mathlib.Omega.{arith}
 use lib.ListN.{length, getD, set}
-use Rattle.laws.specs.Change.{upd, patch, upd-same, upd-other, upd₂-same, upd₂-other, patch-in, patch-below, patch-above, by-place}
-use Rattle.laws.specs.Tab.{tab, tab-length, tab-in}
-use Rattle.laws.specs.Tests.{lt-true, by-equal, cond-true, and-true}
+use Rattle.laws.specs.Lists.{tab}
+use Rattle.laws.specs.Changes.{upd, patch}
+use Rattle.laws.specs.Laws.Cases.{by-equal}
+use Rattle.laws.specs.Laws.Tests.{lt-true, cond-true, and-true}
+use Rattle.laws.specs.Laws.Tab.{tab-length, tab-in}
+use Rattle.laws.specs.Laws.Changes.{upd-same, upd-other, upd₂-same, upd₂-other, patch-in, patch-below, patch-above, by-place}
 use Rattle.sector_rules.specs.Geometry.{blocks, imageBytes}
 use Rattle.file_rules.specs.Disk.{Disk, byteOf, blockOf, offsetOf, diskOf, imageOf, setByte}
 use Rattle.file_rules.specs.Laws.Base.Disk.{byte-lt, block-byte, offset-byte, image-disk, image-cong, image-set}

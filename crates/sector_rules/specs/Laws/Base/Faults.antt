@@ -5,7 +5,7 @@ use mathlib.Core.Path.{_≡_}
 use Prim.Native.Nat.{ℕ, _<_}
 use native.Mathlib.Nat.{le-refl}
 use borrow.Author.Tests.{le-ltb}
-use Rattle.laws.specs.Lowest.{lowest-none}
+use Rattle.laws.specs.Laws.Lowest.{lowest-none}
 use Rattle.sector_rules.specs.declared.Fault.the-variants.{Sound}
 use Rattle.sector_rules.specs.Faults.{faultBelow, lowestFault}
 

@@ -3,7 +3,8 @@
 use mathlib.Core.Path.{_≡_, refl}
 use Prim.Native.Nat.{ℕ, _+_, _*_, _/_, _%_, _<_}
 use lib.ListN.{getD}
-use Rattle.laws.specs.Below.{all, all-eq, all-lt}
+use Rattle.laws.specs.Below.{all}
+use Rattle.laws.specs.Laws.All.{all-eq, all-lt}
 use Rattle.sector_rules.specs.Geometry.{trackSectors, sectors, allSectors, sidePlace, backward, imageSector, runningSector}
 
 -- tables-inverse: an entry as a sector of track 0, and back; one computed test each way

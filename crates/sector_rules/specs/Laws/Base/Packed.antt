@@ -10,8 +10,8 @@ use lib.Dec.{ltb, eqb}
 use lib.ListN.{length, getD, List·getD-append}
 use lib.Seq.{getD-append-add}
 use borrow.Author.Tests.{lt-ltb, le-ltb, eq-eqb}
-use Rattle.laws.specs.Words.{highByte, lowByte}
-use Rattle.laws.specs.Tab.{tab}
+use Rattle.laws.specs.Lists.{tab}
+use Rattle.laws.specs.Numbers.{highByte, lowByte}
 use Rattle.cells.specs.Stream.{packed}
 use Rattle.cells.specs.Written.{writtenCell}
 use Rattle.cells.specs.Laws.Crc.{crc-lt}

@@ -8,7 +8,7 @@ use native.Mathlib.Nat.{zero-add}
 use native.Mathlib.Numerals.{add-one}
 use native.Mathlib.Omega.{arith}
 use lib.Dec.{eqb}
-use Rattle.laws.specs.Tab.{tab-ext}
+use Rattle.laws.specs.Laws.Tab.{tab-ext}
 use Rattle.cells.specs.Crc.{crc}
 use Rattle.cells.specs.Stream.{dataByte, dataBytes}
 use Rattle.cells.specs.Laws.Crc.{follows-two}

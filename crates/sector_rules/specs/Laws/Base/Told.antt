@@ -9,11 +9,9 @@ use native.Mathlib.Omega.{arith}
 use lib.Dec.{leb, eqb}
 use lib.ListN.{length}
 use borrow.Author.Tests.{eqb-true}
-use Rattle.laws.specs.Lowest.{lowest-all}
-use Rattle.laws.specs.Order.{by-order}
-use Rattle.laws.specs.Search.{lowest-hit}
-use Rattle.laws.specs.Tests.{true≢false, by-equal, cond-true, cond-false, lt-true, eq-true}
-use Rattle.laws.specs.Truth.{by-test, and-left, and-right}
+use Rattle.laws.specs.Laws.Cases.{by-order, by-equal, by-test}
+use Rattle.laws.specs.Laws.Tests.{true≢false, cond-true, cond-false, lt-true, eq-true, and-left, and-right}
+use Rattle.laws.specs.Laws.Lowest.{lowest-all, lowest-hit}
 use Rattle.cells.specs.Stream.{from, dataByte}
 use Rattle.cells.specs.Sync.{threeSync}
 use Rattle.sector_rules.specs.declared.Header.the-variants.{Is, Absent}

@@ -6,11 +6,11 @@ use mathlib.Core.Path.{_≡_, refl}
 use Prim.Native.Nat.{ℕ, _+_, _-_, _*_, _%_, _≤_, _<_}
 use native.Mathlib.Omega.{arith}
 use lib.Dec.{eqb, leb, ltb}
-use Rattle.laws.specs.Below.{all, all-at}
-use Rattle.laws.specs.Lowest.{lowest}
-use Rattle.laws.specs.Search.{lowest-hit}
-use Rattle.laws.specs.Tests.{true-le, true-lt, true≢false, eq-false, or-none, or-other}
-use Rattle.laws.specs.Truth.{by-test, and-left, and-right}
+use Rattle.laws.specs.Below.{all, lowest}
+use Rattle.laws.specs.Laws.Cases.{by-test}
+use Rattle.laws.specs.Laws.Tests.{true-le, true-lt, true≢false, eq-false, or-none, or-other, and-left, and-right}
+use Rattle.laws.specs.Laws.All.{all-at}
+use Rattle.laws.specs.Laws.Lowest.{lowest-hit}
 use Rattle.cells.specs.Mfm.{bitOf}
 use Rattle.sector_rules.specs.Packed.{span, withCrc, sectorItem}
 use Rattle.sector_rules.specs.Laws.Burst.Read.{isRead}

@@ -8,10 +8,10 @@ use native.Mathlib.Nat.{zero-div, div-eq-of-lt, lt-of-lt-of-le}
 use native.Mathlib.Omega.{arith}
 use lib.Dec.{eqb, ltb}
 use lib.Pow.{pow-mono}
-use Rattle.laws.specs.Below.{all, all-at}
-use Rattle.laws.specs.Order.{by-order}
-use Rattle.laws.specs.Tests.{by-equal, true-eq, false-eq, eq-true, eq-false, true-lt, cond-true, cond-false}
-use Rattle.laws.specs.Truth.{by-test}
+use Rattle.laws.specs.Below.{all}
+use Rattle.laws.specs.Laws.Cases.{by-order, by-equal, by-test}
+use Rattle.laws.specs.Laws.Tests.{true-eq, false-eq, eq-true, eq-false, true-lt, cond-true, cond-false}
+use Rattle.laws.specs.Laws.All.{all-at}
 use Rattle.cells.specs.Mfm.{bitOf, clock}
 use Rattle.cells.specs.Written.{byteOf, leftOut, writtenCell}
 use Rattle.cells.specs.declared.Item.{Item}

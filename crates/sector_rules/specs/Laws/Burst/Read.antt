@@ -7,9 +7,8 @@ use Prim.Native.Nat.{ℕ, _+_, _-_, _*_, _/_, _%_, _^_, _≤_, _<_}
 use native.Mathlib.Omega.{arith}
 use lib.Dec.{eqb, ltb}
 use lib.ListN.{getD}
-use Rattle.laws.specs.Order.{by-order}
-use Rattle.laws.specs.Tests.{by-equal, true-eq, true-lt, lt-false, or-other}
-use Rattle.laws.specs.Truth.{and-left, and-right}
+use Rattle.laws.specs.Laws.Cases.{by-order, by-equal}
+use Rattle.laws.specs.Laws.Tests.{true-eq, true-lt, lt-false, or-other, and-left, and-right}
 use Rattle.cells.specs.Stream.{from, dataByte}
 use Rattle.cells.specs.Sync.{threeSync}
 use Rattle.cells.specs.Laws.Bits.{byte-cell}

@@ -8,8 +8,8 @@ use mathlib.Core.Path.{_≡_, refl, sym, ap, _∙_}
 use Prim.Native.Nat.{ℕ, _+_, _-_, _*_, _/_, _%_, _^_, _≤_, _<_}
 use native.Mathlib.Omega.{arith}
 use lib.ListN.{length, getD}
-use Rattle.laws.specs.Order.{by-order}
-use Rattle.laws.specs.Tests.{by-equal, true-eq, true≢false}
+use Rattle.laws.specs.Laws.Cases.{by-order, by-equal}
+use Rattle.laws.specs.Laws.Tests.{true-eq, true≢false}
 use Rattle.cells.specs.Stream.{from, dataByte}
 use Rattle.cells.specs.Sync.{syncWord, threeSync}
 use Rattle.cells.specs.Theorems.{triple-only}

@@ -5,9 +5,8 @@ use mathlib.Core.Path.{_≡_, sym, ap, _∙_}
 use Prim.Native.Nat.{ℕ, _+_, _-_, _*_, _/_, _%_, _≤_, _<_}
 use native.Mathlib.Omega.{arith}
 use lib.ListN.{length, getD}
-use Rattle.laws.specs.Order.{by-order}
-use Rattle.laws.specs.Tab.{tab-in}
-use Rattle.laws.specs.Tests.{by-equal}
+use Rattle.laws.specs.Laws.Cases.{by-order, by-equal}
+use Rattle.laws.specs.Laws.Tab.{tab-in}
 use Rattle.cells.specs.Written.{leftOut, writtenCell, written}
 use Rattle.cells.specs.Laws.Clocks.{clock-after, clock-before}
 use Rattle.cells.specs.Laws.Written.{left-out, written-bit, written-length}

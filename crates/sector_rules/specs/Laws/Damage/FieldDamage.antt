@@ -7,9 +7,10 @@ use Prim.Native.Nat.{ℕ, _+_, _-_, _*_, _/_, _%_, _≤_, _<_}
 use native.Mathlib.Omega.{arith}
 use lib.Dec.{leb, eqb}
 use lib.ListN.{length, getD}
-use Rattle.laws.specs.Tab.{tab, tab-ext}
-use Rattle.laws.specs.Tests.{cond-true, eq-true}
-use Rattle.laws.specs.Truth.{by-test, and-left}
+use Rattle.laws.specs.Lists.{tab}
+use Rattle.laws.specs.Laws.Cases.{by-test}
+use Rattle.laws.specs.Laws.Tests.{cond-true, eq-true, and-left}
+use Rattle.laws.specs.Laws.Tab.{tab-ext}
 use Rattle.cells.specs.Crc.{crcFollows}
 use Rattle.cells.specs.Stream.{from, dataByte, hfeSide}
 use Rattle.cells.specs.Sync.{threeSync}

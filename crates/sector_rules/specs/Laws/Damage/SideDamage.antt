@@ -7,9 +7,8 @@ use mathlib.Core.Path.{_≡_, sym, ap, _∙_}
 use Prim.Native.Nat.{ℕ, _+_, _*_, _/_, _≤_, _<_}
 use native.Mathlib.Omega.{arith}
 use lib.ListN.{length}
-use Rattle.laws.specs.Order.{by-order}
-use Rattle.laws.specs.Truth.{by-test}
-use Rattle.laws.specs.Tests.{true≢false, by-equal}
+use Rattle.laws.specs.Laws.Cases.{by-order, by-test, by-equal}
+use Rattle.laws.specs.Laws.Tests.{true≢false}
 use Rattle.cells.specs.Stream.{from}
 use Rattle.cells.specs.Sync.{threeSync}
 use Rattle.cells.specs.Theorems.{triple-only}

@@ -9,8 +9,9 @@ use native.Mathlib.Omega.{arith}
 use lib.Dec.{lit<}
 use lib.ListN.{length, getD}
 use borrow.Author.Tests.{le-leb, eq-eqb}
-use Rattle.laws.specs.Truth.{by-test}
-use Rattle.laws.specs.Tab.{tab, eq-tab}
+use Rattle.laws.specs.Lists.{tab}
+use Rattle.laws.specs.Laws.Cases.{by-test}
+use Rattle.laws.specs.Laws.Tab.{eq-tab}
 use Rattle.cells.specs.Stream.{from, dataByte, dataBytes}
 use Rattle.cells.specs.Sync.{syncAt, threeSync}
 use Rattle.cells.specs.Written.{byteOf}

@@ -10,13 +10,14 @@ use lib.Dec.{eqb, lit<}
 use lib.ListN.{length, getD, drop}
 use lib.Seq.{ext-getD, getD-take, getD-drop}
 use borrow.Author.Tests.{le-leb}
-use Rattle.laws.specs.Order.{by-order}
-use Rattle.laws.specs.Below.{all, all-eq}
-use Rattle.laws.specs.Tab.{tab, tab-length, tab-in, eq-tab, getD-past, window, window-in, window-length}
-use Rattle.laws.specs.Numbers.{up}
-use Rattle.laws.specs.Same.{standsAt, stands-all}
-use Rattle.laws.specs.Words.{lowFirst, lowByte}
-use Rattle.laws.specs.Lowest.{lowest-none}
+use Rattle.laws.specs.Lists.{tab, window, standsAt}
+use Rattle.laws.specs.Below.{all}
+use Rattle.laws.specs.Numbers.{up, lowFirst, lowByte}
+use Rattle.laws.specs.Laws.Cases.{by-order}
+use Rattle.laws.specs.Laws.All.{all-eq}
+use Rattle.laws.specs.Laws.Lowest.{lowest-none}
+use Rattle.laws.specs.Laws.Tab.{tab-length, tab-in, eq-tab, getD-past, window-in, window-length}
+use Rattle.laws.specs.Laws.Same.{stands-all}
 use Rattle.cells.specs.Stream.{bytePlace, cellAt, stream, hfeSide, packed}
 use Rattle.cells.specs.Written.{writtenCell, written}
 use Rattle.cells.specs.Laws.Stream.{stream-length, stream-in}

@@ -9,9 +9,9 @@ use native.Mathlib.Omega.{arith}
 use lib.Dec.{eqb, ltb, lit<}
 use lib.ListN.{length, getD}
 use borrow.Author.Tests.{ltb-true, ltb-false, le-leb, eq-eqb, eqb-true}
-use Rattle.laws.specs.Tab.{tab}
-use Rattle.laws.specs.Truth.{and-right}
-use Rattle.laws.specs.Words.{highByte}
+use Rattle.laws.specs.Lists.{tab}
+use Rattle.laws.specs.Numbers.{highByte}
+use Rattle.laws.specs.Laws.Tests.{and-right}
 use Rattle.cells.specs.Stream.{from, dataByte, dataBytes}
 use Rattle.cells.specs.Sync.{syncAt, threeSync}
 use Rattle.cells.specs.Written.{byteOf, written, Triple}

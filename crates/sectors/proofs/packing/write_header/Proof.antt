@@ -1,7 +1,7 @@
 -- `write_header` meets its contract: signature, the rest of the header as it is named, and FF.
 -- Assumes nothing.
 use mathlib.Core.Path.{_∙_}
-use Rattle.laws.specs.Words.{lowByte}
+use Rattle.laws.specs.Numbers.{lowByte}
 use Rattle.sector_rules.specs.Hfe.{signature}
 use Rattle.sector_rules.specs.Packed.{headerRest}
 use Rattle.sectors.specs.Laws.Packing.Runs.{header-written}

@@ -5,7 +5,8 @@ use Prim.Native.Nat.{_-_, _*_, _≤_}
 use native.Mathlib.Omega.{arith}
 use lib.ListN.{length}
 use borrow.Author.Needs.{needs}
-use Rattle.laws.specs.Overlay.{overlay, overlay-none, overlay-length}
+use Rattle.laws.specs.Changes.{overlay}
+use Rattle.laws.specs.Laws.Overlay.{overlay-none, overlay-length}
 use Rattle.sector_rules.specs.Geometry.{tracks, sides}
 use Rattle.sector_rules.specs.Hfe.{unitBytes}
 use Rattle.sector_rules.specs.Packed.{hfeBytes, trackUnits, firstUnit}

@@ -5,7 +5,7 @@ use native.Mathlib.Omega.{arith}
 use lib.Dec.{ltb}
 use borrow.Author.Needs.{needs}
 use borrow.Author.Tests.{ltb-true}
-use Rattle.laws.specs.Truth.{and-left, and-right}
+use Rattle.laws.specs.Laws.Tests.{and-left, and-right}
 use Rattle.sectors.proofs.placement.place.Statement.{statement}
 use Rattle.sectors.proofs.placement.place.Tie as tie
 

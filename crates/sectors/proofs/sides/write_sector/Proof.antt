@@ -5,7 +5,8 @@ use Prim.Native.Nat.{_-_, _≤_}
 use native.Mathlib.Omega.{arith}
 use lib.ListN.{length, length-set}
 use borrow.Author.Needs.{needs}
-use Rattle.laws.specs.Overlay.{overlay, overlay-none, overlay-more}
+use Rattle.laws.specs.Changes.{overlay}
+use Rattle.laws.specs.Laws.Overlay.{overlay-none, overlay-more}
 use Rattle.cells.specs.Stream.{stream}
 use Rattle.sector_rules.specs.Search.{sectorByte}
 use Rattle.sectors.proofs.sides.write_sector.Statement.{statement}

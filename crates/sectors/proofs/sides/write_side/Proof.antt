@@ -5,7 +5,8 @@ use Prim.Native.Nat.{_-_, _*_, _≤_}
 use native.Mathlib.Omega.{arith}
 use lib.ListN.{length}
 use borrow.Author.Needs.{needs}
-use Rattle.laws.specs.Overlay.{overlay, overlay-none, overlay-length}
+use Rattle.laws.specs.Changes.{overlay}
+use Rattle.laws.specs.Laws.Overlay.{overlay-none, overlay-length}
 use Rattle.cells.specs.Stream.{stream}
 use Rattle.sector_rules.specs.Geometry.{sectors, sectorBytes, imageBytes}
 use Rattle.sectors.specs.Laws.Unpacking.Sides.{placedByte, side-more}

@@ -5,7 +5,8 @@ use Prim.Native.Nat.{ℕ, _+_, _-_, _*_, _≤_}
 use native.Mathlib.Omega.{arith}
 use lib.ListN.{length}
 use borrow.Author.Needs.{needs}
-use Rattle.laws.specs.Overlay.{overlay, overlay-none, overlay-next, overlay-all, overlay-length}
+use Rattle.laws.specs.Changes.{overlay}
+use Rattle.laws.specs.Laws.Overlay.{overlay-none, overlay-next, overlay-all, overlay-length}
 use Rattle.sector_rules.specs.Geometry.{tracks, sides, sectors, sectorBytes, imageBytes}
 use Rattle.sector_rules.specs.Unpacked.{unpackedByte}
 use Rattle.sectors.specs.Laws.Unpacking.Sides.{side-byte}

@@ -5,7 +5,8 @@ use Prim.Native.Nat.{_+_, _-_, _*_, _≤_}
 use native.Mathlib.Omega.{arith}
 use lib.ListN.{length, length-set}
 use borrow.Author.Needs.{needs}
-use Rattle.laws.specs.Overlay.{overlay, overlay-none}
+use Rattle.laws.specs.Changes.{overlay}
+use Rattle.laws.specs.Laws.Overlay.{overlay-none}
 use Rattle.cells.specs.Written.{bitBefore}
 use Rattle.sector_rules.specs.Packed.{imageSide}
 use Rattle.sectors.specs.Laws.Packing.Runs.{itemsByte, bit-next, items-more}

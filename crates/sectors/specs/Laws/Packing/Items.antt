@@ -6,8 +6,9 @@ use Prim.Native.Nat.{ℕ, zero, suc, _+_, _-_, _*_, _/_, _%_, _≤_, _<_}
 use native.Mathlib.Omega.{arith}
 use lib.ListN.{length, getD, take, drop, List·getD-eq-default}
 use borrow.Author.Tests.{le-ltb, eq-eqb, ne-eqb}
-use Rattle.laws.specs.Words.{lowByte}
-use Rattle.laws.specs.Tab.{window, window-in, window-length, window-part}
+use Rattle.laws.specs.Lists.{window}
+use Rattle.laws.specs.Numbers.{lowByte}
+use Rattle.laws.specs.Laws.Tab.{window-in, window-length, window-part}
 use Rattle.cells.specs.Crc.{crcStart, crcFrom, crc}
 use Rattle.cells.specs.Laws.Crc.{crcFrom-append}
 use Rattle.cells.specs.declared.Item.the-variants.{Plain, Index}

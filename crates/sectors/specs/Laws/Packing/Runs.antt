@@ -8,10 +8,12 @@ use native.Mathlib.Omega.{arith}
 use lib.Dec.{ltb}
 use lib.ListN.{length, set}
 use borrow.Author.Tests.{lt-ltb, le-ltb}
-use Rattle.laws.specs.Below.{all, all-eq}
-use Rattle.laws.specs.Overlay.{overlay, put, overlay-more, overlay-cong, overlay-on, overlay-next, overlay-all}
-use Rattle.laws.specs.Tab.{tab, elementAt}
-use Rattle.laws.specs.Words.{lowByte}
+use Rattle.laws.specs.Lists.{tab, elementAt}
+use Rattle.laws.specs.Changes.{overlay, put}
+use Rattle.laws.specs.Below.{all}
+use Rattle.laws.specs.Numbers.{lowByte}
+use Rattle.laws.specs.Laws.All.{all-eq}
+use Rattle.laws.specs.Laws.Overlay.{overlay-more, overlay-cong, overlay-on, overlay-next, overlay-all}
 use Rattle.cells.specs.Mfm.{bitOf}
 use Rattle.cells.specs.Stream.{packed}
 use Rattle.cells.specs.Written.{byteOf, itemCell, bitBefore, writtenCell}

@@ -9,7 +9,7 @@ use lib.Dec.{eqb}
 use lib.ListN.{length, getD, set, replicate, getD-replicate}
 use lib.Seq.{getD-set-same, getD-set-other}
 use borrow.Author.Tests.{le-leb, lt-leb, eq-eqb, ne-eqb}
-use Rattle.laws.specs.Tests.{by-equal}
+use Rattle.laws.specs.Laws.Cases.{by-equal}
 use Rattle.cells.specs.Stream.{from, dataByte}
 use Rattle.cells.specs.Sync.{threeSync}
 use Rattle.sector_rules.specs.declared.Id.{Id}

@@ -8,10 +8,11 @@ use native.Mathlib.Omega.{arith}
 use lib.ListN.{getD, length}
 use lib.Dec.{ltb, leb, eqb}
 use borrow.Author.Tests.{lt-ltb, leb-true, not-false}
-use Rattle.laws.specs.Below.{all, all-lt}
-use Rattle.laws.specs.Order.{by-order}
-use Rattle.laws.specs.Truth.{and-right}
-use Rattle.laws.specs.Lowest.{lowest, lowest-some, lowest-all}
+use Rattle.laws.specs.Below.{all, lowest}
+use Rattle.laws.specs.Laws.Cases.{by-order}
+use Rattle.laws.specs.Laws.Tests.{and-right}
+use Rattle.laws.specs.Laws.All.{all-lt}
+use Rattle.laws.specs.Laws.Lowest.{lowest-some, lowest-all}
 use Rattle.sector_rules.specs.declared.Fault.the-variants.{At, Sound}
 use Rattle.sector_rules.specs.Geometry.{tracks, trackSectors, sidePlace, backward}
 use Rattle.sector_rules.specs.Faults.{faultBelow, lowestFault}

@@ -9,9 +9,9 @@ use lib.Dec.{eqb}
 use lib.ListN.{length, getD, set}
 use lib.Seq.{getD-set-same, getD-set-other}
 use borrow.Author.Tests.{lt-ltb, eq-eqb, ne-eqb, eqb-false}
-use Rattle.laws.specs.Tests.{by-equal}
-use Rattle.laws.specs.Lowest.{lowest-none, lowest-some}
-use Rattle.laws.specs.Tab.{tab}
+use Rattle.laws.specs.Lists.{tab}
+use Rattle.laws.specs.Laws.Cases.{by-equal}
+use Rattle.laws.specs.Laws.Lowest.{lowest-none, lowest-some}
 use Rattle.sector_rules.specs.declared.Reply.{Reply}
 use Rattle.sector_rules.specs.declared.Sector.{Sector}
 use Rattle.sector_rules.specs.declared.Sector.the-variants.{Delivered}

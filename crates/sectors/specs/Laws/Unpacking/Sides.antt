@@ -6,9 +6,10 @@ use Prim.Native.Nat.{ℕ, _+_, _*_, _/_, _%_, _<_}
 use native.Mathlib.Omega.{arith}
 use lib.ListN.{length, getD, set}
 use lib.Seq.{getD-set-same, getD-set-other}
-use Rattle.laws.specs.Overlay.{overlay, overlay-on}
-use Rattle.laws.specs.Tab.{tab-in}
-use Rattle.laws.specs.Tests.{by-equal}
+use Rattle.laws.specs.Changes.{overlay}
+use Rattle.laws.specs.Laws.Cases.{by-equal}
+use Rattle.laws.specs.Laws.Tab.{tab-in}
+use Rattle.laws.specs.Laws.Overlay.{overlay-on}
 use Rattle.cells.specs.Stream.{stream, hfeSide}
 use Rattle.cells.specs.declared.Side.{Side}
 use Rattle.sector_rules.specs.declared.Found.{Found}

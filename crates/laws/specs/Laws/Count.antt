@@ -1,5 +1,5 @@
 -- How many numbers below a bound pass a test, and sums over the numbers below a bound.
--- Assumes nothing.
+-- Rests on the laws of tests and of a function that is changed at one number.
 use mathlib.Core.Path.{_≡_, refl, sym, ap, ap₂, _∙_}
 use mathlib.Core.Logic.{_≢_}
 use mathlib.Core.Bool.{Bool, true, false, cond, _&&_, _||_}
@@ -7,40 +7,36 @@ use Prim.Native.Nat.{ℕ, zero, suc, _+_, _*_, _≤_, _<_}
 use native.Mathlib.Nat.{add-zero, add-suc, not-suc-le-zero}
 use native.Mathlib.Omega.{arith}
 use lib.Dec.{lit≤}
-use Rattle.laws.specs.Truth.{by-test}
-use Rattle.laws.specs.Tests.{true≢false, by-equal, cond-true, cond-false, and-not, or-left, or-right, or-none}
-use Rattle.laws.specs.Change.{upd, upd-same, upd-other}
+use Rattle.laws.specs.Below.{count, sum}
+use Rattle.laws.specs.Changes.{upd}
+use Rattle.laws.specs.Laws.Cases.{by-test, by-equal}
+use Rattle.laws.specs.Laws.Tests.{cond-true, cond-false, and-not, or-left, or-right, or-none}
+use Rattle.laws.specs.Laws.Changes.{upd-same, upd-other}
 
--- how many numbers below n pass the test; the count is bound, so that it is computed once
-unfoldable pub count : ℕ → (ℕ → Bool) → ℕ
-count zero p = zero
-count (suc n) p = let c : ℕ = count n p in cond (p n) (suc c) c
-
--- the sum of f 0 to f (n - 1)
-unfoldable pub sum : ℕ → (ℕ → ℕ) → ℕ
-sum zero f = zero
-sum (suc n) f = sum n f + f n
-
+-- two tests that agree below n have the same count
 pub count-cong : (n : ℕ) (p q : ℕ → Bool) → ((i : ℕ) → i < n → p i ≡ q i) → count n p ≡ count n q
 unfolding count
 count-cong zero p q e = refl
 count-cong (suc n) p q e =
     ap₂ (λ (b : Bool) (c : ℕ). cond b (suc c) c) (e n (omega arith)) (count-cong n p q (λ i h. e i (omega arith)))
 
+-- a number that passes counts one more
 pub count-yes : (n : ℕ) (p : ℕ → Bool) → p n ≡ true → count (suc n) p ≡ suc (count n p)
 unfolding count
 count-yes n p e = cond-true (suc (count n p)) (count n p) e
 
+-- a number that fails counts nothing
 pub count-no : (n : ℕ) (p : ℕ → Bool) → p n ≡ false → count (suc n) p ≡ count n p
 unfolding count
 count-no n p e = cond-false (suc (count n p)) (count n p) e
 
+-- where no number below n passes, the count is 0
 pub count-none : (n : ℕ) (p : ℕ → Bool) → ((i : ℕ) → i < n → p i ≡ false) → count n p ≡ 0
 unfolding count
 count-none zero p e = refl
 count-none (suc n) p e = count-no n p (e n (omega arith)) ∙ count-none n p (λ i h. e i (omega arith))
 
--- q passes where p does but at i
+-- where q passes as p does, but fails at a number where p passes, p counts one more than q
 pub count-drop : (n i : ℕ) (p q : ℕ → Bool) → i < n → p i ≡ true → q i ≡ false → ((j : ℕ) → j < n → j ≢ i → p j ≡ q j) → count n p ≡ suc (count n q)
 count-drop zero i p q h a b e = absurd (not-suc-le-zero h)
 count-drop (suc n) i p q h a b e =
@@ -53,12 +49,13 @@ count-drop (suc n) i p q h a b e =
     (λ t. count-yes n p (same-n ∙ t) ∙ ap suc (ih ∙ sym (count-yes n q t)))
     (λ t. count-no n p (same-n ∙ t) ∙ ih ∙ ap suc (sym (count-no n q t))))
 
+-- where one number alone below n passes, the count is 1
 pub count-one : (n i : ℕ) (p : ℕ → Bool) → i < n → p i ≡ true → ((j : ℕ) → j < n → p j ≡ true → j ≡ i) → count n p ≡ 1
 count-one n i p h a u =
     count-drop n i p (λ (j : ℕ). false) h a refl (λ j l r. by-test (p j) (λ t. absurd (r (u j l t))) (λ t. t))
     ∙ ap suc (count-none n (λ (j : ℕ). false) (λ j l. refl))
 
--- of two tests that never both pass
+-- the count of a disjunction of two tests that never both pass is the sum of their counts
 pub count-or : (n : ℕ) (p q : ℕ → Bool) → ((i : ℕ) → i < n → (p i && q i) ≡ false) → count n (λ (i : ℕ). (p i || q i)) ≡ count n p + count n q
 unfolding count
 count-or zero p q e = refl
@@ -73,18 +70,19 @@ count-or (suc n) p q e =
     (λ b. omega (arith, count-yes n (λ (i : ℕ). (p i || q i)) (or-right (p n) (q n) b), count-no n p a, count-yes n q b))
     (λ b. omega (arith, count-no n (λ (i : ℕ). (p i || q i)) (or-none (p n) (q n) a b), count-no n p a, count-no n q b)))
 
+-- the count is at most n
 pub count-le : (n : ℕ) (p : ℕ → Bool) → count n p ≤ n
 unfolding count
 count-le zero p = omega arith
 count-le (suc n) p = by-test (p n) (λ e. omega (arith, count-yes n p e, count-le n p)) (λ e. omega (arith, count-no n p e, count-le n p))
 
--- all from 1 to n pass, and 0 does not
+-- where 0 fails and 1 to n pass, the count below n + 1 is n
 pub count-but-zero : (n : ℕ) (p : ℕ → Bool) → p 0 ≡ false → ((j : ℕ) → 0 < j → j ≤ n → p j ≡ true) → count (suc n) p ≡ n
 unfolding count
 count-but-zero zero p z e = count-no 0 p z
 count-but-zero (suc n) p z e = count-yes (suc n) p (e (suc n) (omega arith) (omega arith)) ∙ ap suc (count-but-zero n p z (λ j h l. e j h (omega arith)))
 
--- two numbers do not pass
+-- where two numbers below n fail, the count is at most n - 2
 pub count-two-out : (n i j : ℕ) (p : ℕ → Bool) → i < n → j < n → i ≢ j → p i ≡ false → p j ≡ false → count n p + 2 ≤ n
 count-two-out n i j p hi hj q ei ej =
     let p₁ : ℕ → Bool = upd p i true in
@@ -95,7 +93,7 @@ count-two-out n i j p hi hj q ei ej =
     count-drop n j p₂ p₁ hj (upd-same p₁ j true j refl) (upd-other p i true j (omega arith) ∙ ej) (λ l h r. upd-other p₁ j true l r) in
     omega (arith, count-le n p₂)
 
--- counted from below
+-- where 0 passes, the count is one more than that of the numbers above 0
 pub count-head-yes : (n : ℕ) (p : ℕ → Bool) → p 0 ≡ true → count (suc n) p ≡ suc (count n (λ (j : ℕ). p (suc j)))
 unfolding count
 count-head-yes zero p e = count-yes 0 p e
@@ -104,6 +102,7 @@ count-head-yes (suc n) p e =
     (λ t. count-yes (suc n) p t ∙ ap suc (count-head-yes n p e ∙ sym (count-yes n (λ (j : ℕ). p (suc j)) t)))
     (λ t. count-no (suc n) p t ∙ count-head-yes n p e ∙ ap suc (sym (count-no n (λ (j : ℕ). p (suc j)) t)))
 
+-- where 0 fails, the count is that of the numbers above 0
 pub count-head-no : (n : ℕ) (p : ℕ → Bool) → p 0 ≡ false → count (suc n) p ≡ count n (λ (j : ℕ). p (suc j))
 unfolding count
 count-head-no zero p e = count-no 0 p e
@@ -114,12 +113,14 @@ count-head-no (suc n) p e =
 
 -- from a on, none of the next b numbers passes, or at most one
 module _ (p : ℕ → Bool) (a : ℕ) where
+  -- where none of the next b numbers passes, the count stays
   pub count-still : (b : ℕ) → ((x : ℕ) → a ≤ x → x < a + b → p x ≡ false) → count (a + b) p ≡ count a p
   count-still zero h = ap (λ (n : ℕ). count n p) (add-zero a)
   count-still (suc b) h =
       ap (λ (n : ℕ). count n p) (add-suc a b) ∙ count-no (a + b) p (h (a + b) (omega arith) (omega arith))
       ∙ count-still b (λ x l m. h x l (omega arith))
 
+  -- where at most one of the next b numbers passes, the count grows by at most 1
   pub count-once : (b : ℕ) → ((x y : ℕ) → a ≤ x → x < a + b → a ≤ y → y < a + b → p x ≡ true → p y ≡ true → x ≡ y) → count (a + b) p ≤ count a p + 1
   count-once zero h = omega (arith, ap (λ (n : ℕ). count n p) (add-zero a))
   count-once (suc b) h =
@@ -138,7 +139,7 @@ module _ (p : ℕ → Bool) (a : ℕ) where
         count-once b (λ x y l m l′ m′ u v. h x y l (omega arith) l′ (omega arith) u v),
       ))
 
--- m rows of b numbers, of each at most one passes
+-- where at most one number of each of m rows of b numbers passes, the count is at most m
 pub count-blocks : (p : ℕ → Bool) (b m : ℕ) → ((k x y : ℕ) → k < m → k * b ≤ x → x < k * b + b → k * b ≤ y → y < k * b + b → p x ≡ true → p y ≡ true → x ≡ y)
     → count (m * b) p ≤ m
 unfolding count
@@ -149,17 +150,19 @@ count-blocks p b (suc m) h =
 
 -- ---- sums
 
+-- two functions that agree below n have the same sum
 pub sum-cong : (n : ℕ) (f g : ℕ → ℕ) → ((i : ℕ) → i < n → f i ≡ g i) → sum n f ≡ sum n g
 unfolding sum
 sum-cong zero f g e = refl
 sum-cong (suc n) f g e = ap₂ (λ (x y : ℕ). x + y) (sum-cong n f g (λ i h. e i (omega arith))) (e n (omega arith))
 
+-- each value is at most the sum
 pub sum-at : (n k : ℕ) (f : ℕ → ℕ) → k < n → f k ≤ sum n f
 unfolding sum
 sum-at zero k f h = absurd (not-suc-le-zero h)
 sum-at (suc n) k f h = by-equal k n (λ r. omega (arith, ap f r)) (λ r. omega (arith, sum-at n k f (omega arith)))
 
--- f and g differ at k alone
+-- where f and g differ at k alone, their sums differ as their values there do
 pub sum-change : (n k : ℕ) (f g : ℕ → ℕ) → k < n → ((j : ℕ) → j < n → j ≢ k → f j ≡ g j) → sum n f + g k ≡ sum n g + f k
 unfolding sum
 sum-change zero k f g h e = absurd (not-suc-le-zero h)
@@ -172,6 +175,7 @@ sum-change (suc n) k f g h e =
     let ih : sum n f + g k ≡ sum n g + f k = sum-change n k f g (omega arith) (λ j l. e j (omega arith)) in
     omega (arith, e n (omega arith) r))
 
+-- the sum of zeros is 0
 pub sum-none : (n : ℕ) (f : ℕ → ℕ) → ((i : ℕ) → i < n → f i ≡ 0) → sum n f ≡ 0
 unfolding sum
 sum-none zero f e = refl

@@ -1,39 +1,20 @@
--- Numbers in bytes, highest or lowest byte first, at any width.
--- Assumes nothing.
+-- Numbers in bytes, highest or lowest byte first: what was written is read, and the bytes written out.
+-- Rests on the laws of what is written into a list.
 use mathlib.Core.Path.{_≡_, refl, _∙_, ap, ap₂, sym}
 use mathlib.Core.List.{List, [], _∷_}
 use Prim.Native.Nat.{ℕ, zero, suc, _+_, _-_, _*_, _/_, _%_, _^_, _<_, _≤_}
-use native.Mathlib.Nat.{add-assoc, div-one}
+use native.Mathlib.Nat.{add-assoc, add-zero, zero-add, div-one}
 use native.Mathlib.Omega.{arith}
 use lib.ListN.{length, getD}
 use lib.Pow.{shr-shr, mod-pow-add}
-use Rattle.laws.specs.Tab.{tab, elementAt}
-use Rattle.laws.specs.Overlay.{overlay, overlay-in}
-
--- the number in the n bytes f 0, f 1 .., highest byte first
-unfoldable pub bigEndian : (ℕ → ℕ) → ℕ → ℕ
-bigEndian f zero = 0
-bigEndian f (suc n) = bigEndian f n * 256 + f n
-
--- the number in the n bytes of s from at on, highest byte first
-unfoldable pub highFirst : List ℕ → ℕ → ℕ → ℕ
-highFirst s at n = bigEndian (elementAt s at) n
-
--- lowest byte first
-unfoldable pub lowFirst : List ℕ → ℕ → ℕ → ℕ
-lowFirst s at zero = 0
-lowFirst s at (suc n) = lowFirst s at n + getD s (at + n) 0 * 2 ^ (8 * n)
-
--- byte k of the n bytes of v, highest first
-unfoldable pub highByte : ℕ → ℕ → ℕ → ℕ
-highByte n v k = v / 2 ^ (8 * (n - (k + 1))) % 256
-
--- byte k of v, lowest first
-unfoldable pub lowByte : ℕ → ℕ → ℕ
-lowByte v k = v / 2 ^ (8 * k) % 256
+use Rattle.laws.specs.Lists.{tab, elementAt}
+use Rattle.laws.specs.Changes.{overlay}
+use Rattle.laws.specs.Numbers.{bigEndian, highFirst, lowFirst, highByte, lowByte, at16, at32}
+use Rattle.laws.specs.Laws.Overlay.{overlay-in}
 
 -- ---- rows that agree
 
+-- bytes that agree make the same number
 pub big-ext : (f g : ℕ → ℕ) (n : ℕ) → ((k : ℕ) → k < n → f k ≡ g k) → bigEndian f n ≡ bigEndian g n
 unfolding bigEndian
 big-ext f g zero e = refl
@@ -66,7 +47,7 @@ low-prefix s at v (suc n) e =
     let a : 8 * suc n ≡ 8 + 8 * n = omega arith in
     rw (low-prefix s at v n (λ k l. e k (omega arith)), e n (omega arith), a, mod-pow-add v 8 (8 * n)) (omega arith)
 
--- at any width, the number in the bytes of v is v
+-- at any width, the number in the bytes of v, highest first, is v, less what the width does not hold
 pub high-is : (f : ℕ → ℕ) (n v : ℕ) → ((k : ℕ) → k < n → f k ≡ highByte n v k) → bigEndian f n ≡ v % 2 ^ (8 * n)
 high-is f n v e = high-prefix f n v e n (omega arith) ∙ rest
   where
@@ -74,6 +55,7 @@ high-is f n v e = high-prefix f n v e n (omega arith) ∙ rest
     rest = let e : 8 * (n - n) ≡ 0 = omega arith in rw (e, div-one v)
 
 module _ (d : List ℕ) (at n v : ℕ) (h : at + n ≤ length d) where
+  -- a number written highest byte first is read back, less what the width does not hold
   pub high-back : highFirst (overlay d at n (highByte n v)) at n ≡ v % 2 ^ (8 * n)
   unfolding highFirst elementAt
   high-back =
@@ -82,6 +64,7 @@ module _ (d : List ℕ) (at n v : ℕ) (h : at + n ≤ length d) where
       let e : at + k - at ≡ k = omega arith in
       overlay-in d at n (highByte n v) (at + k) (omega arith) (omega arith) (omega arith) ∙ ap (highByte n v) e)
 
+  -- a number written lowest byte first is read back, less what the width does not hold
   pub low-back : lowFirst (overlay d at n (lowByte v)) at n ≡ v % 2 ^ (8 * n)
   low-back =
       low-prefix (overlay d at n (lowByte v)) at v n
@@ -91,14 +74,39 @@ module _ (d : List ℕ) (at n v : ℕ) (h : at + n ≤ length d) where
 
 -- ---- the bytes of two and of four, written out
 
+-- the two bytes of a number, highest first, written out
 pub high-row2 : (v : ℕ) → v / 256 % 256 ∷ v % 256 ∷ [] ≡ tab (highByte 2 v) 2
 unfolding tab highByte
 high-row2 v = rw (div-one v)
 
+-- the four bytes of a number, highest first, written out
 pub high-row4 : (v : ℕ) → v / 16777216 % 256 ∷ v / 65536 % 256 ∷ v / 256 % 256 ∷ v % 256 ∷ [] ≡ tab (highByte 4 v) 4
 unfolding tab highByte
 high-row4 v = rw (div-one v)
 
+-- the two bytes of a number, lowest first, written out
 pub low-row2 : (v : ℕ) → v % 256 ∷ v / 256 % 256 ∷ [] ≡ tab (lowByte v) 2
 unfolding tab lowByte
 low-row2 v = rw (div-one v)
+
+-- ---- numbers of two and of four bytes, written out
+
+-- the number in two bytes, written out
+pub at16-is : (f : ℕ → ℕ) (o : ℕ) → at16 f o ≡ f o * 256 + f (o + 1)
+unfolding at16 bigEndian
+at16-is f o = rw (add-zero o, zero-add (f o))
+
+-- the number in four bytes, written out
+pub at32-is : (f : ℕ → ℕ) (o : ℕ) → at32 f o ≡ ((f o * 256 + f (o + 1)) * 256 + f (o + 2)) * 256 + f (o + 3)
+unfolding at32 bigEndian
+at32-is f o = rw (add-zero o, zero-add (f o))
+
+-- ---- the number in the bytes of v is v
+
+-- the number in the two bytes of a number that fits them is that number
+pub high2-at : (v : ℕ) → v < 65536 → bigEndian (highByte 2 v) 2 ≡ v
+high2-at v h = let e = high-is (highByte 2 v) 2 v (λ k l. refl) in omega (arith, e)
+
+-- the number in the four bytes of a number that fits them is that number
+pub high4-at : (v : ℕ) → v < 4294967296 → bigEndian (highByte 4 v) 4 ≡ v
+high4-at v h = let e = high-is (highByte 4 v) 4 v (λ k l. refl) in omega (arith, e)
