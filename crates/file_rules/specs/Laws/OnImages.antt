@@ -1,4 +1,6 @@
 -- Stage 3: calls on an image give what the inner model gives.
 pub mod Remove
+pub mod Slot
+pub mod Added
 pub mod Add
 pub mod Run

@@ -15,8 +15,9 @@ use Rattle.sector_rules.specs.declared.Reply.{Reply}
 use Rattle.file_rules.specs.Calls.{Outcome, kept}
 use Rattle.file_rules.specs.Directory.{nameEq, nameRight}
 use Rattle.file_rules.specs.Histories.{Call, accepted, without, leftBy, filesLeft, mostPresent, toAdd, toRemove, toList, toRead}
-use Rattle.file_rules.specs.Laws.OnImages.Add.{k-none, present-add, room-fits}
-use Rattle.file_rules.specs.Laws.InnerModel.Facts.{found-slot}
+use Rattle.file_rules.specs.Laws.OnImages.Slot.{k-none, room-fits}
+use Rattle.file_rules.specs.Laws.OnImages.Added.{present-add}
+use Rattle.file_rules.specs.Laws.InnerModel.Reads.{found-slot}
 use Rattle.file_rules.specs.Laws.InnerModel.Inner.{Inner, present, findM, emptySlot, ChangedM, refusedM, removeAtM, removeM, peakAfter, addAtM, roomFor, addM, stepM, outM, outsM, endM}
 use Rattle.file_rules.specs.Laws.InnerModel.Invariant.{Inv}
 use Rattle.file_rules.specs.Laws.Base.Names.{name-bounds}

@@ -15,7 +15,8 @@ use Rattle.file_rules.specs.declared.Record.the-variants.{Free, System, 
 use Rattle.file_rules.specs.Directory.{dirEnd}
 use Rattle.file_rules.specs.Disk.{Disk}
 use Rattle.file_rules.specs.History.{HasEntry, Belongs, inHead, inSlot, inFile}
-use Rattle.file_rules.specs.Laws.InnerModel.Facts.{parts-none, dirEnd-is, rec, entry-is}
+use Rattle.file_rules.specs.Laws.InnerModel.Fields.{parts-none}
+use Rattle.file_rules.specs.Laws.InnerModel.Reads.{dirEnd-is, rec, entry-is}
 use Rattle.file_rules.specs.Laws.InnerModel.Inner.{Inner, header, render}
 use Rattle.file_rules.specs.Laws.InnerModel.Invariant.{Inv}
 use Rattle.file_rules.specs.Laws.FilesLeft.Present.{Fills, fills-present}

@@ -24,8 +24,10 @@ use Rattle.file_rules.specs.Arguments.{FormatArguments}
 use Rattle.file_rules.specs.Calls.{Outcome, kept, freshOwner}
 use Rattle.file_rules.specs.Directory.{nameEq, nameRight}
 use Rattle.file_rules.specs.Histories.{Call, modelOut, modelStep, modelOuts, modelEnd, toAdd, toRemove, toList, toRead}
-use Rattle.file_rules.specs.Laws.OnImages.Add.{k-pos, k-none, by-growth, dir-parts, first-length, owned₁, parts₁-k, parts-after}
-use Rattle.file_rules.specs.Laws.InnerModel.Facts.{parts-none, found-slot}
+use Rattle.file_rules.specs.Laws.OnImages.Slot.{k-pos, k-none, by-growth}
+use Rattle.file_rules.specs.Laws.OnImages.Added.{dir-parts, first-length, owned₁, parts₁-k, parts-after}
+use Rattle.file_rules.specs.Laws.InnerModel.Fields.{parts-none}
+use Rattle.file_rules.specs.Laws.InnerModel.Reads.{found-slot}
 use Rattle.file_rules.specs.Laws.InnerModel.Inner.{Inner, present, fileBlocks, header, render, emptySlots, formatM, findM, emptySlot, give, freeOf, listM, readM, ChangedM, refusedM, removeAtM, removeM, growOwner, peakAfter, addAtM, roomFor, addM, stepM, outM, outsM, endM}
 use Rattle.file_rules.specs.Laws.InnerModel.Invariant.{partsOf, Inv}
 use Rattle.file_rules.specs.Laws.InModel.Listed.{listedBlocks, withOwner, Listed, owner-is, give-listed, freed-listed, listed-cong}

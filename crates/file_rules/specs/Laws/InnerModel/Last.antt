@@ -16,7 +16,7 @@ use Rattle.file_rules.specs.declared.Record.{Record}
 use Rattle.file_rules.specs.declared.Record.the-variants.{Free, System, File, Other}
 use Rattle.file_rules.specs.Arguments.{FormatArguments}
 use Rattle.file_rules.specs.Disk.{Disk}
-use Rattle.file_rules.specs.Laws.InnerModel.Facts.{isPart-true, true-isPart}
+use Rattle.file_rules.specs.Laws.InnerModel.Fields.{isPart-true, true-isPart}
 use Rattle.file_rules.specs.Laws.InnerModel.Inner.{freeOf}
 use Rattle.file_rules.specs.Laws.InnerModel.Invariant.{Owned}
 use Rattle.file_rules.specs.Laws.Base.Whole.{Valid, With, freeCount-is, partBlock-is, write-head, write-block, with-same}

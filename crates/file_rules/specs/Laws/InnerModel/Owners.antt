@@ -19,7 +19,7 @@ use Rattle.laws.specs.Laws.Firsts.{Picks, picks-cong}
 use Rattle.sector_rules.specs.Geometry.{blocks}
 use Rattle.file_rules.specs.declared.Record.{Record}
 use Rattle.file_rules.specs.declared.Record.the-variants.{Free, System, File, Other}
-use Rattle.file_rules.specs.Laws.InnerModel.Facts.{isPart-true, true-isPart}
+use Rattle.file_rules.specs.Laws.InnerModel.Fields.{isPart-true, true-isPart}
 use Rattle.file_rules.specs.Laws.InnerModel.Inner.{give, freeOf}
 use Rattle.file_rules.specs.Laws.InnerModel.Invariant.{Owned}
 use Rattle.file_rules.specs.Laws.Base.Whole.{Valid, unowned}

@@ -23,10 +23,13 @@ use Rattle.file_rules.specs.Directory.{nameEq, nameRight}
 use Rattle.file_rules.specs.Arguments.{FormatArguments}
 use Rattle.file_rules.specs.Disk.{Disk, diskOf, imageOf}
 use Rattle.file_rules.specs.Histories.{Call, imageOut, imageStep, imageOuts, imageEnd, toAdd, toRemove, toList, toRead}
-use Rattle.file_rules.specs.Laws.OnImages.Add.{room-is, add-inv, add-image}
+use Rattle.file_rules.specs.Laws.OnImages.Slot.{room-is}
+use Rattle.file_rules.specs.Laws.OnImages.Added.{add-inv}
+use Rattle.file_rules.specs.Laws.OnImages.Add.{add-image}
 use Rattle.file_rules.specs.Laws.Base.Disk.{length-image, disk-image}
 use Rattle.file_rules.specs.Laws.Base.OnSound.{sound-passed}
-use Rattle.file_rules.specs.Laws.InnerModel.Facts.{dirEnd-is, findName-is, vacantSlot-is, judged-none, found-slot, list-is, read-is}
+use Rattle.file_rules.specs.Laws.InnerModel.Reads.{dirEnd-is, findName-is, vacantSlot-is, found-slot, list-is, read-is}
+use Rattle.file_rules.specs.Laws.InnerModel.Judged.{judged-none}
 use Rattle.file_rules.specs.Laws.InnerModel.Inner.{Inner, fileBlocks, header, render, emptySlots, formatM, findM, emptySlot, freeOf, ChangedM, refusedM, removeAtM, removeM, addAtM, roomFor, addM, stepM, outM, outsM, endM}
 use Rattle.file_rules.specs.Laws.InnerModel.Invariant.{partsOf, Inv}
 use Rattle.file_rules.specs.Laws.Base.Names.{name-bounds}

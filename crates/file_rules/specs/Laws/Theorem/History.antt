@@ -23,7 +23,7 @@ use Rattle.file_rules.specs.Histories.{Call, imageOut, imageOuts, imageE
 use Rattle.file_rules.specs.History.{dataFound, HasEntry, Belongs, Holds, formatted, History, HistoryCheck}
 use Rattle.file_rules.specs.Laws.InModel.Agree.{agree, fresh-listed, start-is}
 use Rattle.file_rules.specs.Laws.Base.Disk.{length-image}
-use Rattle.file_rules.specs.Laws.InnerModel.Facts.{dirEnd-is, word20, held-is, found-slot}
+use Rattle.file_rules.specs.Laws.InnerModel.Reads.{dirEnd-is, word20, held-is, found-slot}
 use Rattle.file_rules.specs.Laws.InnerModel.Inner.{Inner, present, fileBlocks, render, emptySlots, formatM, findM, readM, ChangedM, refusedM, peakAfter, roomFor, addM, outM, outsM, endM}
 use Rattle.file_rules.specs.Laws.InnerModel.Invariant.{partsOf, Inv}
 use Rattle.file_rules.specs.Laws.FilesLeft.Left.{count-is, left-is}
