@@ -9,6 +9,8 @@ pub mod Packed
 pub mod RoundTrip
 pub mod Damage
 pub mod Values
+pub mod HeaderValues
+pub mod ReplyValues
 pub mod Theorems
 pub mod Caught
 pub mod Laws

@@ -1,0 +1,170 @@
+-- header-values: the bytes of a packed HFE header, and what unpacking says of an image in whose header one byte is another. Computed, so that each number
+-- of the header and each offset that 2 names is stated twice: in the definitions by rule, here by value.
+-- Assumes nothing.
+use mathlib.Core.Bool.{true, cond}
+use mathlib.Core.List.{List, [], _∷_, _++_, map}
+use mathlib.Core.Path.{_≡_, refl, ap, _∙_}
+use Prim.Native.Nat.{ℕ, _+_, _-_, _%_, _≤_, _<_}
+use native.Mathlib.Omega.{arith}
+use lib.Dec.{leb, ltb, eqb, lit<}
+use lib.ListN.{length, getD, set, take, drop, replicate, length-append, length-set, length-take, length-drop, length-map, List·getD-append}
+use Rattle.laws.specs.Same.{same, bytesAre, standsAt}
+use Rattle.laws.specs.Search.{take-tab}
+use Rattle.laws.specs.Tab.{tab, tab-ext}
+use Rattle.laws.specs.Tests.{orElse, le-true, lt-false, cond-true, cond-false}
+use Rattle.laws.specs.Truth.{by-test}
+use Rattle.laws.specs.Words.{lowFirst, lowByte}
+use Rattle.sector_rules.specs.declared.Fault.{Fault}
+use Rattle.sector_rules.specs.declared.Fault.the-variants.{At, Sound}
+use Rattle.sector_rules.specs.declared.Reply.{Reply}
+use Rattle.sector_rules.specs.declared.Sector.{Sector}
+use Rattle.sector_rules.specs.declared.Sector.the-variants.{Delivered, Missing, Repeated, Fieldless, Damaged}
+use Rattle.sector_rules.specs.Faults.{refusalAt}
+use Rattle.sector_rules.specs.Geometry.{allSectors, imageBytes}
+use Rattle.sector_rules.specs.Hfe.{signature, formatFault, flagFault, headerFault, tableFault}
+use Rattle.sector_rules.specs.Laws.Base.Packed.{hfe-header, pack-done, hfe-after}
+use Rattle.sector_rules.specs.Packed.{hfeBytes, headerRest, headerByte, hfeByte, packHfe}
+use Rattle.sector_rules.specs.Replies.{done, unless}
+use Rattle.sector_rules.specs.Unpacked.{sectorAt, sectorReply, firstBad, sectorsReply, unpackReply}
+
+-- the 26 bytes up to the last that is judged: HXCPICFE; revision, tracks, sides, encoding; rate 250 and rpm 300, low byte first; mode, unused; table offset 1
+unfoldable pub hfeHeader : List ℕ
+hfeHeader =
+    0x48 ∷ 0x58 ∷ 0x43 ∷ 0x50 ∷ 0x49 ∷ 0x43 ∷ 0x46 ∷ 0x45
+    ∷ 0x00 ∷ 0x50 ∷ 0x02 ∷ 0x00 ∷ 0xFA ∷ 0x00 ∷ 0x2C ∷ 0x01
+    ∷ 0x07 ∷ 0xFF ∷ 0x01 ∷ 0x00 ∷ 0xFF ∷ 0xFF ∷ 0xFF ∷ 0xFF
+    ∷ 0xFF ∷ 0xFF ∷ []
+
+-- the offset that a reply names with 2, and 26 where its number is another
+unfoldable pub offsetNamed : Reply → ℕ
+offsetNamed r = cond (eqb (r .number) 2) (r .first) 26
+
+-- what unpacking names with 2 in an image that begins with these bytes
+unfoldable pub named : List ℕ → List ℕ → ℕ
+named start rest = offsetNamed (unpackReply (start ++ rest) imageBytes)
+
+-- a byte one more and one less, FF and 00 following each other
+unfoldable pub oneMore : ℕ → ℕ
+oneMore v = (v + 1) % 256
+
+unfoldable pub oneLess : ℕ → ℕ
+oneLess v = (v + 255) % 256
+
+-- the header with byte o changed so, and with each byte from o on
+unfoldable pub changedAt : (ℕ → ℕ) → ℕ → List ℕ
+changedAt g o = set hfeHeader o (g (getD hfeHeader o 0))
+
+unfoldable pub changedFrom : (ℕ → ℕ) → ℕ → List ℕ
+changedFrom g o = take o hfeHeader ++ map g (drop o hfeHeader)
+
+-- ---- what is promised
+
+pub record HfeHeaderValues : Type 0 where
+  -- the header that pack writes: the 26 bytes, and FF in the rest of its unit
+  pub packed-header : (image hfe : List ℕ) → length image ≡ imageBytes → length hfe ≡ hfeBytes
+      → take 512 (packHfe image hfe) ≡ hfeHeader ++ replicate 486 0xFF
+  -- unpacking an image of 1,024 bytes or more that begins with the header, one byte of which is one more: the offset that 2 names, or 26.
+  -- More than 80 tracks (9) and any table offset but 0 (18) are accepted; 23 and 25 are judged where the byte before them is 00
+  pub one-more : (rest : List ℕ) → 998 ≤ length rest → tab (λ (o : ℕ). named (changedAt oneMore o) rest) 26
+      ≡ 0 ∷ 0 ∷ 0 ∷ 0 ∷ 0 ∷ 0 ∷ 0 ∷ 0 ∷ 8 ∷ 26 ∷ 10 ∷ 11 ∷ 12 ∷ 12 ∷ 26 ∷ 26 ∷ 26 ∷ 26 ∷ 26 ∷ 26 ∷ 26 ∷ 26 ∷ 23 ∷ 26 ∷ 25 ∷ 26 ∷ []
+  -- one less: 79 tracks are refused, a table offset of 0, and flags other than FF and 00
+  pub one-less : (rest : List ℕ) → 998 ≤ length rest → tab (λ (o : ℕ). named (changedAt oneLess o) rest) 26
+      ≡ 0 ∷ 0 ∷ 0 ∷ 0 ∷ 0 ∷ 0 ∷ 0 ∷ 0 ∷ 8 ∷ 9 ∷ 10 ∷ 11 ∷ 12 ∷ 12 ∷ 26 ∷ 26 ∷ 26 ∷ 26 ∷ 18 ∷ 26 ∷ 26 ∷ 26 ∷ 22 ∷ 26 ∷ 24 ∷ 26 ∷ []
+  -- each byte from o on one less: the lowest wrong field is named
+  pub all-less : (rest : List ℕ) → 998 ≤ length rest → tab (λ (o : ℕ). named (changedFrom oneLess o) rest) 26
+      ≡ 0 ∷ 0 ∷ 0 ∷ 0 ∷ 0 ∷ 0 ∷ 0 ∷ 0 ∷ 8 ∷ 9 ∷ 10 ∷ 11 ∷ 12 ∷ 12 ∷ 22 ∷ 22 ∷ 22 ∷ 22 ∷ 22 ∷ 22 ∷ 22 ∷ 22 ∷ 22 ∷ 24 ∷ 24 ∷ 26 ∷ []
+  -- the header as it is, with 255 tracks, and with each flag 00 and the byte after it 0 or 1
+  pub accepted : (rest : List ℕ) → 998 ≤ length rest
+      → (named hfeHeader rest ≡ 26) × (named (set hfeHeader 9 255) rest ≡ 26)
+      × (named (set (set hfeHeader 22 0) 23 0) rest ≡ 26) × (named (set (set hfeHeader 24 0) 25 0) rest ≡ 26)
+  pub flag-refused : (rest : List ℕ) → 998 ≤ length rest
+      → (named (set (set hfeHeader 22 0) 23 1) rest ≡ 23) × (named (set (set hfeHeader 24 0) 25 1) rest ≡ 25)
+
+-- ---- the proof
+
+abbrev faultPlace : Fault → ℕ
+faultPlace (At o) = o
+faultPlace Sound = 26
+
+module _ (h : List ℕ) where
+  by-sector : (m : ℕ) (x : Sector) → offsetNamed (sectorReply m x) ≡ 26
+  unfolding offsetNamed
+  by-sector m (Delivered p) = refl
+  by-sector m Missing = refl
+  by-sector m Repeated = refl
+  by-sector m Fieldless = refl
+  by-sector m Damaged = refl
+
+  by-sectors : offsetNamed (sectorsReply h) ≡ 26
+  unfolding sectorsReply offsetNamed
+  by-sectors =
+      by-test (ltb (firstBad h) allSectors)
+      (λ t. ap offsetNamed (cond-true _ _ t) ∙ by-sector (firstBad h) (sectorAt h (firstBad h)))
+      (λ t. ap offsetNamed (cond-false _ _ t))
+
+  by-fault : (f g : Fault) → offsetNamed (unless (orElse (refusalAt 2 f) (refusalAt 3 g)) (λ (r : Reply). r) (sectorsReply h)) ≡ faultPlace f
+  unfolding offsetNamed unless orElse
+  by-fault (At o) g = refl
+  by-fault Sound (At t) = refl
+  by-fault Sound Sound = by-sectors
+
+  -- 2 names the lowest wrong field of the header
+  named-is : 1024 ≤ length h → offsetNamed (unpackReply h imageBytes) ≡ faultPlace (headerFault h)
+  unfolding unpackReply
+  named-is long = ap offsetNamed (cond-false _ _ (lt-false long)) ∙ by-fault (headerFault h) (tableFault h)
+
+-- two images with the same 26 bytes are judged alike
+module _ (g h : List ℕ) (lg : 26 ≤ length g) (lh : 26 ≤ length h) (e : (k : ℕ) → k < 26 → getD g k 0 ≡ getD h k 0) where
+  stands-alike : standsAt g 0 signature ≡ standsAt h 0 signature
+  unfolding standsAt bytesAre signature
+  stands-alike =
+      let lt : leb 8 (length g) ≡ true = le-true {a = 8} {b = length g} (omega arith) in
+      let lu : leb 8 (length h) ≡ true = le-true {a = 8} {b = length h} (omega arith) in
+      rw (lt, lu, tab-ext (λ (i : ℕ). getD g (0 + i) 0) (λ (i : ℕ). getD h (0 + i) 0) 8 (λ k l. e (0 + k) (omega arith)))
+
+  judged-alike : headerFault g ≡ headerFault h
+  unfolding headerFault formatFault flagFault lowFirst
+  judged-alike =
+      rw (stands-alike, e 8 (lit< tt), e 9 (lit< tt), e 10 (lit< tt), e 11 (lit< tt), e 12 (lit< tt), e 13 (lit< tt))
+      (rw (e 18 (lit< tt), e 19 (lit< tt), e 22 (lit< tt), e 23 (lit< tt), e 24 (lit< tt), e 25 (lit< tt)))
+
+module _ (rest : List ℕ) (long : 998 ≤ length rest) where
+  begins : (start : List ℕ) → length start ≡ 26 → named start rest ≡ faultPlace (headerFault start)
+  unfolding named
+  begins start n =
+      let l : length (start ++ rest) ≡ 26 + length rest = rw (length-append start rest, n) in
+      named-is (start ++ rest) (omega arith)
+      ∙ ap faultPlace (judged-alike (start ++ rest) start (omega arith) (omega arith) (λ k h. List·getD-append start rest 0 k (omega arith)))
+
+  rows : (start : ℕ → List ℕ) → ((o : ℕ) → o < 26 → length (start o) ≡ 26)
+      → tab (λ (o : ℕ). named (start o) rest) 26 ≡ tab (λ (o : ℕ). faultPlace (headerFault (start o))) 26
+  rows start n = tab-ext _ _ 26 (λ o l. begins (start o) (n o l))
+
+packed-is : (image hfe : List ℕ) → length image ≡ imageBytes → length hfe ≡ hfeBytes → take 512 (packHfe image hfe) ≡ hfeHeader ++ replicate 486 0xFF
+unfolding tab headerByte headerRest signature lowByte hfeHeader
+packed-is image hfe li lh =
+    ap (take 512) (hfe-after image hfe done (pack-done (length image) (length hfe) lh li))
+    ∙ take-tab (hfeByte image) 512 hfeBytes (omega arith)
+    ∙ tab-ext (hfeByte image) headerByte 512 (hfe-header image)
+    ∙ refl
+
+header-length : length hfeHeader ≡ 26
+unfolding hfeHeader
+header-length = refl
+
+from-length : (g : ℕ → ℕ) (o : ℕ) → o < 26 → length (changedFrom g o) ≡ 26
+unfolding changedFrom
+from-length g o l =
+    length-append (take o hfeHeader) (map g (drop o hfeHeader)) ∙ rw (length-map (drop o hfeHeader) g, length-take, length-drop) (omega (arith, header-length))
+
+pub hfe-header-values : HfeHeaderValues
+unfolding tab headerFault formatFault flagFault signature hfeHeader changedAt changedFrom oneMore oneLess lowFirst standsAt bytesAre same
+hfe-header-values =
+    record {
+      packed-header = packed-is;
+      one-more = λ rest long. rows rest long (changedAt oneMore) (λ o l. length-set hfeHeader o _) ∙ refl;
+      one-less = λ rest long. rows rest long (changedAt oneLess) (λ o l. length-set hfeHeader o _) ∙ refl;
+      all-less = λ rest long. rows rest long (changedFrom oneLess) (from-length oneLess) ∙ refl;
+      accepted = λ rest long. (begins rest long _ refl, begins rest long _ refl, begins rest long _ refl, begins rest long _ refl);
+      flag-refused = λ rest long. (begins rest long _ refl, begins rest long _ refl);
+    }

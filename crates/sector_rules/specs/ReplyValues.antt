@@ -1,0 +1,103 @@
+-- reply-values: the lengths that 1 refuses and its places, what 3 judges of a track table, and the numbers 4 to 7 with their places, by value.
+-- Assumes nothing.
+use mathlib.Core.Bool.{cond}
+use mathlib.Core.List.{List, [], _∷_, _++_, map}
+use mathlib.Core.Logic.{_≢_}
+use mathlib.Core.Path.{_≡_, refl, _∙_}
+use Prim.Native.Nat.{ℕ, _+_, _-_, _*_, _%_, _≤_, _<_}
+use lib.Dec.{eqb}
+use lib.ListN.{length, set, replicate}
+use Rattle.laws.specs.Lowest.{lowest}
+use Rattle.laws.specs.Numbers.{up}
+use Rattle.laws.specs.Same.{same, bytesAre, standsAt}
+use Rattle.laws.specs.Tab.{tab}
+use Rattle.laws.specs.Tests.{orElse, eq-false, lt-true, lt-false, cond-true, cond-false}
+use Rattle.laws.specs.Words.{lowFirst}
+use Rattle.cells.specs.Stream.{bytePlace, cellAt, stream, from}
+use Rattle.cells.specs.Sync.{syncAt, threeSync}
+use Rattle.sector_rules.specs.declared.Reply.{Reply}
+use Rattle.sector_rules.specs.declared.Sector.the-variants.{Missing, Repeated, Fieldless, Damaged}
+use Rattle.sector_rules.specs.Faults.{faultBelow, lowestFault}
+use Rattle.sector_rules.specs.HeaderValues.{hfeHeader}
+use Rattle.sector_rules.specs.Hfe.{signature, formatFault, flagFault, headerFault}
+use Rattle.sector_rules.specs.Hfe.{entryPlace, trackStart, trackLength, trackBytes, trackGood, tableFault, trackPart, sideStream}
+use Rattle.sector_rules.specs.Packed.{packReply}
+use Rattle.sector_rules.specs.Replies.{reply, unless}
+use Rattle.sector_rules.specs.Search.{isHeader, headerOf, headerAt, placesBelow, foundOf, findSector, sectorFound, sectorOf}
+use Rattle.sector_rules.specs.Unpacked.{sectorAt, sectorReply, firstBad, sectorsReply, unpackReply}
+
+-- an image of 1,024 bytes with the header that pack writes and a track table that begins with these bytes; the rest is 0
+unfoldable pub withTable : List ℕ → List ℕ
+withTable bytes = hfeHeader ++ (replicate 486 0 ++ (bytes ++ replicate (512 - length bytes) 0))
+
+-- what unpacking it says
+unfoldable pub tableReply : List ℕ → Reply
+tableReply bytes = unpackReply (withTable bytes) 737280
+
+-- n good entries: two bytes at the image's beginning
+unfoldable pub goodEntries : ℕ → List ℕ
+goodEntries n = tab (λ (j : ℕ). cond (eqb (j % 4) 2) 2 0) (4 * n)
+
+pub record ReplyValues : Type 0 where
+  -- 1: an HFE image to read has 1,024 bytes or more, one to write 2,008,064, and a block image 737,280; the HFE image is judged first
+  pub unpack-short : (hfe : List ℕ) (n : ℕ) → length hfe < 1024 → unpackReply hfe n ≡ reply 1 1 0 0
+  pub unpack-length : (hfe : List ℕ) (n : ℕ) → 1024 ≤ length hfe → n ≢ 737280 → unpackReply hfe n ≡ reply 1 2 0 0
+  pub pack-hfe-length : (n m : ℕ) → m ≢ 2008064 → packReply n m ≡ reply 1 1 0 0
+  pub pack-length : (n : ℕ) → n ≢ 737280 → packReply n 2008064 ≡ reply 1 2 0 0
+  -- 3 names track 0 or, where its entry is good, track 1, whose entry is 0: lengths 0, 2 and 3; of two units and more; a track that ends with the image,
+  -- and past it
+  pub table-judged : map tableReply
+      ([]
+      ∷ (0 ∷ 0 ∷ 2 ∷ 0 ∷ [])
+      ∷ (0 ∷ 0 ∷ 3 ∷ 0 ∷ [])
+      ∷ (0 ∷ 0 ∷ 0 ∷ 4 ∷ [])
+      ∷ (0 ∷ 0 ∷ 2 ∷ 4 ∷ [])
+      ∷ (1 ∷ 0 ∷ 0 ∷ 2 ∷ [])
+      ∷ (1 ∷ 0 ∷ 2 ∷ 2 ∷ [])
+      ∷ (2 ∷ 0 ∷ 2 ∷ 0 ∷ [])
+      ∷ []) ≡ map (λ (t : ℕ). reply 3 t 0 0) (0 ∷ 1 ∷ 0 ∷ 1 ∷ 0 ∷ 1 ∷ 0 ∷ 0 ∷ [])
+  -- the entry of track 0 is wholly within the image: here the table begins at byte 1,024
+  pub table-ends : (unpackReply (set hfeHeader 18 2 ++ (replicate 998 0 ++ (0 ∷ 0 ∷ 2 ∷ []))) 737280 ≡ reply 3 0 0 0)
+      × (unpackReply (set hfeHeader 18 2 ++ (replicate 998 0 ++ (0 ∷ 0 ∷ 2 ∷ 0 ∷ []))) 737280 ≡ reply 3 1 0 0)
+  -- 79 good entries and then none, and 80 good ones: the judgement goes on to the sectors
+  pub tracks-judged : (tableReply (goodEntries 79) ≡ reply 3 79 0 0) × (tableReply (goodEntries 80) ≡ reply 4 0 0 1)
+  -- 4 to 7 with track, side and R, for the first and last sectors of sides
+  pub sectors-named : map (sectorReply 1439) (Missing ∷ Repeated ∷ Fieldless ∷ Damaged ∷ [])
+      ≡ reply 4 79 1 9 ∷ reply 5 79 1 9 ∷ reply 6 79 1 9 ∷ reply 7 79 1 9 ∷ []
+  pub places-named : map (λ (m : ℕ). sectorReply m Missing) (0 ∷ 8 ∷ 9 ∷ 18 ∷ []) ≡ reply 4 0 0 1 ∷ reply 4 0 0 9 ∷ reply 4 0 1 1 ∷ reply 4 1 0 1 ∷ []
+
+-- ---- the proof
+
+unpack-short-is : (hfe : List ℕ) (n : ℕ) → length hfe < 1024 → unpackReply hfe n ≡ reply 1 1 0 0
+unfolding unpackReply
+unpack-short-is hfe n h = cond-true _ _ (lt-true h)
+
+unpack-length-is : (hfe : List ℕ) (n : ℕ) → 1024 ≤ length hfe → n ≢ 737280 → unpackReply hfe n ≡ reply 1 2 0 0
+unfolding unpackReply
+unpack-length-is hfe n h w = cond-false _ _ (lt-false h) ∙ cond-false _ _ (eq-false w)
+
+pack-hfe-is : (n m : ℕ) → m ≢ 2008064 → packReply n m ≡ reply 1 1 0 0
+unfolding packReply
+pack-hfe-is n m w = cond-false _ _ (eq-false w)
+
+pack-length-is : (n : ℕ) → n ≢ 737280 → packReply n 2008064 ≡ reply 1 2 0 0
+unfolding packReply
+pack-length-is n w = cond-false _ _ (eq-false w)
+
+pub reply-values : ReplyValues
+unfolding tableReply withTable hfeHeader unpackReply unless orElse headerFault formatFault flagFault signature standsAt bytesAre
+    same tab lowFirst tableFault lowestFault faultBelow lowest trackGood entryPlace trackStart trackLength trackBytes up
+    goodEntries sectorsReply firstBad sectorAt sideStream trackPart sectorOf sectorFound findSector foundOf placesBelow headerAt headerOf isHeader
+    stream cellAt bytePlace from threeSync syncAt
+reply-values =
+    record {
+      unpack-short = unpack-short-is;
+      unpack-length = unpack-length-is;
+      pack-hfe-length = pack-hfe-is;
+      pack-length = pack-length-is;
+      table-judged = refl;
+      table-ends = (refl, refl);
+      tracks-judged = (refl, refl);
+      sectors-named = refl;
+      places-named = refl;
+    }
