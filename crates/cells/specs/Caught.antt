@@ -1,6 +1,6 @@
 -- What is promised of wrong bits: a CRC detects every detectable damage (Damage.antt) of the bits that it covers and of its own 16; how often it detects one
 -- longer stretch; and that 16 neighbouring bits and three wrong bits are the limits.
--- Assumes nothing.
+-- Rests on the laws of rows of bits, of detectable damage and of fillings.
 use mathlib.Core.Bool.{true}
 use mathlib.Core.List.{List, [], _∷_}
 use mathlib.Core.Logic.{_↔_}

@@ -1,5 +1,5 @@
 -- What is promised of the cell definitions alone: what is written is read, and three sync bytes in a row stand only where they were written.
--- Assumes nothing.
+-- Rests on the laws of a written row.
 use mathlib.Core.List.{[], _∷_}
 use mathlib.Core.Path.{_≡_, refl, sym, ap, _∙_}
 use mathlib.Core.Bool.{true}
@@ -43,24 +43,27 @@ pub header-crc : crc (0xA1 ∷ 0xA1 ∷ 0xA1 ∷ 0xFE ∷ 0 ∷ 0 ∷ 1 ∷ 2 �
 unfolding crc crcFrom crcBits crcBit bitOf
 header-crc = refl
 
--- 4E after a 0, and as it is stored
+-- the cells of a gap byte, 4E, after a 0
 pub gap-cells : itemWord 0 (Plain 0x4E) ≡ 0x9254
 unfolding itemWord word number tab itemCell mfmCell before clock bitOf
 gap-cells = refl
 
+-- the same as stored
 pub gap-stored : tab (packed (itemCell 0 (Plain 0x4E))) 2 ≡ 0x49 ∷ 0x2A ∷ []
 unfolding tab packed packedBits itemCell mfmCell before clock bitOf
 gap-stored = refl
 
--- the marks, whatever bit they follow, and the sync mark as it is stored
+-- the cells of a sync mark, whatever bit it follows
 pub sync-cells : (p : ℕ) → itemWord p Sync ≡ syncWord
 unfolding itemWord word number tab itemCell mfmCell before clock bitOf
 sync-cells p = refl
 
+-- the same as stored
 pub sync-stored : (p : ℕ) → tab (packed (itemCell p Sync)) 2 ≡ 0x22 ∷ 0x91 ∷ []
 unfolding tab packed packedBits itemCell mfmCell before clock bitOf
 sync-stored p = refl
 
+-- the cells of an index mark, whatever bit it follows
 pub index-cells : (p : ℕ) → itemWord p Index ≡ 0x5224
 unfolding itemWord word number tab itemCell mfmCell before clock bitOf
 index-cells p = refl

@@ -1,5 +1,5 @@
--- Laws of rows of bits: the bytes that they spell, and the CRC of those bytes as a register.
--- Assumes nothing.
+-- Rows of bits: the bytes that they spell, and the CRC of those bytes as a register.
+-- Rests on the laws of the CRC, of the register and of digits.
 use mathlib.Core.List.{List, [], _∷_}
 use mathlib.Core.Bool.{true}
 use mathlib.Core.Logic.{⊎-elim}
@@ -24,6 +24,7 @@ use Rattle.cells.specs.Laws.Register.{held, passes}
 more-of : (b p r v w : ℕ) → r ≡ p * 2 → b * r + (v * 2 + w) ≡ (b * p + v) * 2 + w
 more-of b p r v w e = rw e (omega arith)
 
+-- one more bit of a number, at its end
 pub bits-more : (f : ℕ → ℕ) (k m : ℕ) → bitsFrom f m (suc k) ≡ bitsFrom f m k * 2 + f (m + k)
 unfolding bitsFrom
 bits-more f zero m = rw (add-zero m) (omega arith)
@@ -32,7 +33,7 @@ bits-more f (suc k) m =
     ∙ more-of (f m) (2 ^ k) (2 ^ suc k) (bitsFrom f (suc m) k) (f (suc m + k)) (pow-suc 2 k)
     ∙ ap (λ (x : ℕ). bitsFrom f m (suc k) * 2 + f x) (suc-add m k ∙ sym (add-suc m k))
 
--- two numbers in a row of bits
+-- the number in two rows of bits, one after the other
 pub bits-join : (f : ℕ → ℕ) (m j k : ℕ) → bitsFrom f m (j + k) ≡ bitsFrom f m j * 2 ^ k + bitsFrom f (m + j) k
 unfolding bitsFrom
 bits-join f m j zero = rw (add-zero j) (omega arith)
@@ -61,7 +62,7 @@ bits-digit f bit m (suc n) j h =
     rw (z, ← shr-shr (bitsFrom f m (suc n)) 1 (n - (j + 1)), half) (bits-digit f bit m n j l))
     (eq-or-lt-of-le (le-of-suc-le-suc h))
 
--- a number is what its digits spell
+-- bits that are the digits of a number spell its first digits
 pub digits-bits : (f : ℕ → ℕ) (m x w : ℕ) → x < 2 ^ w → ((j : ℕ) → j < w → f (m + j) ≡ x / 2 ^ (w - (j + 1)) % 2)
     → (k : ℕ) → k ≤ w → bitsFrom f m k ≡ x / 2 ^ (w - k)
 unfolding bitsFrom
@@ -90,8 +91,8 @@ crc-no-byte : (s : ℕ) (g : ℕ → ℕ) (f : ℕ → ℕ) → crcFrom s (tab g
 unfolding crcFrom tab register
 crc-no-byte s g f = refl
 
--- the CRC of bytes that bits spell is the register after these bits
 module _ (f g : ℕ → ℕ) (bit : (i : ℕ) → f i < 2) where
+  -- the CRC of bytes that bits spell is the register after these bits
   pub crc-bits : (s n : ℕ) → ((q : ℕ) → q < n → g q ≡ bitsByte f q) → crcFrom s (tab g n) ≡ register s f (8 * n)
   unfolding bitsByte
   crc-bits s zero e = crc-no-byte s g f
@@ -116,11 +117,11 @@ module _ (f g : ℕ → ℕ) (bit : (i : ℕ) → f i < 2) where
     unfolding crc
     crc-register = crc-bits crcStart n (λ q h. e q (omega arith))
 
-    -- one way
+    -- where bytes are followed by their CRC, the register is 0 after their bits and the CRC's
     pub follows-zero : crcFollows g n ≡ true → register crcStart f (8 * n + 16) ≡ 0
     follows-zero h = passes crcStart (lit< tt) f bit 16 (8 * n) (lit≤ tt) (sym crc-register ∙ follows-crc g n h ∙ crc-number)
 
-    -- and the other
+    -- where the register is 0 after their bits and the CRC's, bytes are followed by their CRC
     pub zero-follows : register crcStart f (8 * n + 16) ≡ 0 → crcFollows g n ≡ true
     zero-follows z = crc-follows g n (crc-register ∙ held crcStart (lit< tt) f bit 16 (8 * n) (lit≤ tt) z ∙ sym crc-number)
 
@@ -131,7 +132,7 @@ pub row-bit : (xs : List ℕ) (i : ℕ) → rowBit xs i < 2
 unfolding rowBit bitOf
 row-bit xs i = omega arith
 
--- a byte of the list is what its bits spell
+-- a byte of a list is what its bits spell
 pub row-spelled : (xs : List ℕ) (q : ℕ) → getD xs q 0 < 256 → getD xs q 0 ≡ bitsByte (rowBit xs) q
 unfolding rowBit bitOf bitsByte
 row-spelled xs q h =

@@ -1,5 +1,5 @@
--- Bits that bring the CRC's register from 0 to 0 and lie in a window of 16 are none: a burst is found.
--- Assumes nothing.
+-- Bits that bring the CRC's register from 0 to 0 and lie among 16 neighbouring ones are none: a burst is found.
+-- Rests on the laws of the register.
 use mathlib.Core.Path.{_≡_, refl, sym, ap, ap₂, _∙_}
 use Prim.Native.Nat.{ℕ, zero, suc, _+_, _-_, _*_, _^_, _≤_, _<_}
 use native.Mathlib.Nat.{add-zero, add-suc}
@@ -11,7 +11,7 @@ use Rattle.cells.specs.Crc.{crcBit}
 use Rattle.cells.specs.Damage.{bitsFrom, register, burstBits}
 use Rattle.cells.specs.Laws.Register.{register-lt, held, step-zero, step-only}
 
--- no bit before
+-- before the first bit that is 1 the register stays 0
 pub zeros-before : (e : ℕ → ℕ) (a : ℕ) → ((i : ℕ) → i < a → e i ≡ 0) → register 0 e a ≡ 0
 unfolding register
 zeros-before e zero z = refl
@@ -33,6 +33,7 @@ none-high zero p v hb hp e = refl
 none-high (suc zero) p v hb hp e = absurd (omega arith)
 none-high (suc (suc b)) p v hb hp e = absurd (omega arith)
 
+-- a term of a sum that is 0 is 0
 pub none-low : (x v : ℕ) → x + v ≡ 0 → v ≡ 0
 none-low x v e = omega arith
 
@@ -64,7 +65,7 @@ module _ (e : ℕ → ℕ) (bit : (i : ℕ) → e i < 2) where
       none-times zero p hp q = refl
       none-times (suc v) p hp q = absurd (omega arith)
 
-  -- bits that lie in so short a window, and bring the register from 0 to 0, are none
+  -- bits that lie among 16 neighbouring ones, and bring the register from 0 to 0, are none
   pub burst-none : (a n : ℕ) → ((i : ℕ) → i < n → i < a → e i ≡ 0) → ((i : ℕ) → i < n → a + burstBits ≤ i → e i ≡ 0) → register 0 e n ≡ 0
       → (i : ℕ) → i < n → e i ≡ 0
   burst-none a n before after z i h =

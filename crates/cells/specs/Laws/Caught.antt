@@ -1,5 +1,5 @@
 -- Detectable damage is caught: rows of bits, of bytes and of cells that are both followed by their CRC and differ detectably are the same.
--- Assumes nothing.
+-- Rests on the laws of bursts, of few bits, of odd numbers of bits, and of rows of bits.
 use mathlib.Core.List.{List}
 use mathlib.Core.Path.{_≡_, refl, sym, ap, ap₂, _∙_}
 use mathlib.Core.Bool.{true, false, not}
@@ -62,7 +62,7 @@ module _ (f g : ℕ → ℕ) (bf : (i : ℕ) → f i < 2) (bg : (i : ℕ) → g 
   wrong-zero : (s n : ℕ) → register s f n ≡ 0 → register s g n ≡ 0 → register 0 (difference f g) n ≡ 0
   wrong-zero s n zf zg = sym (register-sum s f g n) ∙ ap₂ bitXor zf zg
 
-  -- rows of bits whose registers come to 0 and that differ detectably
+  -- rows of bits whose registers come to 0 and that differ detectably are the same
   pub bits-caught : (s n : ℕ) → register s f n ≡ 0 → register s g n ≡ 0 → Detectable f g n → (i : ℕ) → i < n → f i ≡ g i
   bits-caught s n zf zg (burst a before after) i h =
       right-same i
@@ -83,6 +83,7 @@ bits-same f g (suc k) m e =
 
 module _ (f g u v : ℕ → ℕ) (bf : (i : ℕ) → f i < 2) (bg : (i : ℕ) → g i < 2) (n : ℕ)
     (eu : (q : ℕ) → q < n + 2 → u q ≡ bitsByte f q) (ev : (q : ℕ) → q < n + 2 → v q ≡ bitsByte g q) where
+  -- the bits of bytes that are followed by their CRC and whose bits differ detectably are the same
   pub spelled-caught : crcFollows u n ≡ true → crcFollows v n ≡ true → Detectable f g (8 * (n + 2))
       → (i : ℕ) → i < 8 * (n + 2) → f i ≡ g i
   spelled-caught hu hv s i h =
@@ -91,7 +92,7 @@ module _ (f g u v : ℕ → ℕ) (bf : (i : ℕ) → f i < 2) (bg : (i : ℕ) �
       let zv : register crcStart g (8 * (n + 2)) ≡ 0 = ap (register crcStart g) (sym e) ∙ follows-zero g v bg n ev hv in
       bits-caught f g bf bg crcStart (8 * (n + 2)) zu zv s i h
 
-  -- and the bytes
+  -- bytes that are followed by their CRC and whose bits differ detectably are the same
   pub bytes-caught : crcFollows u n ≡ true → crcFollows v n ≡ true → Detectable f g (8 * (n + 2))
       → (q : ℕ) → q < n + 2 → u q ≡ v q
   unfolding bitsByte
@@ -103,27 +104,28 @@ module _ (f g u v : ℕ → ℕ) (bf : (i : ℕ) → f i < 2) (bg : (i : ℕ) �
 module _ (c d : List ℕ) (bc : (i : ℕ) → getD c i 0 < 2) (bd : (i : ℕ) → getD d i 0 < 2) (n : ℕ)
     (hc : crcFollows (λ (q : ℕ). dataByte c (16 * q)) n ≡ true) (hd : crcFollows (λ (q : ℕ). dataByte d (16 * q)) n ≡ true)
     (s : Detectable (dataBit c) (dataBit d) (8 * (n + 2))) where
+  -- the data bits of cells whose bytes are followed by their CRC and that differ detectably are the same
   pub cells-bits : (i : ℕ) → i < 8 * (n + 2) → dataBit c i ≡ dataBit d i
   unfolding dataBit
   cells-bits i h =
       spelled-caught (dataBit c) (dataBit d) (λ (j : ℕ). dataByte c (16 * j)) (λ (j : ℕ). dataByte d (16 * j))
       (λ j. bc (2 * j + 1)) (λ j. bd (2 * j + 1)) n (λ j l. cells-spelled c j) (λ j l. cells-spelled d j) hc hd s i h
 
-  -- and the bytes
+  -- the bytes of cells that are followed by their CRC and whose data bits differ detectably are the same
   pub cells-caught : (q : ℕ) → q < n + 2 → dataByte c (16 * q) ≡ dataByte d (16 * q)
   unfolding dataBit
   cells-caught q h =
       bytes-caught (dataBit c) (dataBit d) (λ (j : ℕ). dataByte c (16 * j)) (λ (j : ℕ). dataByte d (16 * j))
       (λ j. bc (2 * j + 1)) (λ j. bd (2 * j + 1)) n (λ j l. cells-spelled c j) (λ j l. cells-spelled d j) hc hd s q h
 
--- cells that differ among 32 neighbouring ones alone: 16 of these are data cells
+-- cells that differ among 32 neighbouring ones alone differ detectably: 16 of these are data cells
 pub cells-burst : (c d : List ℕ) (a n : ℕ) → ((k : ℕ) → k < 2 * n → k < a → getD c k 0 ≡ getD d k 0)
     → ((k : ℕ) → k < 2 * n → a + 2 * burstBits ≤ k → getD c k 0 ≡ getD d k 0) → Detectable (dataBit c) (dataBit d) n
 unfolding dataBit
 cells-burst c d a n before after =
     burst (a / 2) (λ i h l. before (2 * i + 1) (omega arith) (omega arith)) (λ i h l. after (2 * i + 1) (omega arith) (omega arith))
 
--- rows that are the same differ nowhere
+-- rows that are the same have no wrong bit
 pub wrong-none : (f g : ℕ → ℕ) (n : ℕ) → ((i : ℕ) → i < n → f i ≡ g i) → wrongBits f g n ≡ 0
 unfolding wrongBits
 wrong-none f g n e = count-none n (λ (i : ℕ). not (eqb (f i) (g i))) (λ i h. ap not (eq-true (e i h)))

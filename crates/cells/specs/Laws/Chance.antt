@@ -1,5 +1,5 @@
--- How many of the ways to fill a stretch of a row have a CRC that holds: at most one in 65,536.
--- Assumes nothing.
+-- How many of the ways to fill some neighbouring bits of a row have a CRC that holds: at most one in 65,536.
+-- Rests on the laws of detectable damage and of rows of bits.
 use mathlib.Core.Path.{_≡_, refl, sym, ap, _∙_}
 use Prim.Native.Nat.{ℕ, _+_, _-_, _*_, _/_, _%_, _^_, _≤_, _<_}
 use native.Mathlib.Omega.{arith}
@@ -74,7 +74,7 @@ module _ (s n : ℕ) (g : ℕ → ℕ) (bit : (i : ℕ) → g i < 2) (a w : ℕ)
           bits-caught (filled g a (w + 16) x) (filled g a (w + 16) y) (filled-bit g a (w + 16) x bit) (filled-bit g a (w + 16) y bit) s n zx zy
           (burst (a + w) before after)
 
-  -- of the 2 ^ w * 65536 fillings at most 2 ^ w bring the register to 0
+  -- of the 2 ^ w * 65,536 fillings at most 2 ^ w bring the register to 0
   pub few-fillings : count (2 ^ w * 65536) (λ (x : ℕ). eqb (register s (filled g a (w + 16) x) n) 0) ≤ 2 ^ w
   few-fillings =
       count-blocks (λ (x : ℕ). eqb (register s (filled g a (w + 16) x) n) 0) 65536 (2 ^ w)
@@ -91,7 +91,7 @@ follows-test f bit n =
     (λ u. true≢false (eqb (register crcStart f (8 * n + 16)) 0) (eq-true (follows-zero f (bitsByte f) bit n (λ q h. refl) u)) t)
     (λ u. u ∙ sym t))
 
--- at most 2 ^ w of the fillings are followed by their CRC
+-- of the 2 ^ w * 65,536 fillings at most 2 ^ w are followed by their CRC
 pub fillings : (g : ℕ → ℕ) → ((i : ℕ) → g i < 2) → (n a w : ℕ) → a + (w + 16) ≤ 8 * (n + 2)
     → count (2 ^ w * 65536) (λ (x : ℕ). crcFollows (bitsByte (filled g a (w + 16) x)) n) ≤ 2 ^ w
 fillings g bit n a w h =

@@ -1,5 +1,5 @@
 -- Bits that bring the CRC's register from 0 to 0 and are at most three, in a row as long as a field, are none.
--- Assumes nothing.
+-- Rests on the laws of the register, of bursts and of odd numbers of bits; and on one computed test over the longest row.
 use mathlib.Core.Path.{_≡_, refl, sym, ap, ap₂, _∙_}
 use mathlib.Core.Logic.{_≢_}
 use mathlib.Core.Bool.{Bool, true, false, cond}
@@ -94,7 +94,7 @@ longest-clear : clear longestRow polynomial ≡ true
 unfolding clear crcBit
 longest-clear = refl
 
--- up to three: a register that ends at 0 had no bit, or more than three
+-- at most three bits in a row of at most 4,144 that bring the register from 0 to 0 are none
 pub few-bits : (e : ℕ → ℕ) → ((i : ℕ) → e i < 2) → (n : ℕ) → n ≤ longestRow → sum n e ≤ fewBits → register 0 e n ≡ 0 → (i : ℕ) → i < n → e i ≡ 0
 few-bits e bit n h s z =
     by-equal (sum n e) 2 (λ r. absurd (two-bits e bit longestRow n longest-clear (omega arith) r z))

@@ -1,5 +1,5 @@
--- Laws of the cells of a byte and of an item.
--- Assumes nothing.
+-- The cells of a byte and of an item, each of them 0 or 1.
+-- Rests on no other law.
 use mathlib.Core.Bool.{Bool, true, false, cond, _&&_}
 use mathlib.Core.Path.{_≡_, refl}
 use Prim.Native.Nat.{ℕ, zero, suc, _-_, _%_, _<_}
@@ -22,15 +22,17 @@ clock-bit : (a b : ℕ) → clock a b < 2
 unfolding clock
 clock-bit a b = cond-bit (eqb b 0 && eqb a 0) 1 0 (lit< tt) (lit< tt)
 
+-- every cell of a byte is 0 or 1
 pub mfmCell-bit : (p x j : ℕ) → mfmCell p x j < 2
 unfolding mfmCell
 mfmCell-bit p x j = cond-bit (eqb (j % 2) 0) _ _ (clock-bit _ _) (bitOf-bit _ _)
 
+-- every cell of an item is 0 or 1
 pub itemCell-bit : (p : ℕ) (a : Item) (j : ℕ) → itemCell p a j < 2
 unfolding itemCell
 itemCell-bit p a j = cond-bit (eqb j (leftOut a)) 0 _ (lit< tt) (mfmCell-bit p (byteOf a) j)
 
--- a later bit follows the one before it in the byte
+-- the bit before a bit of a byte other than its first is the one before it in the byte
 pub before-later : (p x k : ℕ) → (k ≡ 0 → ⊥) → bitOf x (k - 1) ≡ before p x k
 unfolding before
 before-later p x zero h = absurd (h refl)

@@ -1,5 +1,5 @@
 -- Bits that bring the CRC's register from 0 to 0 are even in number: an odd number is found.
--- Assumes nothing.
+-- Rests on the laws of the bitwise sum.
 use mathlib.Core.Path.{_≡_, refl, sym, ap, ap₂, _∙_}
 use Prim.Native.Nat.{ℕ, zero, suc, _+_, _*_, _/_, _%_, _^_, _<_}
 use native.Mathlib.Omega.{arith}
@@ -97,7 +97,7 @@ register-ones s f (suc n) =
     sums : (r p w x y : ℕ) → r % 2 ≡ (p + y) % 2 → p % 2 ≡ (w + x) % 2 → r % 2 ≡ (w + (x + y)) % 2
     sums r p w x y u v = omega arith
 
--- odd: a register that ends at 0 had an even number of bits
+-- bits that bring the register from 0 to 0 are even in number
 pub even-number : (e : ℕ → ℕ) (n : ℕ) → register 0 e n ≡ 0 → sum n e % 2 ≡ 0
 unfolding ones
 even-number e n z =

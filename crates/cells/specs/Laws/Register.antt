@@ -1,5 +1,5 @@
--- Laws of the CRC's register, bit by bit.
--- Assumes nothing.
+-- The CRC's register, bit by bit: it is linear, and it comes to 0 after 16 bits exactly where it held these bits.
+-- Rests on the laws of the bitwise sum and of the CRC.
 use mathlib.Core.Path.{_≡_, refl, sym, ap, ap₂, _∙_}
 use Prim.Native.Nat.{ℕ, zero, suc, _+_, _-_, _*_, _/_, _%_, _^_, _≤_, _<_}
 use native.Mathlib.Nat.{add-zero, add-suc, suc-add, pow-suc, mul-assoc, mul-le-mul-right}
@@ -56,7 +56,7 @@ step-plain : (s b : ℕ) → (s / 0x8000 + b) % 2 ≡ 0 → crcBit s b ≡ s * 2
 unfolding crcBit
 step-plain s b e = ap (λ (x : ℕ). bitXor (polynomial * x) (s * 2 % 0x10000)) e
 
--- so an even register came from its half, with the bit that came on top
+-- an even register came from its half, with the bit that came on top
 pub step-back : (s b : ℕ) → s < 0x10000 → b < 2 → crcBit s b % 2 ≡ 0 → s ≡ crcBit s b / 2 + 0x8000 * b
 step-back s b hs hb e =
     let z : (s / 0x8000 + b) % 2 ≡ 0 = omega (arith, step-low s b) in
@@ -68,17 +68,18 @@ step-back s b hs hb e =
     back-of : (s b u : ℕ) → s < 0x10000 → b < 2 → (s / 0x8000 + b) % 2 ≡ 0 → u ≡ s * 2 % 0x10000 → s ≡ u / 2 + 0x8000 * b
     back-of s b u hs hb z e = let t : s / 0x8000 ≡ b = top-is s b hs hb z in omega arith
 
--- and one that holds the bit on top comes to its double
+-- a register that holds the bit that comes on top comes to its double without that bit
 pub step-forth : (u b : ℕ) → u < 0x8000 → b < 2 → crcBit (u + 0x8000 * b) b ≡ u * 2
 step-forth u b hu hb =
     let z : ((u + 0x8000 * b) / 0x8000 + b) % 2 ≡ 0 = omega arith in
     omega (arith, step-plain (u + 0x8000 * b) b z)
 
--- a step without a wrong bit keeps 0, and only 0 comes to 0
+-- a step with a bit 0 keeps the register 0
 pub step-zero : crcBit 0 0 ≡ 0
 unfolding crcBit
 step-zero = refl
 
+-- only the register 0 comes to 0 in a step with a bit 0
 pub step-only : (s : ℕ) → s < 0x10000 → crcBit s 0 ≡ 0 → s ≡ 0
 step-only s h e = omega (arith, step-back s 0 h (lit< tt) (omega (arith, e)))
 
@@ -150,7 +151,7 @@ module _ (s : ℕ) (hs : s < 0x10000) (f : ℕ → ℕ) (bit : (i : ℕ) → f i
       (step-back (register s f m) (f m) (register-lt s f m hs) (bit m)
       (even-of (crcBit (register s f m) (f m)) (bitsFrom f (suc m) k) (2 ^ (16 - suc k)) r))
 
-  -- and one that holds them comes to 0
+  -- a register that holds the next k bits on top, 16 at most, comes to 0 in k bits
   pub passes : (k m : ℕ) → k ≤ 16 → register s f m ≡ bitsFrom f m k * 2 ^ (16 - k) → register s f (m + k) ≡ 0
   unfolding register bitsFrom
   passes zero m h e = ap (register s f) (add-zero m) ∙ e

@@ -1,5 +1,5 @@
 -- Where sync bytes can stand in a written row. A single 4489 can stand at an odd place too, so three in a row are looked at.
--- Assumes nothing.
+-- Rests on the laws of a written row.
 use mathlib.Core.Logic.{_⊎_, inl, inr}
 use mathlib.Core.Path.{_≡_, refl, sym, _∙_}
 use mathlib.Core.Bool.{true}

@@ -1,5 +1,5 @@
--- Laws of a written row: its cells, the sync bytes that stand in it, and what is read of it.
--- Assumes nothing.
+-- A written row: its cells, the sync bytes that stand in it, and what is read of it.
+-- Rests on the laws of an item's cells, of packed cells, of numbers that cells spell and of the sync test.
 use mathlib.Core.Path.{_≡_, refl, sym, _∙_}
 use mathlib.Core.Bool.{Bool, true, false}
 use Prim.Native.Nat.{ℕ, zero, suc, _+_, _-_, _*_, _/_, _%_, _^_, _<_}
@@ -36,6 +36,7 @@ module _ (items : ℕ → Item) (q : ℕ) where
   left-even Sync k e = omega arith
   left-even Index k e = omega arith
 
+  -- every second cell of an item is a bit of its byte
   pub data-cell : (k : ℕ) → k < 8 → writtenCell items (16 * q + (2 * k + 1)) ≡ bitOf (byteOf (items q)) k
   unfolding itemCell mfmCell
   data-cell k h =
@@ -43,6 +44,7 @@ module _ (items : ℕ → Item) (q : ℕ) where
       let b : (2 * k + 1) / 2 ≡ k = omega arith in
       cell-at (2 * k + 1) (omega arith) ∙ rw (ne-eqb _ _ (left-even (items q) k), a, b)
 
+  -- a cell between them that is not left out is the clock of the two bits around it
   pub clock-cell : (k : ℕ) → k < 8 → (2 * k ≡ leftOut (items q) → ⊥)
       → writtenCell items (16 * q + 2 * k) ≡ clock (before (bitBefore items q) (byteOf (items q)) k) (bitOf (byteOf (items q)) k)
   unfolding itemCell mfmCell
@@ -51,12 +53,12 @@ module _ (items : ℕ → Item) (q : ℕ) where
       let b : (2 * k) / 2 ≡ k = omega arith in
       cell-at (2 * k) (omega arith) ∙ rw (ne-eqb _ _ n, a, b)
 
--- the clock that is left out
+-- the clock that an item leaves out is 0
 pub left-cell : (items : ℕ → Item) (q j : ℕ) → j < 16 → j ≡ leftOut (items q) → writtenCell items (16 * q + j) ≡ 0
 unfolding itemCell
 left-cell items q j h e = cell-at items q j h ∙ rw (eq-eqb j (leftOut (items q)) e)
 
--- the data cell before a clock cell
+-- the data cell before a clock cell is the bit before the one that the clock precedes
 pub before-cell : (items : ℕ → Item) (q k l : ℕ) → k < 8 → l + 1 ≡ 16 * q + 2 * k
     → writtenCell items l ≡ before (bitBefore items q) (byteOf (items q)) k
 unfolding before bitBefore
@@ -91,14 +93,17 @@ left-out items l odd e₀ e₁ e₂ = go (eqb ((l + 1) % 16) (leftOut (items ((l
         (sym (data-cell items q k (omega arith)) ∙ rw n at e₂)
         (sym (clock-cell items q k (omega arith) (λ s. eqb-false _ _ e (sym r ∙ s))) ∙ rw m at e₁))
 
+-- every cell that is written is 0 or 1
 pub writtenCell-bit : (items : ℕ → Item) (m : ℕ) → writtenCell items m < 2
 unfolding writtenCell
 writtenCell-bit items m = itemCell-bit _ _ _
 
+-- every cell of a written row, and past its end, is 0 or 1
 pub written-bit : (items : ℕ → Item) (n i : ℕ) → getD (written items n) i 0 < 2
 unfolding written
 written-bit items n i = tab-below (writtenCell items) 1 (writtenCell-bit items) (16 * n) i
 
+-- a row of n items has 16 n cells
 pub written-length : (items : ℕ → Item) (n : ℕ) → length (written items n) ≡ 16 * n
 unfolding written
 written-length items n = tab-length (writtenCell items) (16 * n)
@@ -115,6 +120,7 @@ module _ (items : ℕ → Item) (n q : ℕ) (h : q < n) where
   unfolding written
   written-at j l = tab-in (writtenCell items) (16 * n) (16 * q + j) (omega arith) ∙ cell-at items q j l
 
+  -- the byte that was written at item q is read there
   pub byte-at : byteOf (items q) < 256 → dataByte (written items n) (16 * q) ≡ byteOf (items q)
   unfolding dataByte bitOf written
   byte-at hx = number-digits (written items n) 2 (16 * q + 1) (byteOf (items q)) 8 hx digit 8 (lit≤ tt) ∙ div-one _
@@ -125,6 +131,7 @@ module _ (items : ℕ → Item) (n q : ℕ) (h : q < n) where
           let b : 8 - (k + 1) ≡ 7 - k = omega arith in
           rw (a, b) (tab-in (writtenCell items) (16 * n) (16 * q + (2 * k + 1)) (omega arith) ∙ data-cell items q k l)
 
+  -- a sync mark that was written at item q is found there
   pub sync-here : items q ≡ Sync → syncAt (written items n) (16 * q) ≡ true
   sync-here e =
       sync-all (written items n) (16 * q) (rw (written-length items n) (omega arith))
@@ -133,7 +140,7 @@ module _ (items : ℕ → Item) (n q : ℕ) (h : q < n) where
       each : (k : ℕ) → k < 16 → getD (written items n) (16 * q + 1 * k) 0 ≡ getD (tab (itemCell (bitBefore items q) Sync) 16) (0 + 1 * k) 0
       each k l = rw (one-mul, zero-add, tab-in (itemCell (bitBefore items q) Sync) 16 k l, ← e) (written-at k l)
 
--- byte b of a row, as it is stored: a half of its item
+-- byte b of a row, as it is stored, is a half of its item
 pub packed-item : (items : ℕ → Item) (b : ℕ) → packed (writtenCell items) b ≡ packed (itemCell (bitBefore items (b / 2)) (items (b / 2))) (b % 2)
 unfolding packed writtenCell
 packed-item items b =
@@ -143,11 +150,12 @@ packed-item items b =
     let r : (8 * b + k) % 16 ≡ 8 * (b % 2) + k = omega arith in
     rw (q, r))
 
--- the bit before the first item, and before a later one
+-- the bit before the first item is 0
 pub before-first : (items : ℕ → Item) (q : ℕ) → q ≡ 0 → bitBefore items q ≡ 0
 unfolding bitBefore
 before-first items q e = rw e
 
+-- the bit before a later item is the last bit of the item before it
 pub before-later : (items : ℕ → Item) (q : ℕ) → 0 < q → bitBefore items q ≡ bitOf (byteOf (items (q - 1))) 7
 unfolding bitBefore
 before-later items zero h = absurd (omega arith)

@@ -236,7 +236,8 @@ module _ (m : Inner) (v : Inv m) where
   -- ---- list and read
 
   -- a slot in which a name is found holds a file of that name and is not slot 0
-  pub found-slot : (name : List ℕ) → findM m name < suc (m .peak) → (x : NamedFile) × (m .slots (findM m name) ≡ some x) × (nameEq (x .name) name ≡ true) × (0 < findM m name)
+  pub found-slot : (name : List ℕ) → findM m name < suc (m .peak)
+      → (x : NamedFile) × (m .slots (findM m name) ≡ some x) × (nameEq (x .name) name ≡ true) × (0 < findM m name)
   unfolding findM named isSome
   found-slot name h =
       go (m .slots (findM m name)) refl (lowest-hit (λ (k : ℕ). named name (m .slots k)) (suc (m .peak)) h)

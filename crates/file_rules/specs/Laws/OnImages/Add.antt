@@ -77,7 +77,7 @@ module _ (m : Inner) (v : Inv m) (x : NamedFile) (right : (1 ≤ length (x .name
 
   owner₁-free : freeOf owner₁ 0 ≡ false
   unfolding freeOf isFree
-  owner₁-free = ap isFree ((owned₁ m v x right new room) .own-zero)
+  owner₁-free = ap isFree (owned₁ m v x right new room .own-zero)
 
   abbrev d₀ : Disk
   d₀ = render m
@@ -134,7 +134,7 @@ module _ (m : Inner) (v : Inv m) (x : NamedFile) (right : (1 ≤ length (x .name
   filled =
       let same-rest : firsts blocks n (freeAt d₁) ≡ rest =
       firsts-cong blocks n (freeAt d₁) (freeOf owner₁)
-      (λ j l. unfold freeOf in free-is d₁ (header m) owner₁ (content (m .slots) L′) grown ((owned₁ m v x right new room) .own-valid) j l) in
+      (λ j l. unfold freeOf in free-is d₁ (header m) owner₁ (content (m .slots) L′) grown (owned₁ m v x right new room .own-valid) j l) in
       subst (λ (bs : List ℕ). With (giveBlocks d₁ kk stored 0 bs) (header m) (give owner₁ kk 0 rest) (content (m .slots) L′)) (sym same-rest)
       (give-step rest d₁ (header m) owner₁ (content (m .slots) L′) kk 0 stored
       (picks-inside (freeOf owner₁) 0 rest owner₁-free (firsts-picks blocks n (freeOf owner₁)))
@@ -180,8 +180,11 @@ module _ (m : Inner) (v : Inv m) (x : NamedFile) (right : (1 ≤ length (x .name
   pub add-image : addAt (render m) kk (entryFrom x) (x .content) ≡ render m′
   unfolding addAt render addAtM header
   add-image =
-      let w : freeSectors (count blocks (freeOf (m′ .owner))) ≡ freeWord (peakAfter m) (fileBlocks m′) = unfold freeWord in omega (arith, (add-inv m v x right new room) .free-sum) in
-      let p = finish (m .arguments) (m .updates) (freeWord (m .peak) (fileBlocks m)) (suc (peakAfter m)) (m′ .owner) (content L′ L′) d₄ ended ((owned₂ m v x right new room) .own-valid) (v .updates-fit) in
+      let w : freeSectors (count blocks (freeOf (m′ .owner))) ≡ freeWord (peakAfter m) (fileBlocks m′) =
+      unfold freeWord in omega (arith, add-inv m v x right new room .free-sum) in
+      let p =
+      finish (m .arguments) (m .updates) (freeWord (m .peak) (fileBlocks m)) (suc (peakAfter m)) (m′ .owner) (content L′ L′) d₄ ended
+      (owned₂ m v x right new room .own-valid) (v .updates-fit) in
       with-only (header m′) (m′ .owner) (content L′ L′) (addAt (render m) kk (entryFrom x) (x .content))
       (subst (λ (y : ℕ). With (addAt (render m) kk (entryFrom x) (x .content))
       (headerByte (m .arguments) (wrap (m .updates + 1)) y (suc (peakAfter m))) (m′ .owner) (content L′ L′)) w p)

@@ -157,7 +157,8 @@ module _ (m : Inner) (v : Inv m) (x : NamedFile) (right : (1 ≤ length (x .name
       let e : kk ≡ suc (m .peak) = omega (arith, k-le m v) in
       ap (λ (p : ℕ). sum (suc p) (λ (j : ℕ). heldBlocks (L′ j))) (peak-more m v e)
       ∙ ap₂ (λ (a b : ℕ). a + b)
-      (sum-cong (suc (m .peak)) (λ (j : ℕ). heldBlocks (L′ j)) (λ (j : ℕ). heldBlocks (m .slots j)) (λ j l. ap heldBlocks (upd-other (m .slots) kk (some x) j (omega arith))))
+      (sum-cong (suc (m .peak)) (λ (j : ℕ). heldBlocks (L′ j)) (λ (j : ℕ). heldBlocks (m .slots j))
+      (λ j l. ap heldBlocks (upd-other (m .slots) kk (some x) j (omega arith))))
       (ap (λ (j : ℕ). heldBlocks (L′ j)) (sym e) ∙ slot-n))
 
   -- the slot that is filled is at most the highest slot after the call
@@ -194,9 +195,14 @@ module _ (m : Inner) (v : Inv m) (x : NamedFile) (right : (1 ≤ length (x .name
         slot-once = λ i j y z ei ej s.
             by-equal i kk
             (λ q. by-equal j kk (λ r. q ∙ sym r)
-            (λ r. absurd (no-such j z (sym (off-k j r) ∙ ej) (name-sym (x .name) (z .name) (ap (λ (f : NamedFile). nameEq (f .name) (z .name)) (some-same x y (sym (ap L′ q ∙ at-k) ∙ ei)) ∙ s)))))
+            (λ r.
+            let same-x : x ≡ y = some-same x y (sym (ap L′ q ∙ at-k) ∙ ei) in
+            absurd
+            (no-such j z (sym (off-k j r) ∙ ej) (name-sym (x .name) (z .name) (ap (λ (f : NamedFile). nameEq (f .name) (z .name)) same-x ∙ s)))))
             (λ q. by-equal j kk
-            (λ r. absurd (no-such i y (sym (off-k i q) ∙ ei) (ap (λ (f : NamedFile). nameEq (y .name) (f .name)) (some-same x z (sym (ap L′ r ∙ at-k) ∙ ej)) ∙ s)))
+            (λ r.
+            let same-x : x ≡ z = some-same x z (sym (ap L′ r ∙ at-k) ∙ ej) in
+            absurd (no-such i y (sym (off-k i q) ∙ ei) (ap (λ (f : NamedFile). nameEq (y .name) (f .name)) same-x ∙ s)))
             (λ r. v .slot-once i j y z (sym (off-k i q) ∙ ei) (sym (off-k j r) ∙ ej) s));
         free-sum = omega (arith, v .free-sum, count₁, count₂, blocks-after);
         peak-most =

@@ -167,10 +167,13 @@ module _ (m : Inner) (v : Inv m) where
       let end : eqb k (dirEnd (render m)) ≡ true = eq-true {a = k} {b = dirEnd (render m)} (omega (arith, dirEnd-is m v)) in
       by-equal (k % blockSlots) 0
       (λ q. and-true end (eq-true q) ∙ sym (lt-true {a = suc (m .peak / blockSlots)} {b = suc (peakAfter m / blockSlots)} (omega arith)))
-      (λ q. and-false-right (eqb k (dirEnd (render m))) (eq-false q) ∙ sym (lt-false {a = suc (m .peak / blockSlots)} {b = suc (peakAfter m / blockSlots)} (omega arith))))
+      (λ q.
+      and-false-right (eqb k (dirEnd (render m))) (eq-false q)
+      ∙ sym (lt-false {a = suc (m .peak / blockSlots)} {b = suc (peakAfter m / blockSlots)} (omega arith))))
 
   -- a case split on whether the directory takes a block
-  pub by-growth : {X : Type 0} → (grows ≡ true → k ≡ suc (m .peak) → k / blockSlots ≡ dirBlocks (m .peak) → dirBlocks (peakAfter m) ≡ suc (dirBlocks (m .peak)) → X)
+  pub by-growth : {X : Type 0}
+      → (grows ≡ true → k ≡ suc (m .peak) → k / blockSlots ≡ dirBlocks (m .peak) → dirBlocks (peakAfter m) ≡ suc (dirBlocks (m .peak)) → X)
       → (grows ≡ false → dirBlocks (peakAfter m) ≡ dirBlocks (m .peak) → X) → X
   unfolding dirBlocks
   by-growth f g =
