@@ -8,12 +8,12 @@ use Prim.Native.Nat.{ℕ, _+_, _-_, _%_, _≤_, _<_}
 use native.Mathlib.Omega.{arith}
 use lib.Dec.{leb, ltb, eqb, lit<}
 use lib.ListN.{length, getD, set, take, drop, replicate, length-append, length-set, length-take, length-drop, length-map, List·getD-append}
-use Rattle.laws.specs.Same.{same, bytesAre, standsAt}
-use Rattle.laws.specs.Search.{take-tab}
-use Rattle.laws.specs.Tab.{tab, tab-ext}
-use Rattle.laws.specs.Tests.{orElse, le-true, lt-false, cond-true, cond-false}
-use Rattle.laws.specs.Truth.{by-test}
-use Rattle.laws.specs.Words.{lowFirst, lowByte}
+use Rattle.laws.specs.Laws.Cases.{by-test}
+use Rattle.laws.specs.Laws.Tab.{take-tab, tab-ext}
+use Rattle.laws.specs.Laws.Tests.{le-true, lt-false, cond-true, cond-false}
+use Rattle.laws.specs.Lists.{same, bytesAre, standsAt, tab}
+use Rattle.laws.specs.Numbers.{lowFirst, lowByte}
+use Rattle.laws.specs.Options.{orElse}
 use Rattle.sector_rules.specs.declared.Fault.{Fault}
 use Rattle.sector_rules.specs.declared.Fault.the-variants.{At, Sound}
 use Rattle.sector_rules.specs.declared.Reply.{Reply}
@@ -35,27 +35,36 @@ hfeHeader =
     ∷ 0x07 ∷ 0xFF ∷ 0x01 ∷ 0x00 ∷ 0xFF ∷ 0xFF ∷ 0xFF ∷ 0xFF
     ∷ 0xFF ∷ 0xFF ∷ []
 
--- the offset that a reply names with 2, and 26 where its number is another
-unfoldable pub offsetNamed : Reply → ℕ
-offsetNamed r = cond (eqb (r .number) 2) (r .first) 26
+-- the place that a reply of this number names, or `other` where its number is another
+unfoldable pub placeNamed : ℕ → ℕ → Reply → ℕ
+placeNamed number other r = cond (eqb (r .number) number) (r .first) other
 
--- what unpacking names with 2 in an image that begins with these bytes
+-- what unpacking names with 2 in an image that begins with these bytes, or 26
 unfoldable pub named : List ℕ → List ℕ → ℕ
-named start rest = offsetNamed (unpackReply (start ++ rest) imageBytes)
+named start rest = placeNamed 2 26 (unpackReply (start ++ rest) imageBytes)
 
--- a byte one more and one less, FF and 00 following each other
+-- a byte one more and one less; FF and 00 follow each other
 unfoldable pub oneMore : ℕ → ℕ
 oneMore v = (v + 1) % 256
 
 unfoldable pub oneLess : ℕ → ℕ
 oneLess v = (v + 255) % 256
 
--- the header with byte o changed so, and with each byte from o on
-unfoldable pub changedAt : (ℕ → ℕ) → ℕ → List ℕ
-changedAt g o = set hfeHeader o (g (getD hfeHeader o 0))
+-- a header of which byte o is changed so, and one of which each byte from o on is
+unfoldable pub changedAt : (ℕ → ℕ) → List ℕ → ℕ → List ℕ
+changedAt g start o = set start o (g (getD start o 0))
 
-unfoldable pub changedFrom : (ℕ → ℕ) → ℕ → List ℕ
-changedFrom g o = take o hfeHeader ++ map g (drop o hfeHeader)
+unfoldable pub changedFrom : (ℕ → ℕ) → List ℕ → ℕ → List ℕ
+changedFrom g start o = take o start ++ map g (drop o start)
+
+pub changed-length : (g : ℕ → ℕ) (start : List ℕ) (o : ℕ) → length (changedAt g start o) ≡ length start
+unfolding changedAt
+changed-length g start o = length-set start o _
+
+pub from-length : (g : ℕ → ℕ) (start : List ℕ) (o : ℕ) → o < length start → length (changedFrom g start o) ≡ length start
+unfolding changedFrom
+from-length g start o l =
+    length-append (take o start) (map g (drop o start)) ∙ rw (length-map (drop o start) g, length-take, length-drop) (omega arith)
 
 -- ---- what is promised
 
@@ -65,13 +74,13 @@ pub record HfeHeaderValues : Type 0 where
       → take 512 (packHfe image hfe) ≡ hfeHeader ++ replicate 486 0xFF
   -- unpacking an image of 1,024 bytes or more that begins with the header, one byte of which is one more: the offset that 2 names, or 26.
   -- More than 80 tracks (9) and any table offset but 0 (18) are accepted; 23 and 25 are judged where the byte before them is 00
-  pub one-more : (rest : List ℕ) → 998 ≤ length rest → tab (λ (o : ℕ). named (changedAt oneMore o) rest) 26
+  pub one-more : (rest : List ℕ) → 998 ≤ length rest → tab (λ (o : ℕ). named (changedAt oneMore hfeHeader o) rest) 26
       ≡ 0 ∷ 0 ∷ 0 ∷ 0 ∷ 0 ∷ 0 ∷ 0 ∷ 0 ∷ 8 ∷ 26 ∷ 10 ∷ 11 ∷ 12 ∷ 12 ∷ 26 ∷ 26 ∷ 26 ∷ 26 ∷ 26 ∷ 26 ∷ 26 ∷ 26 ∷ 23 ∷ 26 ∷ 25 ∷ 26 ∷ []
   -- one less: 79 tracks are refused, a table offset of 0, and flags other than FF and 00
-  pub one-less : (rest : List ℕ) → 998 ≤ length rest → tab (λ (o : ℕ). named (changedAt oneLess o) rest) 26
+  pub one-less : (rest : List ℕ) → 998 ≤ length rest → tab (λ (o : ℕ). named (changedAt oneLess hfeHeader o) rest) 26
       ≡ 0 ∷ 0 ∷ 0 ∷ 0 ∷ 0 ∷ 0 ∷ 0 ∷ 0 ∷ 8 ∷ 9 ∷ 10 ∷ 11 ∷ 12 ∷ 12 ∷ 26 ∷ 26 ∷ 26 ∷ 26 ∷ 18 ∷ 26 ∷ 26 ∷ 26 ∷ 22 ∷ 26 ∷ 24 ∷ 26 ∷ []
   -- each byte from o on one less: the lowest wrong field is named
-  pub all-less : (rest : List ℕ) → 998 ≤ length rest → tab (λ (o : ℕ). named (changedFrom oneLess o) rest) 26
+  pub all-less : (rest : List ℕ) → 998 ≤ length rest → tab (λ (o : ℕ). named (changedFrom oneLess hfeHeader o) rest) 26
       ≡ 0 ∷ 0 ∷ 0 ∷ 0 ∷ 0 ∷ 0 ∷ 0 ∷ 0 ∷ 8 ∷ 9 ∷ 10 ∷ 11 ∷ 12 ∷ 12 ∷ 22 ∷ 22 ∷ 22 ∷ 22 ∷ 22 ∷ 22 ∷ 22 ∷ 22 ∷ 22 ∷ 24 ∷ 24 ∷ 26 ∷ []
   -- the header as it is, with 255 tracks, and with each flag 00 and the byte after it 0 or 1
   pub accepted : (rest : List ℕ) → 998 ≤ length rest
@@ -87,31 +96,31 @@ faultPlace (At o) = o
 faultPlace Sound = 26
 
 module _ (h : List ℕ) where
-  by-sector : (m : ℕ) (x : Sector) → offsetNamed (sectorReply m x) ≡ 26
-  unfolding offsetNamed
+  by-sector : (m : ℕ) (x : Sector) → placeNamed 2 26 (sectorReply m x) ≡ 26
+  unfolding placeNamed
   by-sector m (Delivered p) = refl
   by-sector m Missing = refl
   by-sector m Repeated = refl
   by-sector m Fieldless = refl
   by-sector m Damaged = refl
 
-  by-sectors : offsetNamed (sectorsReply h) ≡ 26
-  unfolding sectorsReply offsetNamed
+  by-sectors : placeNamed 2 26 (sectorsReply h) ≡ 26
+  unfolding sectorsReply placeNamed
   by-sectors =
       by-test (ltb (firstBad h) allSectors)
-      (λ t. ap offsetNamed (cond-true _ _ t) ∙ by-sector (firstBad h) (sectorAt h (firstBad h)))
-      (λ t. ap offsetNamed (cond-false _ _ t))
+      (λ t. ap (placeNamed 2 26) (cond-true _ _ t) ∙ by-sector (firstBad h) (sectorAt h (firstBad h)))
+      (λ t. ap (placeNamed 2 26) (cond-false _ _ t))
 
-  by-fault : (f g : Fault) → offsetNamed (unless (orElse (refusalAt 2 f) (refusalAt 3 g)) (λ (r : Reply). r) (sectorsReply h)) ≡ faultPlace f
-  unfolding offsetNamed unless orElse
+  by-fault : (f g : Fault) → placeNamed 2 26 (unless (orElse (refusalAt 2 f) (refusalAt 3 g)) (λ (r : Reply). r) (sectorsReply h)) ≡ faultPlace f
+  unfolding placeNamed unless orElse
   by-fault (At o) g = refl
   by-fault Sound (At t) = refl
   by-fault Sound Sound = by-sectors
 
   -- 2 names the lowest wrong field of the header
-  named-is : 1024 ≤ length h → offsetNamed (unpackReply h imageBytes) ≡ faultPlace (headerFault h)
+  named-is : 1024 ≤ length h → placeNamed 2 26 (unpackReply h imageBytes) ≡ faultPlace (headerFault h)
   unfolding unpackReply
-  named-is long = ap offsetNamed (cond-false _ _ (lt-false long)) ∙ by-fault (headerFault h) (tableFault h)
+  named-is long = ap (placeNamed 2 26) (cond-false _ _ (lt-false long)) ∙ by-fault (headerFault h) (tableFault h)
 
 -- two images with the same 26 bytes are judged alike
 module _ (g h : List ℕ) (lg : 26 ≤ length g) (lh : 26 ≤ length h) (e : (k : ℕ) → k < 26 → getD g k 0 ≡ getD h k 0) where
@@ -152,19 +161,14 @@ header-length : length hfeHeader ≡ 26
 unfolding hfeHeader
 header-length = refl
 
-from-length : (g : ℕ → ℕ) (o : ℕ) → o < 26 → length (changedFrom g o) ≡ 26
-unfolding changedFrom
-from-length g o l =
-    length-append (take o hfeHeader) (map g (drop o hfeHeader)) ∙ rw (length-map (drop o hfeHeader) g, length-take, length-drop) (omega (arith, header-length))
-
 pub hfe-header-values : HfeHeaderValues
 unfolding tab headerFault formatFault flagFault signature hfeHeader changedAt changedFrom oneMore oneLess lowFirst standsAt bytesAre same
 hfe-header-values =
     record {
       packed-header = packed-is;
-      one-more = λ rest long. rows rest long (changedAt oneMore) (λ o l. length-set hfeHeader o _) ∙ refl;
-      one-less = λ rest long. rows rest long (changedAt oneLess) (λ o l. length-set hfeHeader o _) ∙ refl;
-      all-less = λ rest long. rows rest long (changedFrom oneLess) (from-length oneLess) ∙ refl;
+      one-more = λ rest long. rows rest long (changedAt oneMore hfeHeader) (λ o l. changed-length oneMore hfeHeader o) ∙ refl;
+      one-less = λ rest long. rows rest long (changedAt oneLess hfeHeader) (λ o l. changed-length oneLess hfeHeader o) ∙ refl;
+      all-less = λ rest long. rows rest long (changedFrom oneLess hfeHeader) (λ o l. from-length oneLess hfeHeader o l) ∙ refl;
       accepted = λ rest long. (begins rest long _ refl, begins rest long _ refl, begins rest long _ refl, begins rest long _ refl);
       flag-refused = λ rest long. (begins rest long _ refl, begins rest long _ refl);
     }

@@ -7,12 +7,11 @@ use mathlib.Core.Path.{_≡_, refl, _∙_}
 use Prim.Native.Nat.{ℕ, _+_, _-_, _*_, _%_, _≤_, _<_}
 use lib.Dec.{eqb}
 use lib.ListN.{length, set, replicate}
-use Rattle.laws.specs.Lowest.{lowest}
-use Rattle.laws.specs.Numbers.{up}
-use Rattle.laws.specs.Same.{same, bytesAre, standsAt}
-use Rattle.laws.specs.Tab.{tab}
-use Rattle.laws.specs.Tests.{orElse, eq-false, lt-true, lt-false, cond-true, cond-false}
-use Rattle.laws.specs.Words.{lowFirst}
+use Rattle.laws.specs.Below.{lowest}
+use Rattle.laws.specs.Laws.Tests.{eq-false, lt-true, lt-false, cond-true, cond-false}
+use Rattle.laws.specs.Lists.{same, bytesAre, standsAt, tab}
+use Rattle.laws.specs.Numbers.{up, lowFirst}
+use Rattle.laws.specs.Options.{orElse}
 use Rattle.cells.specs.Stream.{bytePlace, cellAt, stream, from}
 use Rattle.cells.specs.Sync.{syncAt, threeSync}
 use Rattle.sector_rules.specs.declared.Reply.{Reply}
