@@ -1,5 +1,5 @@
 -- What is promised of a damaged track: detectable damage of a sector is refused, and never shown as data.
--- Assumes nothing.
+-- Rests on the laws of damage (Laws.Damage) and of one burst (Laws.Burst).
 use mathlib.Core.Bool.{true, cond}
 use mathlib.Core.List.{List}
 use mathlib.Core.Logic.{_≢_}
@@ -18,7 +18,8 @@ use Rattle.sector_rules.specs.Geometry.{allSectors, imageBytes}
 use Rattle.sector_rules.specs.Search.{crcHolds, dataMark, fieldCells, isHeader, idOf, findSector, fieldAt, sectorOf}
 use Rattle.sector_rules.specs.Unpacked.{trackOf, sideOf, rOf, sectorAt, unpackReply, unpackImage}
 use Rattle.sector_rules.specs.Packed.{hfeBytes, packHfe}
-use Rattle.sector_rules.specs.Damage.{Binary, headerBits, fieldBits, FieldDamage, SameField, sideWith, ImageFieldDamage, SideDamage, ImageSideDamage, RunsApart, ImageBurst}
+use Rattle.sector_rules.specs.Damage.{Binary, headerBits, fieldBits, FieldDamage, SameField, sideWith}
+use Rattle.sector_rules.specs.Damage.{ImageFieldDamage, SideDamage, ImageSideDamage, RunsApart, ImageBurst}
 use Rattle.sector_rules.specs.Laws.Trip.RoundTrip.{round-trip}
 use Rattle.sector_rules.specs.Laws.Base.Told.{each-place}
 use Rattle.sector_rules.specs.Laws.Damage.FieldDamage.{holds-bits, field-refused, header-same, sector-same, same-images, sector-told-same, fields-bytes}
@@ -31,13 +32,13 @@ use Rattle.sector_rules.specs.Laws.Burst.SideBurst.{bursts-bytes}
 pub field-longest : fieldBits ≡ longestRow
 field-longest = refl
 
--- crc-counted: the test of a header's or a field's CRC is, on its data bits, the test that one-in-65536 counts. So of all ways to replace one longer stretch of a
--- field's data bits at most one in 65,536 passes
+-- crc-counted: the test of a header's or a field's CRC is, on its data bits, the test that one-in-65536 counts.
+-- So of all ways to replace one longer stretch of a field's data bits at most one in 65,536 passes
 pub crc-counted : (f : List ℕ) (n : ℕ) → crcHolds f n ≡ crcFollows (bitsByte (dataBit f)) n
 crc-counted f n = holds-bits f n
 
--- field-caught: of a field that was delivered the data bits differ detectably, and bit k is wrong. Judged at its place it is Damaged (7) where its mark reads FB,
--- and Fieldless (6) where not; never is it delivered
+-- field-caught: of a field that was delivered the data bits differ detectably, and bit k is wrong.
+-- Judged at its place it is Damaged (7) where its mark reads FB, and Fieldless (6) where not; never is it delivered
 pub field-caught : (c d : List ℕ) → Binary c → Binary d → length c ≡ length d → (j p : ℕ) → fieldAt c j ≡ Delivered p
     → Detectable (dataBit (from c j)) (dataBit (from d j)) fieldBits → (k : ℕ) → k < fieldBits → dataBit (from c j) k ≢ dataBit (from d j) k
     → fieldAt d j ≡ cond (eqb (dataByte (from d j) 48) dataMark) Damaged Fieldless
@@ -91,8 +92,8 @@ packed-caught image hfe old g li small lh lo d eg =
     let r = round-trip image hfe old li small lh lo in
     sym (same-images (packHfe image hfe) g old (sides-bytes image hfe g li lh d) (ap (λ (x : Reply). x .number) (r .1)) eg) ∙ r .2
 
--- packed-burst: a packed image of which the changed cells lie, on each side by itself, among 32 neighbouring ones, wherever these are, is refused, or it unpacks
--- to the block image that was packed. No condition is made on sync bytes, headers or gaps
+-- packed-burst: a packed image of which the changed cells lie, on each side by itself, among 32 neighbouring ones, wherever these are,
+-- is refused, or it unpacks to the block image that was packed. No condition is made on sync bytes, headers or gaps
 pub packed-burst : (image hfe old g : List ℕ) → length image ≡ imageBytes → ((k : ℕ) → getD image k 0 < 256) → length hfe ≡ hfeBytes
     → length old ≡ imageBytes → ImageBurst (packHfe image hfe) g → unpackReply g (length old) .number ≡ 0 → unpackImage g old ≡ image
 packed-burst image hfe old g li small lh lo d eg =

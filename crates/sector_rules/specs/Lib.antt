@@ -1,4 +1,5 @@
--- The definitions: replies, faults and the disk kind, the sector rules, the HFE image, unpacking and packing; then what is promised of them alone; then their laws.
+-- The definitions: replies, faults and the disk kind, the sector rules, the HFE image, unpacking and packing;
+-- then what is promised of them alone; then their laws.
 pub mod Replies
 pub mod Faults
 pub mod Geometry

@@ -1,5 +1,5 @@
 -- What is promised of the placement alone, beside its values: placement-bijective and tables-inverse.
--- Assumes nothing.
+-- Rests on the laws of the placement (Laws.Base.Geometry).
 use mathlib.Core.Path.{_≡_}
 use Prim.Native.Nat.{ℕ, _+_, _*_, _/_, _%_, _<_}
 use lib.ListN.{getD}
@@ -13,6 +13,7 @@ pub record Bijective : Type 0 where
   pub forth-then-back : (n : ℕ) → n < allSectors → runningSector (imageSector n) ≡ n
   pub back-then-forth : (m : ℕ) → m < allSectors → imageSector (runningSector m) ≡ m
 
+-- the placement is one-to-one and onto
 pub placement-bijective : Bijective
 placement-bijective = record { forth = image-lt; back = running-lt; forth-then-back = running-image; back-then-forth = image-running }
 

@@ -12,8 +12,7 @@ use lib.ListN.{length, getD}
 use Rattle.laws.specs.Lists.{same, bytesAre, tab}
 use Rattle.laws.specs.Changes.{patch}
 use Rattle.laws.specs.Numbers.{at16, at32, up, bigEndian, highByte}
-use Rattle.laws.specs.Laws.Tests.{eq-true, true-eq, true≢false, and-true}
-use Rattle.laws.specs.Laws.Tests.{and-left, and-right}
+use Rattle.laws.specs.Laws.Tests.{eq-true, true-eq, true≢false, and-true, and-left, and-right}
 use Rattle.laws.specs.Laws.Tab.{tab-in}
 use Rattle.laws.specs.Laws.Changes.{patch-in, patch-below}
 use Rattle.laws.specs.Laws.Numbers.{high2-at, high4-at}

@@ -14,8 +14,7 @@ use Rattle.laws.specs.Below.{count, lowest}
 use Rattle.laws.specs.Numbers.{at16, at32, up, bigEndian}
 use Rattle.laws.specs.Options.{isSome}
 use Rattle.laws.specs.Laws.Cases.{by-order, by-equal}
-use Rattle.laws.specs.Laws.Tests.{lt-true, lt-false, eq-true, eq-false, true≢false, cond-true, cond-false, and-true, and-false-left}
-use Rattle.laws.specs.Laws.Tests.{and-false-right}
+use Rattle.laws.specs.Laws.Tests.{lt-true, lt-false, eq-true, eq-false, true≢false, cond-true, cond-false, and-true, and-false-left, and-false-right}
 use Rattle.laws.specs.Laws.All.{all-is, all-false}
 use Rattle.laws.specs.Laws.Lowest.{lowest-hit, lowest-only, lowest-cong}
 use Rattle.laws.specs.Laws.Tab.{tab-self, take-tab, tab-ext}

@@ -1,5 +1,5 @@
--- Laws of headers, the search and the data field.
--- Assumes nothing.
+-- The CRC of a header or field, the search for a sector's header, and the first place where a test holds.
+-- Rests on the laws of the CRC.
 use mathlib.Core.Bool.{Bool, true, false, cond}
 use mathlib.Core.List.{List, [], _∷_, _++_}
 use mathlib.Core.Path.{_≡_, refl, sym, ap, _∙_}
@@ -18,7 +18,7 @@ use Rattle.sector_rules.specs.Search.{crcHolds, placesBelow, foundOf, fi
 
 -- ---- headers
 
--- the two bytes of a CRC, written out
+-- the CRC of n bytes holds if it is the number in the next two bytes
 pub crc-two : (f : List ℕ) (n : ℕ) → crcHolds f n ≡ eqb (crc (dataBytes f 0 n)) (dataByte f (16 * n) * 256 + dataByte f (16 * n + 16))
 unfolding crcHolds dataBytes
 crc-two f n =
@@ -41,15 +41,17 @@ found-snoc (a ∷ []) i = refl
 found-snoc (a ∷ (b ∷ xs)) i = refl
 
 module _ (p : ℕ → Bool) (k : ℕ) where
-  -- one more place where the test holds, or does not
+  -- the search's answer after one more place where the test holds
   pub found-yes : p k ≡ true → foundOf (placesBelow p (k + 1)) ≡ moreFound (foundOf (placesBelow p k)) k
   unfolding placesBelow
   found-yes e = rw (add-one, e) (found-snoc (placesBelow p k) k)
 
+  -- the search's answer after one more place where the test does not hold
   pub found-no : p k ≡ false → foundOf (placesBelow p (k + 1)) ≡ foundOf (placesBelow p k)
   unfolding placesBelow
   found-no e = rw (add-one, e)
 
+  -- the search's answer after one more place
   pub found-more : foundOf (placesBelow p (k + 1)) ≡ cond (p k) (moreFound (foundOf (placesBelow p k)) k) (foundOf (placesBelow p k))
   found-more = go (p k) refl
     where
@@ -59,6 +61,7 @@ module _ (p : ℕ → Bool) (k : ℕ) where
 
 -- ---- the first place of a search
 
+-- what is given at the first of some places where the test holds
 pub first-is : {A : Type 0} (p : ℕ → Bool) (f : ℕ → A) (none : A) (m i k : ℕ) → k < m → ((j : ℕ) → j < k → p (i + j) ≡ false) → p (i + k) ≡ true
     → first p f none m i ≡ f (i + k)
 unfolding first

@@ -1,5 +1,5 @@
 -- What an answer says of how it came: of a field that was delivered, of a header, of the search, of a sector, and of an image that was accepted.
--- Assumes nothing.
+-- Rests on the laws of the search (Search) and of unpacking (Unpacked).
 use mathlib.Core.Bool.{Bool, true, false, cond, _&&_, false≢true}
 use mathlib.Core.List.{List}
 use mathlib.Core.Path.{_≡_, refl, sym, ap, _∙_}
@@ -26,7 +26,8 @@ use Rattle.sector_rules.specs.Replies.{reply, done}
 use Rattle.sector_rules.specs.Geometry.{allSectors, imageBytes}
 use Rattle.sector_rules.specs.Hfe.{headerFault, tableFault, sideStream}
 use Rattle.sector_rules.specs.Unpacked.{trackOf, sideOf, rOf, sectorAt, sectorReply, isBad, firstBad, sectorsReply, leastHfe, unpackReply}
-use Rattle.sector_rules.specs.Search.{crcHolds, headerMark, dataMark, headerCells, fieldCells, gapCells, isHeader, idOf, headerOf, belongs, headerAt, placesBelow, foundOf, findSector, first, fieldAt, fieldOf, sectorFound, sectorOf}
+use Rattle.sector_rules.specs.Search.{crcHolds, headerMark, dataMark, headerCells, fieldCells, gapCells, isHeader, idOf, headerOf, belongs}
+use Rattle.sector_rules.specs.Search.{headerAt, placesBelow, foundOf, findSector, first, fieldAt, fieldOf, sectorFound, sectorOf}
 use Rattle.sector_rules.specs.Laws.Base.Search.{moreFound, found-more}
 use Rattle.sector_rules.specs.Laws.Base.Unpacked.{placeOf, good-is, bad-number, short-reply, length-reply, header-reply, table-reply, sound-reply}
 
@@ -38,25 +39,27 @@ told true false p q e = let z : _≡_ {A = ℕ} 0 1 = cc in absurd (omega arith)
 told false b p q e = let z : _≡_ {A = ℕ} 0 1 = cc in absurd (omega arith)
 
 module _ (c : List ℕ) (j p : ℕ) (e : fieldAt c j ≡ Delivered p) where
+  -- a field that was delivered fits, has its mark, its CRC holds, and its bytes begin 64 cells after it
   pub field-told : ((leb fieldCells (length (from c j)) && eqb (dataByte (from c j) 48) dataMark) ≡ true) × (crcHolds (from c j) 516 ≡ true) × (j + 64 ≡ p)
   unfolding fieldAt
   field-told = told (leb fieldCells (length (from c j)) && eqb (dataByte (from c j) 48) dataMark) (crcHolds (from c j) 516) (j + 64) p e
 
-  -- where its bytes begin
+  -- the bytes of a field that was delivered begin 64 cells after it
   pub field-place : j + 64 ≡ p
   field-place = field-told .2
 
-  -- its mark
+  -- a field that was delivered has the data mark
   pub field-mark : dataByte (from c j) 48 ≡ dataMark
   field-mark = eqb-true _ _ (and-right (leb fieldCells (length (from c j))) _ (field-told .0))
 
-  -- its CRC
+  -- the CRC of a field that was delivered holds
   pub field-holds : crcHolds (from c j) 516 ≡ true
   field-holds = field-told .1
 
 -- ---- a header
 
 module _ (c : List ℕ) (t s r i : ℕ) where
+  -- where a header of the sector stands, a header stands, and it belongs to the sector
   pub header-split : headerAt c t s r i ≡ true → (isHeader (from c i) ≡ true) × (belongs t s r (Is (idOf (from c i))) ≡ true)
   unfolding headerAt headerOf
   header-split e =
@@ -64,12 +67,13 @@ module _ (c : List ℕ) (t s r i : ℕ) where
       (λ u. (u, ap (belongs t s r) (sym (cond-true (Is (idOf (from c i))) Absent u)) ∙ e))
       (λ u. absurd (false≢true (ap (belongs t s r) (sym (cond-false (Is (idOf (from c i))) Absent u)) ∙ e)))
 
-  -- and so it is a header of the sector
+  -- where a header stands that belongs to the sector, a header of the sector stands
   pub header-join : isHeader (from c i) ≡ true → belongs t s r (Is (idOf (from c i))) ≡ true → headerAt c t s r i ≡ true
   unfolding headerAt headerOf
   header-join u e = ap (belongs t s r) (cond-true (Is (idOf (from c i))) Absent u) ∙ e
 
 module _ (f : List ℕ) (e : isHeader f ≡ true) where
+  -- a header begins with three sync bytes
   pub header-syncs : threeSync f ≡ true
   unfolding isHeader
   header-syncs =
@@ -77,7 +81,7 @@ module _ (f : List ℕ) (e : isHeader f ≡ true) where
       (and-left (leb headerCells (length f) && threeSync f) (eqb (dataByte f 48) headerMark)
       (and-left (leb headerCells (length f) && threeSync f && eqb (dataByte f 48) headerMark) (crcHolds f 8) e))
 
-  -- its mark
+  -- a header has the header mark
   pub header-mark : dataByte f 48 ≡ headerMark
   unfolding isHeader
   header-mark =
@@ -85,7 +89,7 @@ module _ (f : List ℕ) (e : isHeader f ≡ true) where
       (and-right (leb headerCells (length f) && threeSync f) (eqb (dataByte f 48) headerMark)
       (and-left (leb headerCells (length f) && threeSync f && eqb (dataByte f 48) headerMark) (crcHolds f 8) e))
 
-  -- its CRC
+  -- the CRC of a header holds
   pub header-crc : crcHolds f 8 ≡ true
   unfolding isHeader
   header-crc = and-right (leb headerCells (length f) && threeSync f && eqb (dataByte f 48) headerMark) (crcHolds f 8) e
@@ -131,6 +135,7 @@ module _ (p : ℕ → Bool) where
 
   -- the first place where the test holds gave the answer
   module _ (f : ℕ → Sector) where
+    -- a field that was delivered by looking place by place stands at the first place where the test holds
     pub first-told : (m i x : ℕ) → first p f Fieldless m i ≡ Delivered x
         → (k : ℕ) × (k < m) × ((j : ℕ) → j < k → p (i + j) ≡ false) × (p (i + k) ≡ true) × (f (i + k) ≡ Delivered x)
     unfolding first
@@ -163,17 +168,20 @@ found-told c Nothing p e = let z : _≡_ {A = ℕ} 0 1 = cc in absurd (omega ari
 found-told c Several p e = let z : _≡_ {A = ℕ} 0 1 = cc in absurd (omega arith)
 
 module _ (c : List ℕ) (t s r p : ℕ) (e : sectorOf c t s r ≡ Delivered p) where
+  -- a sector that was delivered has one header, and the field of that header was delivered
   pub sector-told : (i : ℕ) × (findSector c t s r ≡ One i) × (fieldOf c i ≡ Delivered p)
   unfolding sectorOf
   sector-told = found-told c (findSector c t s r) p e
 
 module _ (c : List ℕ) (t s r i : ℕ) (e : findSector c t s r ≡ One i) where
+  -- where the search finds one place, a header of the sector stands there and nowhere else
   pub header-told : (headerAt c t s r i ≡ true) × ((k : ℕ) → k < length c → headerAt c t s r k ≡ true → k ≡ i) × (i < length c)
   unfolding findSector
   header-told = one-below (headerAt c t s r) (length c) i e
 
 -- the place of the field after the header at i: k cells after the header's end
 module _ (c : List ℕ) (i p : ℕ) (e : fieldOf c i ≡ Delivered p) where
+  -- the field that was delivered of a header begins at the first run of three sync bytes, at most 688 cells after the header
   pub gap-told : (k : ℕ) × (k < gapCells + 1) × ((j : ℕ) → j < k → threeSync (from c (i + headerCells + j)) ≡ false)
       × (threeSync (from c (i + headerCells + k)) ≡ true) × (fieldAt c (i + headerCells + k) ≡ Delivered p)
   unfolding fieldOf
@@ -224,11 +232,11 @@ module _ (h : List ℕ) where
         header l q (At o) f = absurd (not-zero (reply 2 o 0 0) (header-reply h n l q o f) 1 refl)
         header l q Sound f = table l q f (tableFault h) refl
 
-    -- each sector is delivered
+    -- of an image that is accepted each sector is delivered
     pub each-delivered : (m : ℕ) → m < allSectors → sectorAt h m ≡ Delivered (placeOf (sectorAt h m))
     each-delivered m l = all-good sectors-done m l
 
-    -- and its field begins 64 cells before its bytes
+    -- of an image that is accepted the field of each sector begins 64 cells before its bytes
     pub each-place : (m : ℕ) → m < allSectors → (j : ℕ) × (sectorAt h m ≡ Delivered (j + 64))
     unfolding sectorAt
     each-place m l =

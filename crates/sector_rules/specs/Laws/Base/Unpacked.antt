@@ -1,5 +1,5 @@
--- Laws of unpacking: the place of a sector's bytes, and the replies in order.
--- Assumes nothing.
+-- Unpacking: the place of a sector's bytes, and the replies in their order.
+-- Rests on the definitions alone.
 use mathlib.Core.Bool.{true, false, cond, false≢true}
 use mathlib.Core.List.{List}
 use mathlib.Core.Path.{_≡_, refl, sym, _∙_}
@@ -27,6 +27,7 @@ placeOf Repeated = 0
 placeOf Fieldless = 0
 placeOf Damaged = 0
 
+-- a sector that is not bad is delivered
 pub good-is : (x : Sector) → isBad x ≡ false → x ≡ Delivered (placeOf x)
 good-is (Delivered p) e = refl
 good-is Missing e = absurd (false≢true (sym e))
@@ -34,7 +35,7 @@ good-is Repeated e = absurd (false≢true (sym e))
 good-is Fieldless e = absurd (false≢true (sym e))
 good-is Damaged e = absurd (false≢true (sym e))
 
--- a bad sector's reply is no 0
+-- the reply for a bad sector is not 0
 pub bad-number : (m : ℕ) (x : Sector) → isBad x ≡ true → eqb (sectorReply m x .number) 0 ≡ false
 bad-number m (Delivered p) e = absurd (false≢true e)
 bad-number m Missing e = refl
@@ -45,11 +46,13 @@ bad-number m Damaged e = refl
 -- ---- the replies of unpacking, in order
 
 module _ (h : List ℕ) (n : ℕ) where
+  -- an HFE image that is too short is refused with 1, 1
   pub short-reply : length h < leastHfe → unpackReply h n ≡ reply 1 1 0 0
   unfolding unpackReply
   short-reply l = rw (lt-ltb (length h) leastHfe l)
 
   module _ (l : leastHfe ≤ length h) where
+    -- a block image of another length is refused with 1, 2
     pub length-reply : (n ≡ imageBytes → ⊥) → unpackReply h n ≡ reply 1 2 0 0
     unfolding unpackReply
     length-reply e = rw (le-ltb (length h) leastHfe l, ne-eqb n imageBytes e)
@@ -59,20 +62,23 @@ module _ (h : List ℕ) (n : ℕ) where
       unfolding unpackReply
       later-reply = rw (le-ltb (length h) leastHfe l, eq-eqb n imageBytes e)
 
+      -- an HFE image with a wrong header is refused with 2 and the offset
       pub header-reply : (o : ℕ) → headerFault h ≡ At o → unpackReply h n ≡ reply 2 o 0 0
       unfolding unless orElse
       header-reply o f = later-reply ∙ rw f
 
       module _ (f : headerFault h ≡ Sound) where
+        -- an HFE image with a wrong table entry is refused with 3 and the track
         pub table-reply : (t : ℕ) → tableFault h ≡ At t → unpackReply h n ≡ reply 3 t 0 0
         unfolding unless orElse
         table-reply t g = later-reply ∙ rw (f, g)
 
+        -- where header and table are right, the reply is that for the sectors
         pub sound-reply : tableFault h ≡ Sound → unpackReply h n ≡ sectorsReply h
         unfolding unless orElse
         sound-reply g = later-reply ∙ rw (f, g)
 
--- the image afterwards: what the reply says
+-- the block image after unpacking, by the reply: unpacked, or as it was
 pub image-after : (h image : List ℕ) (r : Reply) → unpackReply h (length image) ≡ r
     → unpackImage h image ≡ cond (eqb (r .number) 0) (tab (unpackedByte h) imageBytes) image
 unfolding unpackImage

@@ -1,5 +1,5 @@
--- Where known cells of a written sector differ from those of its header, or of its data field, that is moved to another place: computed tests.
--- Assumes nothing.
+-- Where known cells of a written sector differ from those of its header, or of its data field, that is moved to another place.
+-- Rests on the known cells of a sector (Known), the cells that are read (Read), and computed tests.
 use mathlib.Core.Bool.{Bool, true, false, _&&_, _||_}
 use mathlib.Core.List.{List, [], _∷_}
 use mathlib.Core.Path.{_≡_, refl}
@@ -52,7 +52,7 @@ module _ (n z p e f : ℕ) (u : (clash (z + e) (p + e) && clash (z + f) (p + f) 
         high-clash = and-right (clash (z + e) (p + e)) (clash (z + f) (p + f)) a₃;
       }
 
--- what the test says
+-- a pair that the test found is two cells that are read, 32 or more apart, and do not fit
 pub apart-told : (n z p : ℕ) (es : List ℕ) → clashPairs n z p es ≡ true → Apart n z p
 unfolding clashPairs
 apart-told n z p [] t = true≢false false t refl
@@ -73,7 +73,7 @@ headers-clash : all (λ (k : ℕ). (eqb k 190 || eqb k 206 || clashPairs 128 192
 unfolding all clashPairs headerPairs clash isRead knownCell knownClock knownBit knownMask bitOf sectorItem span withCrc
 headers-clash = refl
 
--- by any number of cells that a burst can reach
+-- a header moved by up to 190 cells, but for 16 on, does not fit at two cells of which a burst reaches one at most
 pub header-apart : (p : ℕ) → 2 ≤ p → p < 383 → (p ≡ 192 → ⊥) → (p ≡ 208 → ⊥) → Apart 128 192 p
 header-apart p lo hi n₁ n₂ =
     let k : p - 2 + 2 ≡ p = omega arith in
@@ -83,7 +83,7 @@ header-apart p lo hi n₁ n₂ =
     (all-at (λ (m : ℕ). (eqb m 190 || eqb m 206 || clashPairs 128 192 (m + 2) headerPairs)) 381 headers-clash (p - 2) (omega arith))
     (or-none (eqb (p - 2) 190) (eqb (p - 2) 206) (eq-false (λ (e : p - 2 ≡ 190). n₁ (omega arith))) (eq-false (λ (e : p - 2 ≡ 206). n₂ (omega arith))))))
 
--- moved by 16 cells, its third sync byte falls on its mark
+-- a header moved on by 16 cells does not fit: its third sync byte falls on its mark
 pub header-next : clash (192 + 35) (208 + 35) ≡ true
 unfolding clash knownCell knownClock knownBit knownMask bitOf sectorItem span withCrc
 header-next = refl
@@ -96,7 +96,7 @@ fields-clash : all (λ (k : ℕ). clashPairs 64 896 (k + 352) fieldPairs) 544 �
 unfolding all clashPairs fieldPairs clash isRead knownCell knownClock knownBit knownMask bitOf sectorItem span withCrc
 fields-clash = refl
 
--- by any number of cells to the end of its header
+-- a data field moved to a place before its own, to the end of its header, does not fit at two cells of which a burst reaches one at most
 pub field-apart : (p : ℕ) → 352 ≤ p → p < 896 → Apart 64 896 p
 field-apart p lo hi =
     let k : p - 352 + 352 ≡ p = omega arith in
@@ -109,7 +109,7 @@ even-clash : all (λ (h : ℕ). (eqb (h % 8) 0 || ltb (lowest (λ (e : ℕ). cla
 unfolding all lowest clash knownCell knownClock knownBit knownMask bitOf sectorItem span withCrc
 even-clash = refl
 
--- the cell
+-- a data field moved on by an even number of cells below 38, but for 16 and 32, does not fit at one of its first ten cells
 pub field-even : (h : ℕ) → h < 19 → (h % 8 ≡ 0 → ⊥) → (e : ℕ) × (e < 10) × (clash (896 + e) (896 + 2 * h + e) ≡ true)
 field-even h l n =
     let t = true-lt (or-other (eqb (h % 8) 0) _
@@ -121,7 +121,7 @@ odd-clash : all (λ (h : ℕ). ltb (lowest (λ (e : ℕ). clash (896 + e) (897 +
 unfolding all lowest clash knownCell knownClock knownBit knownMask bitOf sectorItem span withCrc
 odd-clash = refl
 
--- the cell
+-- a data field moved on by an odd number of cells below 22 does not fit at one of its first 26 cells
 pub field-odd : (h : ℕ) → h < 11 → (e : ℕ) × (e < 26) × (clash (896 + e) (897 + 2 * h + e) ≡ true)
 field-odd h l =
     let t = true-lt (all-at (λ (k : ℕ). ltb (lowest (λ (e : ℕ). clash (896 + e) (897 + 2 * k + e)) 26) 26) 11 odd-clash h l) in

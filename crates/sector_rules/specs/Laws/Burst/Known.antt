@@ -1,5 +1,5 @@
 -- The cells of a written sector, from its twelve 00 to its data mark, that are known whatever track, side, R and data are.
--- Assumes nothing.
+-- Rests on the written side place by place (Base.Packed, Trip.SideTrip) and on the cell layer's laws of clock cells.
 use mathlib.Core.Bool.{true, false, cond}
 use mathlib.Core.List.{List, []}
 use mathlib.Core.Path.{_≡_, refl, sym, ap, ap₂, _∙_}
@@ -195,7 +195,10 @@ module _ (t s : ℕ) (ht : t < 128) (hs : s < 2) (d : ℕ → List ℕ) (x : ℕ
       let m : sectorStart x + k ≡ sectorStart x + (2 * (k / 2) + 1) = omega arith in
       ap (writtenCell (sideItem t s d)) m
       ∙ known-data (k / 2) (omega arith) v
-      (sym (cond-true (knownBit (k / 2)) (cond (eqb (k % 16) (leftOut (sectorItem 0 0 0 [] (k / 16)))) 0 (knownClock (knownBit (k / 2 - 1)) (knownBit (k / 2)))) (eq-true u)) ∙ e)
+      (sym
+      (cond-true (knownBit (k / 2))
+      (cond (eqb (k % 16) (leftOut (sectorItem 0 0 0 [] (k / 16)))) 0 (knownClock (knownBit (k / 2 - 1)) (knownBit (k / 2)))) (eq-true u))
+      ∙ e)
       hv)
       (λ u.
       let m : (sectorStart x + k - 1) + 1 ≡ sectorStart x + k = omega arith in

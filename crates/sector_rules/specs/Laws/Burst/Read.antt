@@ -1,5 +1,5 @@
 -- The cells of a header or data field that are read, those of its sync bytes and the data cells after them: where two have the same bytes they agree.
--- Assumes nothing.
+-- Rests on what an answer says of how it came (Base.Told).
 use mathlib.Core.Bool.{Bool, true, _&&_, _||_}
 use mathlib.Core.List.{List}
 use mathlib.Core.Path.{_≡_, sym, ap, _∙_}
@@ -43,7 +43,7 @@ module _ (f g : List ℕ) (bf : Binary f) (bg : Binary g) (tf : threeSync f ≡ 
       ∙ ap (λ (b : ℕ). b / 2 ^ (8 - (e % 16 / 2 + 1)) % 2) (same (e / 16) (omega arith) (omega arith))
       ∙ sym (ap (λ (k : ℕ). getD g k 0) p ∙ byte-cell g bg (e / 16) (e % 16 / 2) (omega arith)))
 
--- two headers that name the same sector
+-- two headers that name the same sector agree in every cell that is read
 pub headers-read : (f g : List ℕ) → Binary f → Binary g → isHeader f ≡ true → isHeader g ≡ true → idOf f ≡ idOf g
     → (e : ℕ) → isRead 128 e ≡ true → getD f e 0 ≡ getD g e 0
 unfolding idOf
@@ -58,14 +58,14 @@ headers-read f g bf bg hf hg same e r =
         (λ n₃. by-equal q 6 (λ x. rw x (ap (λ (i : Id). i .r) same))
         (λ n₄. let x : q ≡ 7 = omega arith in rw x (ap (λ (i : Id). i .n) same)))))
 
--- two fields
+-- two data fields that are delivered agree in the sync bytes and the data cells of the mark
 pub fields-read : (c d : List ℕ) → Binary c → Binary d → (j y p q : ℕ) → threeSync (from c j) ≡ true → threeSync (from d y) ≡ true
     → fieldAt c j ≡ Delivered p → fieldAt d y ≡ Delivered q → (e : ℕ) → isRead 64 e ≡ true → getD (from c j) e 0 ≡ getD (from d y) e 0
 fields-read c d bc bd j y p q tc td ec ed e r =
     read-same (from c j) (from d y) (from-bit c j bc) (from-bit d y bd) tc td 64
     (λ k l h. let x : k ≡ 3 = omega arith in rw x (field-mark c j p ec ∙ sym (field-mark d y q ed))) e r
 
--- the bytes of a header that belongs to the sector
+-- a header that belongs to the sector has the track, the side, R and 2
 pub belongs-id : (t s r : ℕ) (i : Id) → belongs t s r (Is i) ≡ true → i ≡ record { c = t; h = s; r = r; n = 2 }
 belongs-id t s r i e =
     let a₁ = and-left (eqb (i .c) t && eqb (i .h) s && eqb (i .n) sizeCode) (eqb (i .r) r) e in

@@ -1,6 +1,6 @@
 -- A written side whose changed cells lie among 32 neighbouring ones, wherever these are: what is delivered is what was written. The search finds the header at
 -- its own place or not once (header-place), and its field at its own place or none that is delivered (field-same).
--- Assumes nothing.
+-- Rests on the known cells that differ at another place (Clash, SideCells), on the cells that are read (Read) and on damage of sides (Damage).
 use mathlib.Core.Bool.{true, false}
 use mathlib.Core.List.{List}
 use mathlib.Core.Logic.{⊎-elim}
@@ -112,7 +112,9 @@ module _ (t s : ℕ) (ht : t < 128) (hs : s < 2) (dd : ℕ → List ℕ) (d : Li
         let i : ℕ = sectorStart x + 208 in
         let same : getD (writtenSide t s dd) (sectorStart x + (192 + 35)) 0 ≡ getD d (sectorStart x + (208 + 35)) 0 =
         headers-same i hi 35 refl ∙ ap (λ (k : ℕ). getD d k 0) (shift 35) in
-        let u = changed (sectorStart x + (208 + 35)) (clash-changed (192 + 35) (208 + 35) (omega arith) (omega arith) (omega arith) (omega arith) header-next same) in
+        let u =
+        changed (sectorStart x + (208 + 35))
+        (clash-changed (192 + 35) (208 + 35) (omega arith) (omega arith) (omega arith) (omega arith) header-next same) in
         let agree : (m : ℕ) → sectorStart x + 275 ≤ m → m < sectorStart x + 400 → getD (writtenSide t s dd) m 0 ≡ getD d m 0 =
         λ m lo hi. g .after m (omega (arith, u .0)) in
         let own = belongs-id t s (x + 1) (idOf (from (writtenSide t s dd) (sectorStart x + 192)))
@@ -170,7 +172,9 @@ module _ (t s : ℕ) (ht : t < 128) (hs : s < 2) (dd : ℕ → List ℕ) (d : Li
       not-agree : ((m : ℕ) → sectorStart x + 896 ≤ m → m < sectorStart x + 896 + 48 → getD (writtenSide t s dd) m 0 ≡ getD d m 0) → ⊥
       not-agree a =
           true≢false (threeSync (from d (sectorStart x + 896)))
-          (sym (three-agree (writtenSide t s dd) d (g .long) (sectorStart x + 896) (sectorStart x + 896 + 48) a (sectorStart x + 896) (omega arith) (omega arith)) ∙ run)
+          (sym
+          (three-agree (writtenSide t s dd) d (g .long) (sectorStart x + 896) (sectorStart x + 896 + 48) a (sectorStart x + 896) (omega arith)
+          (omega arith)) ∙ run)
           lost
 
       met : (g .first < sectorStart x + 896 + 48) × (sectorStart x + 896 < g .first + 32)
@@ -209,7 +213,8 @@ module _ (t s : ℕ) (ht : t < 128) (hs : s < 2) (dd : ℕ → List ℕ) (d : Li
           let u : m ≡ sectorStart x + 896 + (m - (sectorStart x + 896)) = omega arith in
           let w : m ≡ y + (m - y) = omega arith in
           ap (λ (n : ℕ). getD (writtenSide t s dd) n 0) u ∙ sym (from-at (writtenSide t s dd) (sectorStart x + 896) (m - (sectorStart x + 896)))
-          ∙ three-cell (from (writtenSide t s dd) (sectorStart x + 896)) (from-bit (writtenSide t s dd) (sectorStart x + 896) bc) run (m - (sectorStart x + 896)) (omega arith)
+          ∙ three-cell (from (writtenSide t s dd) (sectorStart x + 896)) (from-bit (writtenSide t s dd) (sectorStart x + 896) bc) run
+          (m - (sectorStart x + 896)) (omega arith)
           ∙ ap (λ (n : ℕ). syncWord / 2 ^ (16 - (n + 1)) % 2) r ∙ sym (sync-at (m - y) (omega arith)) ∙ ap (λ (n : ℕ). getD d n 0) (sym w))))
           (λ z.
           let h : ℕ = (y - sectorStart x - 896) / 2 in
@@ -264,7 +269,9 @@ module _ (t s : ℕ) (ht : t < 128) (hs : s < 2) (dd : ℕ → List ℕ) (d : Li
     field-same k p q hk off on fd run fc =
         by-order k 544
         (λ l.
-        absurd (apart-none 64 896 (352 + k) (omega arith) (omega arith) (omega arith) (omega arith) (omega arith) (field-apart (352 + k) (omega arith) (omega arith))
+        absurd
+        (apart-none 64 896 (352 + k) (omega arith) (omega arith) (omega arith) (omega arith) (omega arith)
+        (field-apart (352 + k) (omega arith) (omega arith))
         (λ e rd.
         let u : sectorStart x + (896 + e) ≡ sectorStart x + 896 + e = omega arith in
         let w : sectorStart x + (352 + k + e) ≡ sectorStart x + 192 + headerCells + k + e = omega arith in
@@ -298,7 +305,7 @@ module _ (t s : ℕ) (ht : t < 128) (hs : s < 2) (dd : ℕ → List ℕ) (d : Li
       (λ m. by-order (b .0) x (λ l. absurd (omega arith)) (λ l. by-order x (b .0) (λ n. absurd (omega arith)) (λ n. omega arith)))
       (b .2)
 
-  -- what is delivered of a sector is what was written
+  -- what is delivered of a sector of a side with one burst is what was written
   pub burst-same : (x : ℕ) → x < 9 → (j q : ℕ) → sectorOf (writtenSide t s dd) t s (x + 1) ≡ Delivered (j + 64) → sectorOf d t s (x + 1) ≡ Delivered q
       → (q ≡ j + 64) × SameField (writtenSide t s dd) d j
   burst-same x hx j q ec ed =

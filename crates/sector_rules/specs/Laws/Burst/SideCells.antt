@@ -1,5 +1,5 @@
 -- The cells of a written side: those that are known, and what clock cells say of the cells beside them.
--- Assumes nothing.
+-- Rests on the known cells of a sector (Known), on the written side (Trip.SideTrip) and on the cell layer's laws of clock cells.
 use mathlib.Core.List.{List}
 use mathlib.Core.Path.{_≡_, sym, ap, _∙_}
 use Prim.Native.Nat.{ℕ, _+_, _-_, _*_, _/_, _%_, _≤_, _<_}
@@ -20,6 +20,7 @@ bit-one : (b : ℕ) → (b ≡ 0 → ⊥) → b < 2 → b ≡ 1
 bit-one b n h = omega arith
 
 module _ (t s : ℕ) (dd : ℕ → List ℕ) where
+  -- every cell of a written side is 0 or 1
   pub side-cells : Binary (writtenSide t s dd)
   unfolding writtenSide
   side-cells = written-bit (sideItem t s dd) sideItems
@@ -34,6 +35,7 @@ module _ (t s : ℕ) (dd : ℕ → List ℕ) where
   cell-is k h = tab-in (writtenCell (sideItem t s dd)) 100000 k h
 
   module _ (x : ℕ) (hx : x < 9) where
+    -- a known cell of a sector is as written on the side
     pub known : t < 128 → s < 2 → (k : ℕ) → 2 ≤ k → k < 960 → (v : ℕ) → knownCell k ≡ v → v < 2 → getD (writtenSide t s dd) (sectorStart x + k) 0 ≡ v
     known ht hs k lo hi v e hv = cell-is (sectorStart x + k) (omega arith) ∙ known-cell t s ht hs dd x hx k lo hi v e hv
 
@@ -50,14 +52,15 @@ module _ (t s : ℕ) (dd : ℕ → List ℕ) where
         let z : k % 16 ≡ 16 = a ∙ ap leftOut (sector-field t s (x + 1) (dd (x + 1)) ((k - sectorStart x) / 16) (omega arith) (omega arith)) in
         omega arith)
 
-    -- three cells in a row that are 0 and not changed, with a clock in the middle
+    -- after the last clock that a field's sync bytes leave out, no three cells in a row are 0 with a clock in the middle
     pub zeros-none : (l : ℕ) → l % 2 ≡ 1 → sectorStart x + 939 ≤ l → l < sectorStart x + 1099
         → getD (writtenSide t s dd) l 0 ≡ 0 → getD (writtenSide t s dd) (l + 1) 0 ≡ 0 → getD (writtenSide t s dd) (l + 2) 0 ≡ 0 → ⊥
     zeros-none l odd lo hi a b c =
         left-none (l + 1) (omega arith) (omega arith)
-        (left-out (sideItem t s dd) l odd (sym (cell-is l (omega arith)) ∙ a) (sym (cell-is (l + 1) (omega arith)) ∙ b) (sym (cell-is (l + 2) (omega arith)) ∙ c))
+        (left-out (sideItem t s dd) l odd (sym (cell-is l (omega arith)) ∙ a) (sym (cell-is (l + 1) (omega arith)) ∙ b)
+        (sym (cell-is (l + 2) (omega arith)) ∙ c))
 
-    -- a clock cell that is 1 has data cells that are 0 beside it
+    -- the data cell before a clock cell 1 is 0
     pub zero-before : (l : ℕ) → l % 2 ≡ 1 → l < 90000 → getD (writtenSide t s dd) (l + 1) 0 ≡ 1 → getD (writtenSide t s dd) l 0 ≡ 0
     zero-before l odd h e =
         by-equal (getD (writtenSide t s dd) l 0) 0 (λ z. z)
@@ -66,10 +69,12 @@ module _ (t s : ℕ) (dd : ℕ → List ℕ) where
         let z : getD (writtenSide t s dd) (l + 1) 0 ≡ 0 = cell-is (l + 1) (omega arith) ∙ clock-after (sideItem t s dd) l odd one in
         absurd (omega arith))
 
+    -- the data cell after a clock cell 1 is 0
     pub zero-after : (l : ℕ) → l % 2 ≡ 1 → l < 90000 → getD (writtenSide t s dd) (l + 1) 0 ≡ 1 → getD (writtenSide t s dd) (l + 2) 0 ≡ 0
     zero-after l odd h e =
         by-equal (getD (writtenSide t s dd) (l + 2) 0) 0 (λ z. z)
         (λ n.
-        let one : writtenCell (sideItem t s dd) (l + 2) ≡ 1 = sym (cell-is (l + 2) (omega arith)) ∙ bit-one (getD (writtenSide t s dd) (l + 2) 0) n (side-cells (l + 2)) in
+        let one : writtenCell (sideItem t s dd) (l + 2) ≡ 1 =
+        sym (cell-is (l + 2) (omega arith)) ∙ bit-one (getD (writtenSide t s dd) (l + 2) 0) n (side-cells (l + 2)) in
         let z : getD (writtenSide t s dd) (l + 1) 0 ≡ 0 = cell-is (l + 1) (omega arith) ∙ clock-before (sideItem t s dd) l odd one in
         absurd (omega arith))

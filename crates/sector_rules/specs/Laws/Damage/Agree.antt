@@ -1,5 +1,5 @@
 -- Two sides whose cells agree from place a on and below b: bytes, sync bytes and headers that lie there are the same.
--- Assumes nothing.
+-- Rests on the cell layer's laws of numbers and of the sync test.
 use mathlib.Core.Bool.{Bool, cond, _&&_}
 use mathlib.Core.List.{List}
 use mathlib.Core.Path.{_≡_, sym, ap, ap₂, _∙_}
@@ -22,7 +22,7 @@ module _ (c d : List ℕ) (long : length c ≡ length d) (a b : ℕ) (e : (k : �
   unfolding dataByte
   byte-agree k l h = number-same c d 2 (k + 1) (k + 1) 8 (λ j m. e (k + 1 + 2 * j) (omega arith) (omega arith))
 
-  -- a byte
+  -- a byte whose cells lie there is the same on both sides
   pub byte-agrees : (i k : ℕ) → a ≤ i + k → i + k + 16 ≤ b → dataByte (from c i) k ≡ dataByte (from d i) k
   byte-agrees i k l h = byte-from c i k ∙ byte-agree (i + k) l h ∙ sym (byte-from d i k)
 
@@ -34,7 +34,7 @@ module _ (c d : List ℕ) (long : length c ≡ length d) (a b : ℕ) (e : (k : �
   sync-agrees : (i k : ℕ) → a ≤ i + k → i + k + 16 ≤ b → syncAt (from c i) k ≡ syncAt (from d i) k
   sync-agrees i k l h = sync-from c i k ∙ sync-agree (i + k) l h ∙ sym (sync-from d i k)
 
-  -- three sync bytes
+  -- three sync bytes whose cells lie there stand on both sides or on none
   pub three-agree : (i : ℕ) → a ≤ i → i + 48 ≤ b → threeSync (from c i) ≡ threeSync (from d i)
   unfolding threeSync
   three-agree i l h =
@@ -68,7 +68,7 @@ module _ (c d : List ℕ) (long : length c ≡ length d) (a b : ℕ) (e : (k : �
         n = byte-agrees i 112 (omega arith) (omega arith) k;
       }
 
-  -- a header of the sector
+  -- a header of the sector whose cells lie there stands on both sides or on none
   pub header-agree : (t s r i : ℕ) → a ≤ i → i + 160 ≤ b → headerAt c t s r i ≡ headerAt d t s r i
   unfolding headerAt headerOf
   header-agree t s r i l h = ap₂ (λ (x : Bool) (y : Id). belongs t s r (cond x (Is y) Absent)) (is-agree i l h) (id-agree i l h)

@@ -1,5 +1,5 @@
 -- Damage of data fields: what is delivered of them is what was delivered before.
--- Assumes nothing.
+-- Rests on the cell layer's laws of detectable damage, on cells that agree (Agree) and on what an answer says (Base.Told).
 use mathlib.Core.Bool.{true, false, cond}
 use mathlib.Core.List.{List}
 use mathlib.Core.Path.{_≡_, sym, ap, _∙_}
@@ -23,7 +23,8 @@ use Rattle.cells.specs.Laws.Stream.{from-length, from-bit, stream-bit}
 use Rattle.sector_rules.specs.declared.Found.the-variants.{One}
 use Rattle.sector_rules.specs.declared.Sector.the-variants.{Delivered, Fieldless, Damaged}
 use Rattle.sector_rules.specs.Geometry.{allSectors, imageBytes}
-use Rattle.sector_rules.specs.Search.{crcHolds, dataMark, headerCells, fieldCells, gapCells, isHeader, idOf, headerAt, findSector, fieldAt, fieldOf, sectorOf, sectorByte, bytesOf}
+use Rattle.sector_rules.specs.Search.{crcHolds, dataMark, headerCells, fieldCells, gapCells, isHeader, idOf, headerAt}
+use Rattle.sector_rules.specs.Search.{findSector, fieldAt, fieldOf, sectorOf, sectorByte, bytesOf}
 use Rattle.sector_rules.specs.Hfe.{trackPart, trackLength, sideStream}
 use Rattle.sector_rules.specs.Unpacked.{trackOf, sideOf, rOf, sectorAt, sectorBytesAt, unpackReply, unpackedByte, unpackImage}
 use Rattle.sector_rules.specs.Damage.{Binary, headerBits, fieldBits, FieldDamage, SameField, sideWith, ImageFieldDamage}
@@ -36,7 +37,7 @@ holds-follows : (f : List ℕ) (n : ℕ) → crcHolds f n ≡ true → crcFollow
 unfolding crcHolds
 holds-follows f n e = e
 
--- and as it has it for the bits of a row
+-- the CRC of a field holds if the bytes that its data bits spell are followed by their CRC
 pub holds-bits : (f : List ℕ) (n : ℕ) → crcHolds f n ≡ crcFollows (bitsByte (dataBit f)) n
 unfolding crcHolds
 holds-bits f n = follows-cong (λ (q : ℕ). dataByte f (16 * q)) (bitsByte (dataBit f)) n (λ q h. cells-spelled f q)
@@ -67,11 +68,11 @@ module _ (c d : List ℕ) (bc : Binary c) (bd : Binary d) (j : ℕ) (differ : De
             ∙ sym (sector-byte d j k));
       }
 
-  -- what is delivered of both is the same
+  -- a field that is delivered before and after detectable damage has the same bits and bytes
   pub fields-same : (p q : ℕ) → fieldAt c j ≡ Delivered p → fieldAt d j ≡ Delivered q → (q ≡ j + 64) × SameField c d j
   fields-same p q ec ed = (sym (field-place d j q ed), field-same (field-holds c j p ec) (field-holds d j q ed))
 
-  -- a field of which a data bit is wrong is refused
+  -- a field of which a data bit is wrong is refused: as damaged where the mark is still there, else as absent
   pub field-refused : (p k : ℕ) → fieldAt c j ≡ Delivered p → length c ≡ length d → k < fieldBits → (dataBit (from c j) k ≡ dataBit (from d j) k → ⊥)
       → fieldAt d j ≡ cond (eqb (dataByte (from d j) 48) dataMark) Damaged Fieldless
   unfolding fieldAt
@@ -84,7 +85,7 @@ module _ (c d : List ℕ) (bc : Binary c) (bd : Binary d) (j : ℕ) (differ : De
 
 -- ---- one header, two sides
 
--- two headers whose CRC holds have the same data bits, and name the same sector
+-- two headers whose data bits differ detectably have the same data bits, and name the same sector
 pub header-same : (c d : List ℕ) → Binary c → Binary d → (i : ℕ) → Detectable (dataBit (from c i)) (dataBit (from d i)) headerBits
     → isHeader (from c i) ≡ true → isHeader (from d i) ≡ true
     → ((k : ℕ) → k < headerBits → dataBit (from c i) k ≡ dataBit (from d i) k) × (idOf (from c i) ≡ idOf (from d i))
@@ -124,7 +125,7 @@ module _ (c d : List ℕ) (long : length c ≡ length d) (i k : ℕ)
 one-same : (i k : ℕ) → One i ≡ One k → i ≡ k
 one-same i k e = cc
 
--- what is delivered of the sector is the same
+-- a sector whose field is damaged is delivered with the same bytes, or not at all
 pub sector-same : (c d : List ℕ) → Binary c → Binary d → (t s r i j q : ℕ) → findSector c t s r ≡ One i → sectorOf c t s r ≡ Delivered (j + 64)
     → FieldDamage c d i j → sectorOf d t s r ≡ Delivered q → (q ≡ j + 64) × SameField c d j
 sector-same c d bc bd t s r i j q ei ec g ed =
@@ -154,7 +155,7 @@ unfolding sectorBytesAt
 bytes-by h g m j q eh eg same =
     ap (bytesOf (sideWith h m)) eh ∙ same .1 .bytes ∙ ap (bytesOf (sideWith g m)) (sym (eg ∙ ap Delivered (same .0)))
 
--- and so in two images whose sides give the same at each sector
+-- images whose sides give the same at each sector have the same bytes at each image sector
 pub bytes-each : (h g : List ℕ)
     → ((t s x j q : ℕ) → t < 80 → s < 2 → x < 9 → sectorOf (sideStream h t s) t s (x + 1) ≡ Delivered (j + 64)
     → sectorOf (sideStream g t s) t s (x + 1) ≡ Delivered q → (q ≡ j + 64) × SameField (sideStream h t s) (sideStream g t s) j)
@@ -162,7 +163,7 @@ pub bytes-each : (h g : List ℕ)
 unfolding sectorAt
 bytes-each h g same m j q l eh eg = bytes-by h g m j q eh eg (same (trackOf m) (sideOf m) (m % 9) j q (omega arith) (omega arith) (omega arith) eh eg)
 
--- a sector whose field is damaged
+-- an image sector whose field is damaged is delivered with the same bytes, or not at all
 pub sector-told-same : (h g : List ℕ) (m i j q : ℕ) → findSector (sideWith h m) (trackOf m) (sideOf m) (rOf m) ≡ One i → sectorAt h m ≡ Delivered (j + 64)
     → FieldDamage (sideWith h m) (sideWith g m) i j → sectorAt g m ≡ Delivered q → (q ≡ j + 64) × SameField (sideWith h m) (sideWith g m) j
 unfolding sectorAt
@@ -178,7 +179,7 @@ fields-bytes h g d m j q l eh eg =
     let x = sector-told (sideWith h m) (trackOf m) (sideOf m) (rOf m) (j + 64) eh in
     bytes-by h g m j q eh eg (sector-told-same h g m (x .0) j q (x .1) eh (d .each m (x .0) j l (x .1) eh) eg)
 
--- two images that are both accepted, and whose sectors have the same bytes
+-- two images that are both accepted, and whose sectors have the same bytes, unpack to the same block image
 pub same-images : (h g image : List ℕ)
     → ((m j q : ℕ) → m < allSectors → sectorAt h m ≡ Delivered (j + 64) → sectorAt g m ≡ Delivered q → sectorBytesAt h m ≡ sectorBytesAt g m)
     → unpackReply h (length image) .number ≡ 0 → unpackReply g (length image) .number ≡ 0 → unpackImage h image ≡ unpackImage g image

@@ -1,5 +1,5 @@
 -- Damage anywhere on a side: what is delivered is what was delivered before; and a written side is one of which this can be said.
--- Assumes nothing.
+-- Rests on damage of data fields (FieldDamage), on what an answer says (Base.Told) and on round-trip (Trip).
 use mathlib.Core.Bool.{true, false}
 use mathlib.Core.List.{List}
 use mathlib.Core.Logic.{⊎-elim}
@@ -23,7 +23,8 @@ use Rattle.sector_rules.specs.Damage.{Binary, SameField, SideDamage, Ima
 use Rattle.sector_rules.specs.Laws.Base.Packed.{pack-done, hfe-after}
 use Rattle.sector_rules.specs.Laws.Trip.SideTrip.{writtenSide, runs, place, there}
 use Rattle.sector_rules.specs.Laws.Trip.RoundTrip.{packedImage, stream-back}
-use Rattle.sector_rules.specs.Laws.Base.Told.{field-place, field-mark, header-split, header-join, header-syncs, header-mark, sector-told, header-told, gap-told}
+use Rattle.sector_rules.specs.Laws.Base.Told.{field-place, field-mark, header-split, header-join, header-syncs}
+use Rattle.sector_rules.specs.Laws.Base.Told.{header-mark, sector-told, header-told, gap-told}
 use Rattle.sector_rules.specs.Laws.Damage.FieldDamage.{fields-same, header-same, side-binary, bytes-each}
 
 -- a field that is delivered begins no header
@@ -56,7 +57,7 @@ module _ (c d : List ℕ) (bc : Binary c) (bd : Binary d) (g : SideDamage c d) (
       true≢false (threeSync (from c (i + headerCells + y .0))) on
       (away j (i + headerCells + y .0) run (field-no-header c j (j + 64) fc) (omega arith) (omega (arith, y .1)))))
 
-  -- what is delivered of a sector is what was recorded
+  -- what is delivered of a sector of a damaged side is what was recorded
   pub side-same : (t s r j q : ℕ) → sectorOf c t s r ≡ Delivered (j + 64) → sectorOf d t s r ≡ Delivered q → (q ≡ j + 64) × SameField c d j
   side-same t s r j q ec ed =
       let x = sector-told c t s r (j + 64) ec in
@@ -103,6 +104,7 @@ written-apart t s ht hs d k j on off l h =
 -- ---- a packed image
 
 module _ (image hfe : List ℕ) (li : length image ≡ imageBytes) (lh : length hfe ≡ hfeBytes) where
+  -- the side of a packed image is the written side
   pub packed-side : (t s : ℕ) → t < 80 → s < 2 → sideStream (packHfe image hfe) t s ≡ writtenSide t s (sectorData image t s)
   unfolding packedImage
   packed-side t s ht hs =

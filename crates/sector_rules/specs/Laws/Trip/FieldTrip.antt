@@ -1,5 +1,5 @@
 -- A written side is read back, second part: the search finds each sector, and its data field gives the bytes that were written.
--- Assumes nothing.
+-- Rests on the first part (SideTrip).
 use mathlib.Core.List.{List, [], _∷_}
 use mathlib.Core.Logic.{_⊎_, inl, inr, ⊎-elim}
 use mathlib.Core.Path.{_≡_, refl, sym, ap, _∙_}
@@ -21,7 +21,8 @@ use Rattle.cells.specs.Laws.Stream.{from-zero}
 use Rattle.cells.specs.Laws.Number.{bytes-list}
 use Rattle.sector_rules.specs.declared.Found.the-variants.{One}
 use Rattle.sector_rules.specs.declared.Sector.the-variants.{Delivered, Fieldless}
-use Rattle.sector_rules.specs.Search.{crcHolds, dataMark, headerCells, gapCells, headerAt, placesBelow, foundOf, findSector, fieldAt, fieldOf, sectorFound, sectorOf, sectorByte, bytesOf}
+use Rattle.sector_rules.specs.Search.{crcHolds, dataMark, headerCells, gapCells, headerAt, placesBelow, foundOf}
+use Rattle.sector_rules.specs.Search.{findSector, fieldAt, fieldOf, sectorFound, sectorOf, sectorByte, bytesOf}
 use Rattle.sector_rules.specs.Packed.{fieldCrc, withCrc, sectorItem, sideItem}
 use Rattle.sector_rules.specs.Laws.Base.Search.{crc-two, first-is}
 use Rattle.sector_rules.specs.Laws.Base.Packed.{sector-field, sector-mark, fieldCrc-lt, crc-before, crc-high, crc-low}
@@ -153,9 +154,11 @@ module _ (t s : ℕ) (d : ℕ → List ℕ) (k : ℕ) (hk : k < 9) (len : length
   field-back =
       let e : 16 * (146 + 658 * k + 12) + 160 + 544 ≡ 16 * (146 + 658 * k + 56) = omega arith in
       let l : 8288 ≤ length (from (writtenSide t s d) (16 * (146 + 658 * k + 56))) = rw (room t s d (16 * (146 + 658 * k + 56))) (omega arith) in
-      let m : dataByte (from (writtenSide t s d) (16 * (146 + 658 * k + 56))) 48 ≡ dataMark = row-byte 0 (lit< tt) (16 * (146 + 658 * k + 56)) 48 (omega arith) in
+      let m : dataByte (from (writtenSide t s d) (16 * (146 + 658 * k + 56))) 48 ≡ dataMark =
+      row-byte 0 (lit< tt) (16 * (146 + 658 * k + 56)) 48 (omega arith) in
       let r : 16 * (146 + 658 * k + 56) + 64 ≡ 16 * (146 + 658 * k + 60) = omega arith in
-      first-is (λ (j : ℕ). threeSync (from (writtenSide t s d) j)) (fieldAt (writtenSide t s d)) Fieldless (gapCells + 1) (16 * (146 + 658 * k + 12) + headerCells) 544 (lit< tt) gap
+      first-is (λ (j : ℕ). threeSync (from (writtenSide t s d) j)) (fieldAt (writtenSide t s d)) Fieldless (gapCells + 1)
+      (16 * (146 + 658 * k + 12) + headerCells) 544 (lit< tt) gap
       (rw e three-here)
       ∙ rw (e, le-leb _ _ l, eq-eqb _ _ m, field-holds, r)
 
@@ -167,11 +170,14 @@ module _ (t s : ℕ) (d : ℕ → List ℕ) (k : ℕ) (hk : k < 9) (len : length
       (λ j h. sym (row-byte (suc j) (omega arith) (16 * (146 + 658 * k + 60)) (16 * j) (omega arith))))
 
 -- what sector R = k + 1 of a written side gives, judged alone: its own bytes
-module _ (t s : ℕ) (ht : t < 256) (hs : s < 256) (d : ℕ → List ℕ) (k : ℕ) (hk : k < 9) (len : length (d (k + 1)) ≡ 512) (small : (j : ℕ) → getD (d (k + 1)) j 0 < 256) where
+module _ (t s : ℕ) (ht : t < 256) (hs : s < 256) (d : ℕ → List ℕ) (k : ℕ) (hk : k < 9)
+    (len : length (d (k + 1)) ≡ 512) (small : (j : ℕ) → getD (d (k + 1)) j 0 < 256) where
+  -- each sector of a written side is delivered, at its place
   pub sector-back : sectorOf (writtenSide t s d) t s (k + 1) ≡ Delivered (16 * (146 + 658 * k + 60))
   unfolding sectorOf sectorFound c
   sector-back = rw (found t s ht hs d k hk) (field-back t s d k hk len small)
 
+  -- the bytes of each sector of a written side are those that were written
   pub bytes-back : bytesOf (writtenSide t s d) (sectorOf (writtenSide t s d) t s (k + 1)) ≡ d (k + 1)
   unfolding bytesOf c
   bytes-back = rw sector-back (data-back t s d k hk len small)

@@ -1,5 +1,5 @@
 -- What packing gives is unpacked to the same image: header and table are sound, and each side's stream is the written side.
--- Assumes nothing.
+-- Rests on a written side that is read back (SideTrip, FieldTrip) and on the written image place by place (Base.Packed).
 use mathlib.Core.Bool.{true, false, not}
 use mathlib.Core.List.{List}
 use mathlib.Core.Path.{_≡_, refl, sym, ap, _∙_}
@@ -26,9 +26,11 @@ use Rattle.cells.specs.Laws.Written.{written-length, writtenCell-bit}
 use Rattle.sector_rules.specs.declared.Fault.the-variants.{Sound}
 use Rattle.sector_rules.specs.Replies.{done}
 use Rattle.sector_rules.specs.Geometry.{sectorBytes, allSectors, imageBytes}
-use Rattle.sector_rules.specs.Hfe.{signature, formatFault, flagFault, headerFault, entryPlace, trackStart, trackLength, trackBytes, trackGood, tableFault, trackPart, sideStream}
+use Rattle.sector_rules.specs.Hfe.{signature, formatFault, flagFault, headerFault, entryPlace, trackStart}
+use Rattle.sector_rules.specs.Hfe.{trackLength, trackBytes, trackGood, tableFault, trackPart, sideStream}
 use Rattle.sector_rules.specs.Unpacked.{leastHfe, trackOf, sideOf, rOf, isBad, sectorAt, sectorBytesAt, firstBad, sectorsReply, unpackReply, unpackedByte}
-use Rattle.sector_rules.specs.Packed.{hfeBytes, headerRest, headerByte, tableByte, trackByte, hfeByte, packHfe, imageSectorOf, sectorData, imageSide, sideItem}
+use Rattle.sector_rules.specs.Packed.{hfeBytes, headerRest, headerByte, tableByte, trackByte, hfeByte}
+use Rattle.sector_rules.specs.Packed.{packHfe, imageSectorOf, sectorData, imageSide, sideItem}
 use Rattle.sector_rules.specs.RoundTrip.{RoundTrip}
 use Rattle.sector_rules.specs.Laws.Base.Faults.{fault-none}
 use Rattle.sector_rules.specs.Laws.Base.Packed.{table-0, table-1, table-2, table-3, track-in, hfe-header, hfe-table, hfe-track, pack-done, hfe-after}
@@ -171,6 +173,7 @@ module _ (image : List ℕ) where
         ∙ packed-bit (writtenCell (sideItem t s (sectorData image t s))) (writtenCell-bit (sideItem t s (sectorData image t s))) i
         ∙ sym (tab-in (writtenCell (sideItem t s (sectorData image t s))) 100000 i h)
 
+    -- each side's stream of the written image is the written side
     pub stream-back : sideStream packedImage t s ≡ writtenSide t s (sectorData image t s)
     unfolding sideStream writtenSide
     stream-back =
@@ -205,14 +208,19 @@ module _ (image : List ℕ) where
       good-sector : isBad (sectorAt packedImage m) ≡ false
       unfolding sectorAt
       good-sector =
-          rw (at-side, sector-back (m / 18) (m % 18 / 9) (omega arith) (omega arith) (sectorData image (m / 18) (m % 18 / 9)) (m % 9) (omega arith) (data-long _ _ _) (data-small _ _ _))
+          rw (
+            at-side,
+            sector-back (m / 18) (m % 18 / 9) (omega arith) (omega arith) (sectorData image (m / 18) (m % 18 / 9)) (m % 9) (omega arith)
+                (data-long _ _ _) (data-small _ _ _),
+          )
 
       sector-bytes : sectorBytesAt packedImage m ≡ window image (512 * m) 512
       unfolding sectorBytesAt sectorAt sectorData
       sector-bytes =
           let e : imageSectorOf (trackOf m) (sideOf m) (rOf m) ≡ m = omega arith in
           rw at-side
-          (bytes-back (m / 18) (m % 18 / 9) (omega arith) (omega arith) (sectorData image (m / 18) (m % 18 / 9)) (m % 9) (omega arith) (data-long _ _ _) (data-small _ _ _) ∙ rw e)
+          (bytes-back (m / 18) (m % 18 / 9) (omega arith) (omega arith) (sectorData image (m / 18) (m % 18 / 9)) (m % 9) (omega arith)
+          (data-long _ _ _) (data-small _ _ _) ∙ rw e)
 
     sectors-done : sectorsReply packedImage ≡ done
     unfolding sectorsReply firstBad
@@ -224,7 +232,7 @@ module _ (image : List ℕ) where
         let e : 512 * (k / 512) + k % 512 ≡ k = omega arith in
         rw (sector-bytes (k / 512) (omega arith)) (window-in image (512 * (k / 512)) 512 (k % 512) (omega arith) ∙ rw e)
 
--- demand 2's round trip
+-- what packing gives is accepted by unpacking, and gives the image back
 pub round-trip : RoundTrip
 unfolding packedImage
 round-trip image hfe old li small lh lo =

@@ -1,5 +1,5 @@
--- A written side is read back: each sector is found at its place and nowhere else, and its bytes are those that were written.
--- Assumes nothing.
+-- A written side is read back, first part: a header of each sector stands at its place and nowhere else.
+-- Rests on the written side place by place (Base.Packed) and on the cell layer's laws of written rows.
 use mathlib.Core.List.{List, _∷_}
 use mathlib.Core.Logic.{_⊎_, inl, inr, ⊎-elim}
 use mathlib.Core.Path.{_≡_, refl, sym, ap, _∙_}
@@ -82,7 +82,7 @@ module _ (t s : ℕ) (d : ℕ → List ℕ) where
       (λ r. absurd (plain-not _ (r .1)))
       (span-sync 5922 _ _ _ (a₅ .1))
 
-  -- three sync items in a row: at a header, or at a data field
+  -- three sync marks in a row stand at a header or at a data field alone
   pub runs : (q : ℕ) → Triple (sideItem t s d) q
       → (k : ℕ) × (k < 9) × ((q ≡ 146 + 658 * k + 12) ⊎ (q ≡ 146 + 658 * k + 56))
   runs q tr =
@@ -96,13 +96,14 @@ module _ (t s : ℕ) (d : ℕ → List ℕ) where
             (a .2),
       )
 
+  -- item o of sector R = k + 1 stands at item 146 + 658 k + o of the side
   pub item-at : (k o : ℕ) → k < 9 → o < 658 → sideItem t s d (146 + 658 * k + o) ≡ sectorItem t s (k + 1) (d (k + 1)) o
   item-at k o hk ho =
       let a : (146 + 658 * k + o - 146) / 658 ≡ k = omega arith in
       let b : (146 + 658 * k + o - 146) % 658 ≡ o = omega arith in
       side-sector t s d (146 + 658 * k + o) (omega arith) (omega arith) ∙ rw (a, b)
 
-  -- byte o of sector k, counted from cell place p
+  -- the byte of item o of a sector is read at its cells
   pub byte-at-item : (k o : ℕ) → k < 9 → o < 658 → byteOf (sectorItem t s (k + 1) (d (k + 1)) o) < 256
       → (p j : ℕ) → p + j ≡ 16 * (146 + 658 * k + o) → dataByte (from (writtenSide t s d) p) j ≡ byteOf (sectorItem t s (k + 1) (d (k + 1)) o)
   unfolding writtenSide
@@ -111,6 +112,7 @@ module _ (t s : ℕ) (d : ℕ → List ℕ) where
       byte-from (written (sideItem t s d) 6250) p j ∙ ap (dataByte (written (sideItem t s d) 6250)) e
       ∙ byte-at (sideItem t s d) 6250 (146 + 658 * k + o) (omega arith) (rw x hb) ∙ ap byteOf x
 
+  -- a sync mark that is item o of a sector is found at its cells
   pub sync-at-item : (k o : ℕ) → k < 9 → o < 658 → sectorItem t s (k + 1) (d (k + 1)) o ≡ Sync
       → (p j : ℕ) → p + j ≡ 16 * (146 + 658 * k + o) → syncAt (from (writtenSide t s d) p) j ≡ true
   unfolding writtenSide
@@ -118,6 +120,7 @@ module _ (t s : ℕ) (d : ℕ → List ℕ) where
       sync-from (written (sideItem t s d) 6250) p j ∙ ap (syncAt (written (sideItem t s d) 6250)) e
       ∙ sync-here (sideItem t s d) 6250 (146 + 658 * k + o) (omega arith) (item-at k o hk ho ∙ x)
 
+  -- how many cells of a written side there are from place p on
   pub room : (p : ℕ) → length (from (writtenSide t s d) p) ≡ 100000 - p
   unfolding writtenSide
   room p = from-length (written (sideItem t s d) 6250) p ∙ rw (written-length (sideItem t s d) 6250)
@@ -135,6 +138,7 @@ header-true c t s r i e =
     )
 
 module _ (t s : ℕ) (d : ℕ → List ℕ) where
+  -- a header of a sector stands at no other place
   pub only : (r i : ℕ) → headerAt (writtenSide t s d) t s r i ≡ true → i ≡ 16 * (146 + 658 * (r - 1) + 12)
   unfolding writtenSide sectorItem span withCrc
   only r i e =
@@ -153,6 +157,7 @@ module _ (t s : ℕ) (d : ℕ → List ℕ) where
 -- ---- the header at its place
 
 module _ (t s : ℕ) (ht : t < 256) (hs : s < 256) (d : ℕ → List ℕ) (k : ℕ) (hk : k < 9) where
+  -- the cell place of the header of sector k + 1
   unfoldable pub place : ℕ
   place = 16 * (146 + 658 * k + 12)
 
@@ -201,6 +206,7 @@ module _ (t s : ℕ) (ht : t < 256) (hs : s < 256) (d : ℕ → List ℕ) (k : �
   unfolding threeSync
   header-three = rw (synced 0 (lit< tt), synced 1 (lit< tt), synced 2 (lit< tt))
 
+  -- the header of sector k + 1 stands at its place
   pub there : headerAt (writtenSide t s d) t s (k + 1) place ≡ true
   unfolding headerAt headerOf isHeader idOf item sectorItem span withCrc f place
   there =
