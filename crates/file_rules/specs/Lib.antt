@@ -13,4 +13,5 @@ pub mod Histories
 pub mod History
 pub mod Refusals
 pub mod Values
+pub mod HeaderValues
 pub mod Laws
