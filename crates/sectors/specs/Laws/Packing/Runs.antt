@@ -1,5 +1,5 @@
--- Laws of the writer: the two stored bytes of an item, the runs of a side's bytes in the units of a track, and the image as these parts in order.
--- Assumes nothing.
+-- The writer: the two stored bytes of an item, the runs of a side's bytes in the units of a track, and the image as these parts in order.
+-- Rests on the laws of what is written into a list, and on the written image place by place (Items, and Base.Packed of sector_rules).
 use mathlib.Core.Bool.{cond}
 use mathlib.Core.List.{List}
 use mathlib.Core.Path.{_≡_, refl, sym, ap, _∙_}
@@ -21,14 +21,16 @@ use Rattle.cells.specs.Laws.Written.{packed-item, before-later}
 use Rattle.cells.specs.declared.Item.{Item}
 use Rattle.sector_rules.specs.Geometry.{tracks, sides}
 use Rattle.sector_rules.specs.Hfe.{signature, unitBytes}
-use Rattle.sector_rules.specs.Packed.{imageSide, sideItems, sideBytes, trackUnits, firstUnit, hfeBytes, fillByte, headerRest, headerByte, tableByte, trackByte, hfeByte}
+use Rattle.sector_rules.specs.Packed.{imageSide, sideItems, sideBytes, trackUnits, firstUnit, hfeBytes}
+use Rattle.sector_rules.specs.Packed.{fillByte, headerRest, headerByte, tableByte, trackByte, hfeByte}
 use Rattle.sector_rules.specs.Laws.Base.Packed.{hfe-header, hfe-table, hfe-track}
 use Rattle.sectors.specs.Laws.Packing.Items.{header-out}
 
--- the bytes of a unit that belong to one side, and the items that they spell
+-- the bytes of a unit that belong to one side
 abbrev pub runBytes : ℕ
 runBytes = unitBytes / sides
 
+-- the items that these bytes spell
 abbrev pub runItems : ℕ
 runItems = runBytes / 2
 
@@ -54,13 +56,13 @@ module _ (items : ℕ → Item) (q p : ℕ) (item : Item) (is-bit : p ≡ bitBef
       let r : b % 2 ≡ o = omega arith in
       sym (packed-item items b ∙ rw (d, r, is-bit, is-item))
 
-  -- the bit that the next item follows
+  -- the last bit of an item is the bit before the next one
   pub bit-next : (n : ℕ) → n ≡ q + 1 → bitOf (byteOf item) 7 ≡ bitBefore items n
   bit-next n e =
       let z : n - 1 ≡ q = omega arith in
       sym (before-later items n (omega arith) ∙ rw (z, is-item))
 
-  -- one more item
+  -- the two bytes of one more item, written after those of the items before it
   pub items-more : (d out : List ℕ) (at first i x y : ℕ) → q ≡ first + i → at + (2 * i + 1) < length d → out ≡ overlay d at (2 * i) (itemsByte items first)
       → x ≡ packed (itemCell p item) 0 → y ≡ packed (itemCell p item) 1
       → set (set out (at + 2 * i) x) (at + 2 * i + 1) y ≡ overlay d at (2 * (i + 1)) (itemsByte items first)
@@ -87,7 +89,7 @@ module _ (image : List ℕ) (t s u : ℕ) where
   unfolding runByte
   run-out k l = rw (le-ltb (runBytes * u + k) sideBytes l)
 
-  -- items, and FF after the side's last one
+  -- the items of a run, and FF after the side's last one, are the run
   pub run-written : (d out : List ℕ) (at n : ℕ) → u < trackUnits → n ≡ min runItems (sideItems - runItems * u)
       → out ≡ overlay d at (2 * n) (itemsByte (imageSide image t s) (runItems * u))
       → overlay out (at + 2 * n) (runBytes - 2 * n) (λ (k : ℕ). fillByte) ≡ overlay d at runBytes (runByte image t s u)
@@ -113,13 +115,14 @@ module _ (image : List ℕ) (w : ℕ) where
       let r : (unitBytes * (w / sides % trackUnits) + runBytes * (w % sides) + k) % runBytes ≡ k = omega arith in
       sym (hfe-track image (firstUnit * unitBytes + (runBytes * w + k)) (omega arith) (omega arith) ∙ rw (y, t, o, u, s, r))
 
-  -- one more run
+  -- one more run, written after those before it
   pub tracks-more : (d out : List ℕ) → out ≡ overlay d (firstUnit * unitBytes) (runBytes * w) (tracksByte image)
       → overlay out (firstUnit * unitBytes + runBytes * w) runBytes (runByte image (w / sides / trackUnits) (w % sides) (w / sides % trackUnits))
       ≡ overlay d (firstUnit * unitBytes) (runBytes * (w + 1)) (tracksByte image)
   tracks-more d out e =
       let z : runBytes * w + runBytes ≡ runBytes * (w + 1) = omega arith in
-      overlay-on d (firstUnit * unitBytes) (runBytes * w) runBytes (runByte image (w / sides / trackUnits) (w % sides) (w / sides % trackUnits)) (tracksByte image) out e run-is
+      overlay-on d (firstUnit * unitBytes) (runBytes * w) runBytes (runByte image (w / sides / trackUnits) (w % sides) (w / sides % trackUnits))
+      (tracksByte image) out e run-is
       ∙ ap (λ (j : ℕ). overlay d (firstUnit * unitBytes) j (tracksByte image)) z
 
 -- ---- the header's unit
@@ -140,7 +143,7 @@ put-rest : (d : List ℕ) → put d 8 headerRest ≡ overlay d 8 12 (elementAt h
 unfolding put headerRest
 put-rest d = refl
 
--- signature, the rest of the header as it is named, and FF
+-- signature, the rest of the header as it is named, and FF are the header
 pub header-written : (d out next : List ℕ) → out ≡ put d 0 signature → next ≡ put out 8 headerRest
     → overlay next 20 (unitBytes - 20) (λ (k : ℕ). fillByte) ≡ overlay d 0 unitBytes headerByte
 header-written d out next e f =
@@ -151,7 +154,7 @@ header-written d out next e f =
 
 -- ---- the image: header, table and tracks
 
--- the three parts in order are the image
+-- header, table and tracks, written in order, are the image
 pub image-written : (image d h1 h2 h3 : List ℕ) → length d ≡ hfeBytes → h1 ≡ overlay d 0 unitBytes headerByte → h2 ≡ overlay h1 unitBytes unitBytes tableByte
     → h3 ≡ overlay h2 (firstUnit * unitBytes) (trackUnits * tracks * unitBytes) (tracksByte image) → h3 ≡ tab (hfeByte image) hfeBytes
 unfolding tracksByte

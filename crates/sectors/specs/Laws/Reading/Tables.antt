@@ -1,5 +1,5 @@
--- Laws of the tables of the placement, and of a track table without fault.
--- Assumes nothing.
+-- The tables of the placement, faults at the lowest place, and a track table without fault.
+-- Rests on the laws of the lowest number that passes a test, and on a computed test of each table.
 use mathlib.Core.Path.{_≡_, refl}
 use mathlib.Core.Bool.{Bool, true, false, _&&_, not}
 use mathlib.Core.List.{List}
@@ -18,11 +18,12 @@ use Rattle.sector_rules.specs.Geometry.{tracks, trackSectors, sidePlace, backwa
 use Rattle.sector_rules.specs.Faults.{faultBelow, lowestFault}
 use Rattle.sector_rules.specs.Hfe.{entryPlace, trackLength, trackStart, trackBytes, trackGood, tableFault}
 
--- the entries of the placement's two tables are small
+-- the entries of the table of sides and places are below 137
 pub mark-bound : (k : ℕ) → k < trackSectors → getD sidePlace k 0 < 137
 unfolding sidePlace all
 mark-bound = all-lt (λ (k : ℕ). getD sidePlace k 0) (λ (k : ℕ). 137) trackSectors refl
 
+-- the entries of the backward table are sectors of a track
 pub backward-bound : (k : ℕ) → k < trackSectors → getD backward k 0 < trackSectors
 unfolding backward all
 backward-bound = all-lt (λ (k : ℕ). getD backward k 0) (λ (k : ℕ). trackSectors) trackSectors refl
@@ -39,7 +40,7 @@ module _ (p : ℕ → Bool) (n : ℕ) where
   unfolding lowestFault faultBelow
   fault-some m l h t = rw (lowest-some p n m l h t, lt-ltb m n l)
 
-  -- where there is none, the test holds nowhere
+  -- where there is no fault, the test holds nowhere
   pub fault-all : lowestFault p n ≡ Sound → (k : ℕ) → k < n → p k ≡ false
   unfolding lowestFault faultBelow
   fault-all e =
@@ -49,12 +50,12 @@ module _ (p : ℕ → Bool) (n : ℕ) where
 
 -- ---- a table without fault
 
--- each track's entry is good
+-- where the table has no fault, each track's entry is good
 pub table-good : (h : List ℕ) → tableFault h ≡ Sound → (t : ℕ) → t < tracks → trackGood h t ≡ true
 unfolding tableFault
 table-good h e t l = not-false (trackGood h t) (fault-all (λ (k : ℕ). not (trackGood h k)) tracks e t l)
 
--- the track's units end within the image
+-- the units of a track whose entry is good end within the image
 pub track-within : (h : List ℕ) (t : ℕ) → trackGood h t ≡ true → trackStart h t + trackBytes h t ≤ length h
 unfolding trackGood
 track-within h t e =

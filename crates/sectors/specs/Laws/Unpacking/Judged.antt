@@ -1,5 +1,5 @@
 -- What judging hands on: the places of the bytes of all sectors that were judged good, or the reply for the first bad one.
--- Assumes nothing.
+-- Rests on the laws of unpacking (Base.Unpacked of sector_rules) and of the lowest number that passes a test.
 use mathlib.Core.Bool.{true, false, cond}
 use mathlib.Core.List.{List}
 use mathlib.Core.Path.{_≡_, sym, ap, _∙_}
@@ -42,12 +42,12 @@ pub record SectorsUnpacked (h p q : List ℕ) (r : Reply) : Type 0 where
 -- ---- sector by sector
 
 module _ (h places : List ℕ) where
-  -- before the first
+  -- before the first sector nothing is noted
   pub noted-none : Noted h places 0
   noted-none = record { each = λ m l. absurd (omega arith) }
 
   module _ (m : ℕ) (noted : Noted h places m) (x : Sector) (is : x ≡ sectorAt h m) where
-    -- a good one
+    -- one more sector that is good, with the place of its bytes noted
     pub noted-more : m < length places → isBad x ≡ false → (n : ℕ) → n ≡ m + 1 → Noted h (set places m (placeOf x)) n
     noted-more l e n q =
         record {
@@ -64,6 +64,7 @@ module _ (h places : List ℕ) where
     first-reply l e =
         rw (lowest-some (λ (k : ℕ). isBad (sectorAt h k)) allSectors m l (λ k b. ap isBad (noted .each k b)) (ap isBad (sym is) ∙ e), lt-ltb m allSectors l, is)
 
+    -- judging ends at a bad sector with that sector's reply
     pub judged-stop : m < allSectors → isBad x ≡ true → (n : ℕ) (r : Reply) → r ≡ sectorReply m x → Judged h places n r
     judged-stop l e n r q =
         record {
@@ -71,11 +72,11 @@ module _ (h places : List ℕ) where
           bad = λ z. q ∙ sym (first-reply l e);
         }
 
-  -- none of those below n was bad
+  -- where none of the sectors below n was bad, they are judged with the reply done
   pub judged-good : (n : ℕ) → Noted h places n → (r : Reply) → r ≡ done → Judged h places n r
   judged-good n noted r e = record { good = λ z. noted; bad = λ z. absurd (z (ap (λ (y : Reply). y .number) e)) }
 
-  -- none was
+  -- where no sector was bad, all are judged with the reply done
   pub all-good : Noted h places allSectors → (r : Reply) → r ≡ done → AllJudged h places r
   unfolding sectorsReply firstBad
   all-good noted r e =
@@ -87,8 +88,10 @@ module _ (h places : List ℕ) where
 -- ---- the image afterwards
 
 module _ (h p q : List ℕ) (r : Reply) (is : r ≡ sectorsReply h) where
+  -- where the reply is a refusal, the image is as it was
   pub refused-after : (r .number ≡ 0 → ⊥) → p ≡ q → SectorsUnpacked h p q r
   refused-after n e = record { answer = is; after = rw (← is, ne-eqb (r .number) 0 n) (sym e) }
 
+  -- where the reply is 0, the image is the one unpacked
   pub written-after : r .number ≡ 0 → q ≡ tab (unpackedByte h) imageBytes → SectorsUnpacked h p q r
   written-after z e = record { answer = is; after = rw (← is, eq-eqb (r .number) 0 z) e }

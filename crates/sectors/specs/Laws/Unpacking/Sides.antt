@@ -1,5 +1,5 @@
 -- One side: what its nine sectors give, and their bytes as they are written into the image.
--- Assumes nothing.
+-- Rests on the laws of the search (Reading.Search) and of what is written into a list.
 use mathlib.Core.List.{List}
 use mathlib.Core.Path.{_≡_, sym, _∙_}
 use Prim.Native.Nat.{ℕ, _+_, _*_, _/_, _%_, _<_}
@@ -36,7 +36,7 @@ placedByte c places at k = sectorByte c (getD places (at + k / sectorBytes) 0) (
 
 -- ---- what the sectors give
 
--- one more answer
+-- one more answer, after those of the sectors before it
 pub gives-more : (r : List Sector) (give : ℕ → Sector) (k : ℕ) (v : Sector) → k < length r
     → ((j : ℕ) → j < k → getD r j Missing ≡ give j) → v ≡ give k → (j : ℕ) → j < k + 1 → getD (set r k v) j Missing ≡ give j
 gives-more r give k v l old e j h =
@@ -52,7 +52,8 @@ found-gives found c t s k x h = rw (x .each k h)
 
 -- ---- the n-th side of an HFE image, by the part and the side that the code hands on
 
-module _ (h : List ℕ) (n : ℕ) (part : List ℕ) (side : Side) (is-part : part ≡ trackPart h (n / sides)) (is-side : side ≡ hfeSide (n % sides) (trackLength h (n / sides))) where
+module _ (h : List ℕ) (n : ℕ) (part : List ℕ) (side : Side)
+    (is-part : part ≡ trackPart h (n / sides)) (is-side : side ≡ hfeSide (n % sides) (trackLength h (n / sides))) where
   -- its cells are those of each of its nine sectors
   stream-is : (k : ℕ) → k < sectors → stream part side ≡ sideStream h (trackOf (sectors * n + k)) (sideOf (sectors * n + k))
   unfolding sideStream
@@ -69,11 +70,11 @@ module _ (h : List ℕ) (n : ℕ) (part : List ℕ) (side : Side) (is-part : par
       let r : (sectors * n + k) % sectors ≡ k = omega arith in
       rw (← stream-is k l, t, s, r)
 
-  -- and what the sectors of its cells give is what they give
+  -- what the sectors of a side's cells give is what the image sectors of that side give
   pub image-gives : (r : List Sector) → SideGives r (stream part side) (n / sides) (n % sides) → ImageSideGives r h n
   image-gives r x = record { long = x .long; each = λ k l. x .each k l ∙ sector-is k l }
 
-  -- byte k of the side in the image
+  -- byte k of the side's nine sectors is a byte of the block image
   pub side-byte : (places : List ℕ) → ((m : ℕ) → m < allSectors → sectorAt h m ≡ Delivered (getD places m 0)) → n < tracks * sides
       → (k : ℕ) → k < sectorBytes * sectors → placedByte (stream part side) places (sectors * n) k ≡ unpackedByte h (sectorBytes * (sectors * n) + k)
   unfolding unpackedByte sectorBytesAt bytesOf placedByte
@@ -81,11 +82,15 @@ module _ (h : List ℕ) (n : ℕ) (part : List ℕ) (side : Side) (is-part : par
       let m : (sectorBytes * (sectors * n) + k) / sectorBytes ≡ sectors * n + k / sectorBytes = omega arith in
       let o : (sectorBytes * (sectors * n) + k) % sectorBytes ≡ k % sectorBytes = omega arith in
       rw (m, o, noted (sectors * n + k / sectorBytes) (omega arith), stream-is (k / sectorBytes) (omega arith))
-      (sym (tab-in (sectorByte (sideStream h (trackOf (sectors * n + k / sectorBytes)) (sideOf (sectors * n + k / sectorBytes))) (getD places (sectors * n + k / sectorBytes) 0)) sectorBytes (k % sectorBytes) (omega arith)))
+      (sym
+      (tab-in
+      (sectorByte (sideStream h (trackOf (sectors * n + k / sectorBytes)) (sideOf (sectors * n + k / sectorBytes)))
+      (getD places (sectors * n + k / sectorBytes) 0))
+      sectorBytes (k % sectorBytes) (omega arith)))
 
 -- ---- one more sector of a side is written
 
--- the bytes of the next sector follow those of the last
+-- the bytes of the next sector, written after those of the sectors before it
 pub side-more : (c places d out : List ℕ) (at k : ℕ) → out ≡ overlay d (sectorBytes * at) (sectorBytes * k) (placedByte c places at)
     → overlay out (sectorBytes * (at + k)) sectorBytes (sectorByte c (getD places (at + k) 0))
     ≡ overlay d (sectorBytes * at) (sectorBytes * (k + 1)) (placedByte c places at)
