@@ -2,7 +2,7 @@
 // function's. A slice is a pointer and a length.
 ghost use mathlib.Core.Path.{_≡_};
 ghost use lib.ListN.{length};
-ghost use Rattle.sector_rules.specs.Geometry.{placed};
+ghost use Rattle.sector_rules.specs.Geometry.{placeReply};
 ghost use Rattle.sector_rules.specs.Packed.{packReply, packHfe};
 ghost use Rattle.sector_rules.specs.Unpacked.{unpackReply, unpackImage};
 ghost use Rattle.file_rules.specs.Arguments.{argumentsOf};
@@ -27,7 +27,7 @@ pub extern "C" fn dheg_pack(image: &[u8], hfe: &mut [u8]) -> Reply
 
 #[no_mangle]
 pub extern "C" fn dheg_place(block: usize, sector: usize) -> Reply
-    ensures { λ r. ⌜ r ≡ placed block sector ⌝ }
+    ensures { λ r. ⌜ r ≡ placeReply block sector ⌝ }
 {
     sectors::place(block, sector)
 }

@@ -10,7 +10,7 @@ use Rattle.cells.specs.Stream.{bytePlace, cellAt, stream, hfeSide, from,
 use Rattle.cells.specs.Mfm.{bitOf, clock, before, mfmCell}
 use Rattle.cells.specs.Sync.{syncWord, syncAt, threeSync}
 use Rattle.cells.specs.Crc.{crcBit, crcBits, crcFrom, crc}
-use Rattle.cells.specs.Written.{byteOf, itemCell, itemWord, written, Triple}
+use Rattle.cells.specs.Written.{itemByte, itemCell, itemWord, written, Triple}
 use Rattle.cells.specs.declared.Item.{Item}
 use Rattle.cells.specs.declared.Item.the-variants.{Plain, Sync, Index}
 use Rattle.cells.specs.Laws.Number.{byte-from}
@@ -21,7 +21,7 @@ use Rattle.cells.specs.Laws.Triple.{triple-at}
 -- any row of n items
 module _ (items : ℕ → Item) (n : ℕ) where
   -- byte-back: the byte that was written at item q is read there
-  pub byte-back : (q : ℕ) → q < n → byteOf (items q) < 256 → dataByte (from (written items n) (16 * q)) 0 ≡ byteOf (items q)
+  pub byte-back : (q : ℕ) → q < n → itemByte (items q) < 256 → dataByte (from (written items n) (16 * q)) 0 ≡ itemByte (items q)
   byte-back q h hx = byte-from (written items n) (16 * q) 0 ∙ ap (dataByte (written items n)) (add-zero (16 * q)) ∙ byte-at items n q h hx
 
   -- sync-back: a sync mark that was written is found there

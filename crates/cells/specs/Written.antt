@@ -12,10 +12,10 @@ use Rattle.cells.specs.declared.Item.{Item}
 use Rattle.cells.specs.declared.Item.the-variants.{Plain, Sync, Index}
 
 -- the byte that an item spells: the marks are A1 and C2
-abbrev pub byteOf : Item → ℕ
-byteOf (Plain x) = x
-byteOf Sync = 0xA1
-byteOf Index = 0xC2
+abbrev pub itemByte : Item → ℕ
+itemByte (Plain x) = x
+itemByte Sync = 0xA1
+itemByte Index = 0xC2
 
 -- which of an item's 16 cells is a clock that is left out, so that the marks have the cells 4489 and 5224 (sync-cells, index-cells in Theorems);
 -- 16, so none, for a plain byte
@@ -26,7 +26,7 @@ leftOut Index = 8
 
 -- cell j of an item that follows the bit p
 unfoldable pub itemCell : ℕ → Item → ℕ → ℕ
-itemCell p a j = cond (eqb j (leftOut a)) 0 (mfmCell p (byteOf a) j)
+itemCell p a j = cond (eqb j (leftOut a)) 0 (mfmCell p (itemByte a) j)
 
 -- an item's 16 cells as a number, first cell highest
 unfoldable pub itemWord : ℕ → Item → ℕ
@@ -35,7 +35,7 @@ itemWord p a = word (tab (itemCell p a) 16) 0
 -- the bit before item q of a row; before the first it counts as 0
 unfoldable pub bitBefore : (ℕ → Item) → ℕ → ℕ
 bitBefore items zero = 0
-bitBefore items (suc q) = bitOf (byteOf (items q)) 7
+bitBefore items (suc q) = bitOf (itemByte (items q)) 7
 
 -- cell m of a row of items
 unfoldable pub writtenCell : (ℕ → Item) → ℕ → ℕ

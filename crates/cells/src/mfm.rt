@@ -5,7 +5,7 @@ ghost use mathlib.Core.Bool.{cond};
 ghost use Rattle.cells.specs.Stream.{packed, packedBits};
 ghost use Rattle.cells.specs.Mfm.{bitOf, before, mfmCell};
 ghost use Rattle.cells.specs.Mfm as Mfm;
-ghost use Rattle.cells.specs.Written.{byteOf, leftOut, itemCell, itemWord};
+ghost use Rattle.cells.specs.Written.{itemByte, leftOut, itemCell, itemWord};
 use crate::Item;
 
 // Bit k of a byte, highest first.
@@ -47,7 +47,7 @@ fn mfm_cell(p: u8, x: u8, j: usize) -> u8
 
 // The byte that an item spells.
 fn byte_of(item: Item) -> u8
-    ensures { λ r. ⌜ r ≡ byteOf item ⌝ }
+    ensures { λ r. ⌜ r ≡ itemByte item ⌝ }
 {
     match item {
         Item::Plain(x) => x,
@@ -92,7 +92,7 @@ pub fn encode_item(p: u8, item: Item) -> u16
 
 // The last bit of an item.
 pub fn last_bit(item: Item) -> u8
-    ensures { λ r. ⌜ r ≡ bitOf (byteOf item) 7 ⌝ }
+    ensures { λ r. ⌜ r ≡ bitOf (itemByte item) 7 ⌝ }
 {
     bit_of(byte_of(item), 7)
 }

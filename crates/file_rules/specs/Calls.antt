@@ -22,8 +22,8 @@ use Rattle.file_rules.specs.Sizes.{slotBytes, blockSlots, titleMost, fre
 use Rattle.file_rules.specs.Disk.{Disk, diskOf, imageOf}
 use Rattle.file_rules.specs.Map.{freeAt, freeCount, fileByte}
 use Rattle.file_rules.specs.Directory.{nameRight, entryByte, entryFor, slotByte, slotEntry, held, dirEnd, findName, vacantSlot}
-use Rattle.file_rules.specs.Check.{judged}
-use Rattle.file_rules.specs.Written.{headerByte, diskWith, storedByte, blocksFor, zeros, setSlot, setFree, setEnd, stepUpdate, giveBlocks, freeBlocks}
+use Rattle.file_rules.specs.Check.{diskRefusal}
+use Rattle.file_rules.specs.Written.{diskHeaderByte, diskWith, storedByte, blocksFor, zeros, setSlot, setFree, setEnd, stepUpdate, giveBlocks, freeBlocks}
 
 -- what a call that reads leaves: its reply and the result buffer
 pub record Outcome : Type 0 where
@@ -31,23 +31,23 @@ pub record Outcome : Type 0 where
   pub buffer : List ℕ
 
 -- what a call that writes leaves on a disk, and in an image
-pub record Changed : Type 0 where
+pub record DiskChanged : Type 0 where
   pub answer : Reply
-  pub disk : Disk
+  pub diskAfter : Disk
 
-pub record Written : Type 0 where
+pub record ImageChanged : Type 0 where
   pub answer : Reply
   pub image : List ℕ
 
 -- a refusal leaves the buffer, the disk or the image as it was
-unfoldable pub kept : List ℕ → Reply → Outcome
-kept buf r = record { answer = r; buffer = buf }
+unfoldable pub bufferKept : List ℕ → Reply → Outcome
+bufferKept buf r = record { answer = r; buffer = buf }
 
-unfoldable pub refused : Disk → Reply → Changed
-refused d r = record { answer = r; disk = d }
+unfoldable pub diskKept : Disk → Reply → DiskChanged
+diskKept d r = record { answer = r; diskAfter = d }
 
-unfoldable pub unwritten : List ℕ → Reply → Written
-unwritten image r = record { answer = r; image = image }
+unfoldable pub imageKept : List ℕ → Reply → ImageChanged
+imageKept image r = record { answer = r; image = image }
 
 -- ---- 1: the block image has another length
 
@@ -59,7 +59,7 @@ imageRight image = eqb (length image) imageBytes
 
 -- 1, then 8 to 11, refused in the call's own way; what the call does on a sound disk comes after
 unfoldable pub onSound : {A : Type 0} → List ℕ → (Reply → A) → (Disk → A) → A
-onSound image refuse act = cond (imageRight image) (unless (judged (diskOf image)) refuse (act (diskOf image))) (refuse wrongLength)
+onSound image refuse act = cond (imageRight image) (unless (diskRefusal (diskOf image)) refuse (act (diskOf image))) (refuse wrongLength)
 
 -- ---- format
 
@@ -71,18 +71,18 @@ freshOwner (suc (suc b)) = Free
 
 -- its header: update count 0, free word 3 x (480 - 2), one slot of directory
 abbrev pub freshHeader : FormatArguments → ℕ → ℕ
-freshHeader args = headerByte args 0 (freeSectors (blocks - 2)) 1
+freshHeader args = diskHeaderByte args 0 (freeSectors (blocks - 2)) 1
 
 -- all else is zero
 unfoldable pub formatDisk : FormatArguments → Disk
 formatDisk args = diskWith (freshHeader args) freshOwner (λ (r : Record) (o : ℕ). 0)
 
 -- judges 1 and 12 alone
-unfoldable pub format : List ℕ → FormatArguments → Written
+unfoldable pub format : List ℕ → FormatArguments → ImageChanged
 format image args =
     cond (imageRight image)
-    (cond (leb (length (args .title)) titleMost) (record { answer = done; image = imageOf (formatDisk args) }) (unwritten image (refusal 12)))
-    (unwritten image wrongLength)
+    (cond (leb (length (args .title)) titleMost) (record { answer = done; image = imageOf (formatDisk args) }) (imageKept image (refusal 12)))
+    (imageKept image wrongLength)
 
 -- ---- check
 
@@ -97,7 +97,7 @@ unfoldable pub deliver : List ℕ → List ℕ → Outcome
 deliver bytes buf =
     cond (leb (length bytes) (length buf))
     (record { answer = reply 0 (length bytes) 0 0; buffer = put buf 0 bytes })
-    (kept buf (reply 16 (length bytes) 0 0))
+    (bufferKept buf (reply 16 (length bytes) 0 0))
 
 -- the 64 bytes of each held slot below n, as they stand, in slot order
 unfoldable pub entries : Disk → ℕ → List ℕ
@@ -110,7 +110,7 @@ listSound d buf = deliver (entries d (dirEnd d)) buf
 
 -- 1 and 8 to 11 before that
 unfoldable pub list : List ℕ → List ℕ → Outcome
-list image buf = onSound image (kept buf) (λ (d : Disk). listSound d buf)
+list image buf = onSound image (bufferKept buf) (λ (d : Disk). listSound d buf)
 
 -- the data of file k, without its first 64 bytes
 unfoldable pub dataOf : Disk → ℕ → List ℕ
@@ -120,12 +120,12 @@ dataOf d k = tab (λ (i : ℕ). fileByte d k (slotBytes + i)) (slotEntry d k .le
 unfoldable pub readSound : Disk → List ℕ → List ℕ → Outcome
 readSound d name buf =
     cond (nameRight name)
-    (cond (ltb (findName d name) (dirEnd d)) (deliver (dataOf d (findName d name)) buf) (kept buf (refusal 14)))
-    (kept buf (refusal 12))
+    (cond (ltb (findName d name) (dirEnd d)) (deliver (dataOf d (findName d name)) buf) (bufferKept buf (refusal 14)))
+    (bufferKept buf (refusal 12))
 
 -- 1 and 8 to 11 before that
 unfoldable pub read : List ℕ → List ℕ → List ℕ → Outcome
-read image name buf = onSound image (kept buf) (λ (d : Disk). readSound d name buf)
+read image name buf = onSound image (bufferKept buf) (λ (d : Disk). readSound d name buf)
 
 -- ---- add
 
@@ -153,22 +153,22 @@ unfoldable pub needed : Disk → ℕ → ℕ → ℕ
 needed d k size = cond (opensBlock d k) (suc (blocksFor size)) (blocksFor size)
 
 -- 12, 13 with the slot that has the name, 15, or the file is added
-unfoldable pub addSound : Disk → List ℕ → ℕ → List ℕ → Changed
+unfoldable pub addSound : Disk → List ℕ → ℕ → List ℕ → DiskChanged
 addSound d name date content =
     cond (nameRight name)
-    (cond (ltb (findName d name) (dirEnd d)) (refused d (reply 13 (findName d name) 0 0))
+    (cond (ltb (findName d name) (dirEnd d)) (diskKept d (reply 13 (findName d name) 0 0))
     (cond (leb (needed d (vacantSlot d) (length content)) (freeCount d))
-    (record { answer = done; disk = addAt d (vacantSlot d) (entryFor name date (length content)) content })
-    (refused d (refusal 15))))
-    (refused d (refusal 12))
+    (record { answer = done; diskAfter = addAt d (vacantSlot d) (entryFor name date (length content)) content })
+    (diskKept d (refusal 15))))
+    (diskKept d (refusal 12))
 
 -- the image of what a call left on the disk
-unfoldable pub imaged : Changed → Written
-imaged c = record { answer = c .answer; image = imageOf (c .disk) }
+unfoldable pub imaged : DiskChanged → ImageChanged
+imaged c = record { answer = c .answer; image = imageOf (c .diskAfter) }
 
 -- 1 and 8 to 11 before that
-unfoldable pub add : List ℕ → List ℕ → ℕ → List ℕ → Written
-add image name date content = onSound image (unwritten image) (λ (d : Disk). imaged (addSound d name date content))
+unfoldable pub add : List ℕ → List ℕ → ℕ → List ℕ → ImageChanged
+add image name date content = onSound image (imageKept image) (λ (d : Disk). imaged (addSound d name date content))
 
 -- ---- remove
 
@@ -177,13 +177,13 @@ unfoldable pub removeAt : Disk → ℕ → Disk
 removeAt d k = stepUpdate (setFree (setSlot (freeBlocks blocks d k) k zeros))
 
 -- 12, 14, or the file is removed
-unfoldable pub removeSound : Disk → List ℕ → Changed
+unfoldable pub removeSound : Disk → List ℕ → DiskChanged
 removeSound d name =
     cond (nameRight name)
-    (cond (ltb (findName d name) (dirEnd d)) (record { answer = done; disk = removeAt d (findName d name) })
-    (refused d (refusal 14)))
-    (refused d (refusal 12))
+    (cond (ltb (findName d name) (dirEnd d)) (record { answer = done; diskAfter = removeAt d (findName d name) })
+    (diskKept d (refusal 14)))
+    (diskKept d (refusal 12))
 
 -- 1 and 8 to 11 before that
-unfoldable pub remove : List ℕ → List ℕ → Written
-remove image name = onSound image (unwritten image) (λ (d : Disk). imaged (removeSound d name))
+unfoldable pub remove : List ℕ → List ℕ → ImageChanged
+remove image name = onSound image (imageKept image) (λ (d : Disk). imaged (removeSound d name))

@@ -13,7 +13,7 @@ use Rattle.sector_rules.specs.declared.Fault.{Fault}
 use Rattle.sector_rules.specs.declared.Reply.{Reply}
 use Rattle.sector_rules.specs.Replies.{refusal}
 use Rattle.sector_rules.specs.Faults.{wrongAt, orFault, faultBelow, refusalAt}
-use Rattle.sector_rules.specs.Geometry.{tracks, sectors, blockSectors, turn, trackSectors, allSectors, blocks, sidePlace, backward}
+use Rattle.sector_rules.specs.Geometry.{tracks, sectors, blockSectors, trackOffset, trackSectors, allSectors, blocks, sidePlace, backward}
 use Rattle.file_rules.specs.declared.Record.{Record}
 use Rattle.file_rules.specs.Sizes.{blockBytes, slotBytes, slotCount, nameMost, blocksOf, freeSectors}
 use Rattle.file_rules.specs.Disk.{Disk}
@@ -23,16 +23,16 @@ use Rattle.file_rules.specs.Directory.{nameEq, slotEntry, slotName, held
 -- ---- 8: the header
 
 -- the bytes QL5A
-unfoldable pub signature : List ℕ
-signature = 0x51 ∷ 0x4C ∷ 0x35 ∷ 0x41 ∷ []
+unfoldable pub diskSignature : List ℕ
+diskSignature = 0x51 ∷ 0x4C ∷ 0x35 ∷ 0x41 ∷ []
 
 -- 34 to 37: a multiple of 64, at least 64, and bytes over below a block
 unfoldable pub lengthRight : Disk → Bool
 lengthRight d = ltb (at16 (d 0) 36) blockBytes && (eqb (dirBytes d % slotBytes) 0 && leb slotBytes (dirBytes d))
 
 -- 22 to 32: good and total sectors, 9, 18, 80, 3
-unfoldable pub sizesFault : Disk → Fault
-sizesFault d =
+unfoldable pub dimensionsFault : Disk → Fault
+dimensionsFault d =
     orFault (wrongAt 22 (eqb (at16 (d 0) 22) allSectors))
     (orFault (wrongAt 24 (eqb (at16 (d 0) 24) allSectors))
     (orFault (wrongAt 26 (eqb (at16 (d 0) 26) sectors))
@@ -40,12 +40,12 @@ sizesFault d =
     (orFault (wrongAt 30 (eqb (at16 (d 0) 30) tracks)) (wrongAt 32 (eqb (at16 (d 0) 32) blockSectors))))))
 
 -- the lowest wrong field; 4-19 and 76-95 are not judged
-unfoldable pub headerFault : Disk → Fault
-headerFault d =
-    orFault (wrongAt 0 (bytesAre (d 0) 0 signature))
-    (orFault (sizesFault d)
+unfoldable pub diskHeaderFault : Disk → Fault
+diskHeaderFault d =
+    orFault (wrongAt 0 (bytesAre (d 0) 0 diskSignature))
+    (orFault (dimensionsFault d)
     (orFault (wrongAt 34 (lengthRight d))
-    (orFault (wrongAt 38 (eqb (at16 (d 0) 38) turn))
+    (orFault (wrongAt 38 (eqb (at16 (d 0) 38) trackOffset))
     (orFault (wrongAt 40 (bytesAre (d 0) 40 sidePlace)) (wrongAt 58 (bytesAre (d 0) 58 backward))))))
 
 -- ---- 9: the map
@@ -67,8 +67,8 @@ partsRight d f n =
     && all (λ (s : ℕ). eqb (count blocks (λ (b : ℕ). isPart f s (recordAt d b))) 1) n
 
 -- no record bears file f
-unfoldable pub unborne : Disk → ℕ → Bool
-unborne d f = all (λ (b : ℕ). not (bears f (recordAt d b))) blocks
+unfoldable pub noRecordBears : Disk → ℕ → Bool
+noRecordBears d f = all (λ (b : ℕ). not (bears f (recordAt d b))) blocks
 
 -- no lower slot has the name of slot k
 unfoldable pub newName : Disk → ℕ → Bool
@@ -78,15 +78,15 @@ newName d k = all (λ (j : ℕ). not (held d j && nameEq (slotName d j) (slotNam
 unfoldable pub entryRight : Disk → ℕ → Bool
 entryRight d k =
     leb slotBytes (slotEntry d k .length)
-    && (leb 1 (slotEntry d k .named)
-    && (leb (slotEntry d k .named) nameMost
+    && (leb 1 (slotEntry d k .namelen)
+    && (leb (slotEntry d k .namelen) nameMost
     && (newName d k && partsRight d k (blocksOf (slotEntry d k .length)))))
 
 -- file f is sound: the directory, a held slot, or a number that no record may bear
 unfoldable pub fileRight : Disk → ℕ → Bool
 fileRight d f =
     cond (eqb f 0) (partsRight d 0 (blocksOf (dirBytes d)))
-    (cond (ltb f (dirEnd d) && held d f) (entryRight d f) (unborne d f))
+    (cond (ltb f (dirEnd d) && held d f) (entryRight d f) (noRecordBears d f))
 
 -- the lowest file number that is not sound, or the number of slots; a directory longer than the disk is itself not sound
 unfoldable pub fileFault : Disk → ℕ
@@ -102,7 +102,7 @@ freeRight d = eqb (at16 (d 0) 20) (freeSectors (freeCount d))
 
 -- 8 with the offset of the lowest wrong field
 unfoldable pub refusal8 : Disk → Option Reply
-refusal8 d = refusalAt 8 (headerFault d)
+refusal8 d = refusalAt 8 (diskHeaderFault d)
 
 -- 9 with the lowest block
 unfoldable pub refusal9 : Disk → Option Reply
@@ -117,5 +117,5 @@ unfoldable pub refusal11 : Disk → Option Reply
 refusal11 d = cond (freeRight d) none (some (refusal 11))
 
 -- a refusal by 8 to 11, if there is one
-unfoldable pub judged : Disk → Option Reply
-judged d = orElse (refusal8 d) (orElse (refusal9 d) (orElse (refusal10 d) (refusal11 d)))
+unfoldable pub diskRefusal : Disk → Option Reply
+diskRefusal d = orElse (refusal8 d) (orElse (refusal9 d) (orElse (refusal10 d) (refusal11 d)))

@@ -28,25 +28,25 @@ nameRight name = leb 1 (length name) && leb (length name) nameMost
 
 -- the entry in 64 bytes: 0-3 length, 14-15 name length, 16-51 name, 52-55 date
 unfoldable pub entryOf : (ℕ → ℕ) → Entry
-entryOf f = record { name = tab (λ (i : ℕ). f (16 + i)) nameMost; length = at32 f 0; named = at16 f 14; date = at32 f 52 }
+entryOf f = record { name = tab (λ (i : ℕ). f (16 + i)) nameMost; length = at32 f 0; namelen = at16 f 14; date = at32 f 52 }
 
 -- byte i of an entry as written: the rest is zero
 unfoldable pub entryByte : Entry → ℕ → ℕ
 entryByte e =
     patch (patch (patch (patch (λ (i : ℕ). 0)
     0 4 (highByte 4 (e .length)))
-    14 2 (highByte 2 (e .named)))
+    14 2 (highByte 2 (e .namelen)))
     16 nameMost (λ (i : ℕ). getD (e .name) i 0))
     52 4 (highByte 4 (e .date))
 
 -- the name in an entry: as many of the 36 bytes as its length says
 unfoldable pub nameOf : Entry → List ℕ
-nameOf e = take (e .named) (e .name)
+nameOf e = take (e .namelen) (e .name)
 
 -- the entry of a file with this name and date and so many bytes of data
 unfoldable pub entryFor : List ℕ → ℕ → ℕ → Entry
 entryFor name date size =
-    record { name = tab (λ (i : ℕ). getD name i 0) nameMost; length = slotBytes + size; named = length name; date = date }
+    record { name = tab (λ (i : ℕ). getD name i 0) nameMost; length = slotBytes + size; namelen = length name; date = date }
 
 -- ---- slots
 

@@ -13,7 +13,7 @@ use Rattle.sector_rules.specs.declared.Reply.{Reply}
 use Rattle.sector_rules.specs.Replies.{done}
 use Rattle.sector_rules.specs.Geometry.{blocks}
 use Rattle.file_rules.specs.declared.FirstTrack.{FirstTrack}
-use Rattle.file_rules.specs.Sizes.{trackBytes}
+use Rattle.file_rules.specs.Sizes.{firstTrackBytes}
 use Rattle.file_rules.specs.Disk.{Disk, diskOf}
 use Rattle.file_rules.specs.Map.{freeAt}
 use Rattle.file_rules.specs.Check.{refusal8, refusal9, refusal11}
@@ -30,6 +30,6 @@ counted d = record { reply = done; free = at16 (d 0) 20; good = at16 (d 0) 22; h
 -- block 0 lies on track 0 by the placement, and these judgements read nothing but block 0
 unfoldable pub firstTrack : List ℕ → FirstTrack
 firstTrack track =
-    cond (eqb (length track) trackBytes)
+    cond (eqb (length track) firstTrackBytes)
     (unless (orElse (refusal8 (diskOf track)) (orElse (refusal9 (diskOf track)) (refusal11 (diskOf track)))) refusedTrack (counted (diskOf track)))
     (refusedTrack wrongLength)

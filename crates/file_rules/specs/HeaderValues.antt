@@ -24,14 +24,14 @@ use Rattle.sector_rules.specs.Geometry.{sectorBytes, blocks, imageBytes, runnin
 use Rattle.sector_rules.specs.HeaderValues.{placeNamed, oneMore, oneLess, changedAt, changedFrom, changed-length, from-length}
 use Rattle.sector_rules.specs.Replies.{done, refusal}
 use Rattle.file_rules.specs.Arguments.{FormatArguments, argumentsOf}
-use Rattle.file_rules.specs.Calls.{Written, unwritten, unless, imageRight, onSound, formatDisk, format, check}
-use Rattle.file_rules.specs.Check.{signature, lengthRight, sizesFault, headerFault}
-use Rattle.file_rules.specs.Check.{mapFault, fileFault, freeRight, refusal8, refusal9, refusal10, refusal11, judged}
+use Rattle.file_rules.specs.Calls.{ImageChanged, imageKept, unless, imageRight, onSound, formatDisk, format, check}
+use Rattle.file_rules.specs.Check.{diskSignature, lengthRight, dimensionsFault, diskHeaderFault}
+use Rattle.file_rules.specs.Check.{mapFault, fileFault, freeRight, refusal8, refusal9, refusal10, refusal11, diskRefusal}
 use Rattle.file_rules.specs.Directory.{dirBytes}
-use Rattle.file_rules.specs.Disk.{Disk, byteOf, blockOf, offsetOf, diskOf, imageOf}
+use Rattle.file_rules.specs.Disk.{Disk, bytePlace, blockOf, offsetOf, diskOf, imageOf}
 use Rattle.file_rules.specs.Laws.OnImages.Run.{format-done}
 use Rattle.file_rules.specs.Sizes.{blockBytes, slotCount}
-use Rattle.file_rules.specs.Written.{fixedByte, headerByte, diskWith}
+use Rattle.file_rules.specs.Written.{fixedByte, diskHeaderByte, diskWith}
 
 -- a disk's name of nine bytes, and the header of a disk that is formatted with it and the number 1234 (hex): QL5A; the name and a space, the number; update
 -- count, free word; sizes; the directory's length, the track offset; the two tables; FF
@@ -94,11 +94,11 @@ by-fault Sound Sound (At o) b = refl
 by-fault Sound Sound Sound true = refl
 by-fault Sound Sound Sound false = refl
 
-named-is : (image : List ℕ) → length image ≡ imageBytes → placeNamed 8 96 (check image) ≡ faultPlace (headerFault (diskOf image))
-unfolding check onSound imageRight judged refusal8 refusal9 refusal10 refusal11
+named-is : (image : List ℕ) → length image ≡ imageBytes → placeNamed 8 96 (check image) ≡ faultPlace (diskHeaderFault (diskOf image))
+unfolding check onSound imageRight diskRefusal refusal8 refusal9 refusal10 refusal11
 named-is image long =
     ap (placeNamed 8 96) (cond-true _ _ (eq-true long))
-    ∙ by-fault (headerFault (diskOf image)) (faultBelow blocks (mapFault (diskOf image))) (faultBelow slotCount (fileFault (diskOf image)))
+    ∙ by-fault (diskHeaderFault (diskOf image)) (faultBelow blocks (mapFault (diskOf image))) (faultBelow slotCount (fileFault (diskOf image)))
     (freeRight (diskOf image))
 
 -- two disks with the same 96 bytes are judged alike
@@ -116,24 +116,24 @@ module _ (d g : Disk) (e : (o : ℕ) → o < 96 → d 0 o ≡ g 0 o) where
   unfolding dirBytes
   length-alike = rw (word-alike 34 (lit< tt), word-alike 36 (lit< tt))
 
-  signature-alike : bytesAre (d 0) 0 signature ≡ bytesAre (g 0) 0 signature
-  unfolding signature
-  signature-alike = bytes-alike 0 signature (lit≤ tt)
+  signature-alike : bytesAre (d 0) 0 diskSignature ≡ bytesAre (g 0) 0 diskSignature
+  unfolding diskSignature
+  signature-alike = bytes-alike 0 diskSignature (lit≤ tt)
 
   tables-alike : (bytesAre (d 0) 40 sidePlace ≡ bytesAre (g 0) 40 sidePlace) × (bytesAre (d 0) 58 backward ≡ bytesAre (g 0) 58 backward)
   unfolding sidePlace backward
   tables-alike = (bytes-alike 40 sidePlace (lit≤ tt), bytes-alike 58 backward (lit≤ tt))
 
-  judged-alike : headerFault d ≡ headerFault g
-  unfolding headerFault sizesFault lengthRight
+  judged-alike : diskHeaderFault d ≡ diskHeaderFault g
+  unfolding diskHeaderFault dimensionsFault lengthRight
   judged-alike =
       rw (signature-alike, word-alike 22 (lit< tt), word-alike 24 (lit< tt), word-alike 26 (lit< tt), word-alike 28 (lit< tt))
       (rw (word-alike 30 (lit< tt), word-alike 32 (lit< tt), word-alike 36 (lit< tt), word-alike 38 (lit< tt), length-alike)
       (rw (tables-alike .0, tables-alike .1)))
 
 -- the header stands at the image's beginning
-first-place : (o : ℕ) → o < 96 → byteOf 0 o ≡ o
-unfolding byteOf imageSector sidePlace
+first-place : (o : ℕ) → o < 96 → bytePlace 0 o ≡ o
+unfolding bytePlace imageSector sidePlace
 first-place o l =
     let a : o / 512 ≡ 0 = omega arith in
     let b : o % 512 ≡ o = omega arith in
@@ -150,7 +150,7 @@ abbrev alone : List ℕ → Disk
 alone start b o = getD start o 0
 
 module _ (rest : List ℕ) (long : 96 + length rest ≡ imageBytes) where
-  begins : (start : List ℕ) → length start ≡ 96 → named start rest ≡ faultPlace (headerFault (alone start))
+  begins : (start : List ℕ) → length start ≡ 96 → named start rest ≡ faultPlace (diskHeaderFault (alone start))
   unfolding named
   begins start n =
       named-is (start ++ rest) (length-append start rest ∙ rw n long)
@@ -158,7 +158,7 @@ module _ (rest : List ℕ) (long : 96 + length rest ≡ imageBytes) where
       (λ o l. first-byte (start ++ rest) o l ∙ List·getD-append start rest 0 o (omega arith)))
 
   rows : (start : ℕ → List ℕ) → ((o : ℕ) → o < 96 → length (start o) ≡ 96)
-      → tab (λ (o : ℕ). named (start o) rest) 96 ≡ tab (λ (o : ℕ). faultPlace (headerFault (alone (start o)))) 96
+      → tab (λ (o : ℕ). named (start o) rest) 96 ≡ tab (λ (o : ℕ). faultPlace (diskHeaderFault (alone (start o)))) 96
   rows start n = tab-ext _ _ 96 (λ o l. begins (start o) (n o l))
 
 header-length : length diskHeader ≡ 96
@@ -170,20 +170,20 @@ header-length = refl
 format-is : (old : List ℕ) → length old ≡ imageBytes → take 96 (format old (argumentsOf title 0x1234) .image) ≡ diskHeader
 unfolding imageOf title
 format-is old long =
-    ap (λ (w : Written). take 96 (w .image)) (format-done old (argumentsOf title 0x1234) long (lit≤ tt))
+    ap (λ (w : ImageChanged). take 96 (w .image)) (format-done old (argumentsOf title 0x1234) long (lit≤ tt))
     ∙ take-tab (λ (i : ℕ). formatDisk (argumentsOf title 0x1234) (blockOf i) (offsetOf i)) 96 imageBytes (lit≤ tt)
     ∙ fresh
   where
     fresh : tab (λ (i : ℕ). formatDisk (argumentsOf title 0x1234) (blockOf i) (offsetOf i)) 96 ≡ diskHeader
-    fresh = unfold tab formatDisk diskWith headerByte fixedByte patch highByte signature sidePlace backward blockOf offsetOf runningSector title diskHeader
+    fresh = unfold tab formatDisk diskWith diskHeaderByte fixedByte patch highByte diskSignature sidePlace backward blockOf offsetOf runningSector title diskHeader
         in refl
 
 refused-is : (old : List ℕ) (args : FormatArguments) → length old ≡ imageBytes → 11 ≤ length (args .title) → format old args .answer ≡ refusal 12
-unfolding format imageRight unwritten
-refused-is old args long h = ap (λ (w : Written). w .answer) (cond-true _ _ (eq-true long) ∙ cond-false _ _ (le-false h))
+unfolding format imageRight imageKept
+refused-is old args long h = ap (λ (w : ImageChanged). w .answer) (cond-true _ _ (eq-true long) ∙ cond-false _ _ (le-false h))
 
 pub disk-header-values : DiskHeaderValues
-unfolding tab headerFault sizesFault lengthRight dirBytes at16 bigEndian bytesAre same signature sidePlace backward diskHeader
+unfolding tab diskHeaderFault dimensionsFault lengthRight dirBytes at16 bigEndian bytesAre same diskSignature sidePlace backward diskHeader
     changedAt changedFrom oneMore oneLess
 disk-header-values =
     record {
@@ -193,6 +193,6 @@ disk-header-values =
       all-less = λ rest long. rows rest long (changedFrom oneLess diskHeader) (λ o l. from-length oneLess diskHeader o l) ∙ refl;
       accepted = λ rest long. (begins rest long _ refl, begins rest long _ refl, begins rest long _ refl);
       length-refused = λ rest long. (begins rest long _ refl, begins rest long _ refl, begins rest long _ refl);
-      title-accepted = λ old args long h. ap (λ (w : Written). w .answer) (format-done old args long h);
+      title-accepted = λ old args long h. ap (λ (w : ImageChanged). w .answer) (format-done old args long h);
       title-refused = refused-is;
     }

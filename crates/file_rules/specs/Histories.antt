@@ -9,7 +9,7 @@ use mathlib.Core.Option.{Option, none, some}
 use Prim.Native.Nat.{ℕ, _+_, max}
 use lib.Dec.{eqb}
 use lib.ListN.{length}
-use Rattle.file_rules.specs.Calls.{Outcome, kept, list, read, add, remove}
+use Rattle.file_rules.specs.Calls.{Outcome, bufferKept, list, read, add, remove}
 use Rattle.file_rules.specs.Directory.{nameEq}
 use Rattle.file_rules.specs.Model.{NamedFile, Model, modelList, modelRead, modelAdd, modelRemove}
 use Rattle.file_rules.specs.Written.{blocksFor}
@@ -25,8 +25,8 @@ pub data Call : Type 0 where
 
 -- the reply of one call and the result buffer after it, which add and remove have none of
 unfoldable pub imageOut : List ℕ → Call → Outcome
-imageOut image (toAdd x) = kept [] (add image (x .name) (x .date) (x .content) .answer)
-imageOut image (toRemove name) = kept [] (remove image name .answer)
+imageOut image (toAdd x) = bufferKept [] (add image (x .name) (x .date) (x .content) .answer)
+imageOut image (toRemove name) = bufferKept [] (remove image name .answer)
 imageOut image (toList buf) = list image buf
 imageOut image (toRead name buf) = read image name buf
 
@@ -56,8 +56,8 @@ modelOut m (toList buf) = modelList m buf
 modelOut m (toRead name buf) = modelRead m name buf
 
 unfoldable pub modelStep : Model → Call → Model
-modelStep m (toAdd x) = modelAdd m x .model
-modelStep m (toRemove name) = modelRemove m name .model
+modelStep m (toAdd x) = modelAdd m x .modelAfter
+modelStep m (toRemove name) = modelRemove m name .modelAfter
 modelStep m (toList buf) = m
 modelStep m (toRead name buf) = m
 
@@ -100,9 +100,9 @@ mostPresent fs (c ∷ cs) [] = length fs
 mostPresent fs (c ∷ cs) (o ∷ os) = max (length fs) (mostPresent (leftBy fs c o) cs os)
 
 -- S of demand 3: (64 + length of data) / 1536, rounded up, over these files
-unfoldable pub sizeOf : List NamedFile → ℕ
-sizeOf [] = 0
-sizeOf (x ∷ xs) = sizeOf xs + blocksFor (length (x .content))
+unfoldable pub blocksOfFiles : List NamedFile → ℕ
+blocksOfFiles [] = 0
+blocksOfFiles (x ∷ xs) = blocksOfFiles xs + blocksFor (length (x .content))
 
 -- the file of a name
 unfoldable pub fileNamed : List ℕ → List NamedFile → Option NamedFile
@@ -110,6 +110,6 @@ fileNamed name [] = none
 fileNamed name (x ∷ xs) = cond (nameEq (x .name) name) (some x) (fileNamed name xs)
 
 -- whether a file is one of these
-abbrev pub Present : NamedFile → List NamedFile → Type 0
-Present x [] = ⊥
-Present x (y ∷ ys) = (x ≡ y) ⊎ Present x ys
+abbrev pub IsPresent : NamedFile → List NamedFile → Type 0
+IsPresent x [] = ⊥
+IsPresent x (y ∷ ys) = (x ≡ y) ⊎ IsPresent x ys

@@ -16,7 +16,7 @@ use Rattle.file_rules.specs.Arguments.{FormatArguments}
 use Rattle.file_rules.specs.Calls.{Outcome, format, check, read, add}
 use Rattle.file_rules.specs.Directory.{entryByte, slotByte, held, dirEnd}
 use Rattle.file_rules.specs.Disk.{Disk, diskOf, imageOf}
-use Rattle.file_rules.specs.Histories.{Call, imageOuts, imageEnd, modelOuts, modelEnd, filesLeft, mostPresent, sizeOf, fileNamed, Present}
+use Rattle.file_rules.specs.Histories.{Call, imageOuts, imageEnd, modelOuts, modelEnd, filesLeft, mostPresent, blocksOfFiles, fileNamed, IsPresent}
 use Rattle.file_rules.specs.Map.{recordAt}
 use Rattle.file_rules.specs.Model.{NamedFile, entryFrom, dirBlocks, usable, freeWord, modelDisk, modelFormat, resultOf}
 use Rattle.file_rules.specs.Sizes.{blockBytes, slotBytes, blockSlots, titleMost}
@@ -34,9 +34,9 @@ HasEntry d k x = (i : ℕ) → i < slotBytes → slotByte d k i ≡ entryByte (e
 -- byte o of block b is in the header or the map, in the directory slot of a present file, or in such a file
 pub data Belongs (d : Disk) (files : List NamedFile) : ℕ → ℕ → Type 0 where
   inHead : (o : ℕ) → Belongs d files 0 o
-  inSlot : (b o k : ℕ) (x : NamedFile) → Present x files → 0 < k → k < dirEnd d → HasEntry d k x
+  inSlot : (b o k : ℕ) (x : NamedFile) → IsPresent x files → 0 < k → k < dirEnd d → HasEntry d k x
       → recordAt d b ≡ File 0 (k / blockSlots) → o / slotBytes ≡ k % blockSlots → Belongs d files b o
-  inFile : (b o k s : ℕ) (x : NamedFile) → Present x files → 0 < k → k < dirEnd d → HasEntry d k x
+  inFile : (b o k s : ℕ) (x : NamedFile) → IsPresent x files → 0 < k → k < dirEnd d → HasEntry d k x
       → recordAt d b ≡ File k s → o < blockBytes → s * blockBytes + o < slotBytes + length (x .content) → Belongs d files b o
 
 -- `image` is the image at the end, `outs` the replies and result buffers in order, `files` those that the accepted calls leave,
@@ -50,18 +50,18 @@ pub record Holds (args : FormatArguments) (calls : List Call)
   -- the files present are those that the accepted calls leave, with their bytes: a read of any name of 1 to 36 bytes gives theirs or 14,
   -- each has its entry in a slot, and each held slot has the entry of one
   pub read-gives : (name buf : List ℕ) → 1 ≤ length name → length name ≤ 36 → read image name buf ≡ dataFound (fileNamed name files) buf
-  pub has-slot : (x : NamedFile) → Present x files → (k : ℕ) × (0 < k) × (k < dirEnd (diskOf image)) × HasEntry (diskOf image) k x
+  pub has-slot : (x : NamedFile) → IsPresent x files → (k : ℕ) × (0 < k) × (k < dirEnd (diskOf image)) × HasEntry (diskOf image) k x
   pub slot-has : (k : ℕ) → k < dirEnd (diskOf image) → held (diskOf image) k ≡ true
-      → (x : NamedFile) × Present x files × HasEntry (diskOf image) k x
+      → (x : NamedFile) × IsPresent x files × HasEntry (diskOf image) k x
   -- P, which the model counts as its peak, is the greatest number of them present at once
   pub peak-is : modelEnd (modelFormat args) calls .peak ≡ most
   -- the free word is 3 x (479 - D - S), and D + S is at most 479
-  pub free-word : at16 (diskOf image 0) 20 ≡ freeWord most (sizeOf files)
-  pub no-less : dirBlocks most + sizeOf files ≤ usable
+  pub free-word : at16 (diskOf image 0) 20 ≡ freeWord most (blocksOfFiles files)
+  pub no-less : dirBlocks most + blocksOfFiles files ≤ usable
   -- an add with a new name of 1 to 36 bytes is refused, with 15, exactly when with its file counted the word would fall below zero
   pub add-gives : (x : NamedFile) → 1 ≤ length (x .name) → length (x .name) ≤ 36 → fileNamed (x .name) files ≡ none
       → add image (x .name) (x .date) (x .content) .answer
-      ≡ cond (leb (dirBlocks (max most (suc (length files))) + (sizeOf files + blocksFor (length (x .content)))) usable) done (refusal 15)
+      ≡ cond (leb (dirBlocks (max most (suc (length files))) + (blocksOfFiles files + blocksFor (length (x .content)))) usable) done (refusal 15)
   -- every byte outside header, map, directory slots of present files and those files is zero
   pub zero-else : (b o : ℕ) → (Belongs (diskOf image) files b o → ⊥) → diskOf image b o ≡ 0
 
@@ -70,8 +70,8 @@ abbrev pub formatted : List ℕ → FormatArguments → List ℕ
 formatted old args = format old args .image
 
 -- a history: an accepted format of an image that held anything, then the calls, each on the image that the last left
-abbrev pub History : Type 0
-History =
+abbrev pub EveryHistory : Type 0
+EveryHistory =
     (old : List ℕ) (args : FormatArguments) (calls : List Call) → length old ≡ imageBytes → length (args .title) ≤ titleMost
     → (format old args .answer ≡ done)
     × Holds args calls

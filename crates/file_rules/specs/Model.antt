@@ -1,5 +1,5 @@
 -- The model: document 01's book ("The book of demand 3"). It is fed with the arguments of the format and of the calls, never with an image.
--- It shares with the calls the sizes, what an Outcome is, and the layout: header, entry, record and file bytes (headerByte, entryFor, entryByte,
+-- It shares with the calls the sizes, what an Outcome is, and the layout: header, entry, record and file bytes (diskHeaderByte, entryFor, entryByte,
 -- diskWith, storedByte, part), isFree of a record, blocksFor as 01's count of blocks, and equality of names. The decisions are its own.
 -- Assumes nothing: these are definitions.
 use mathlib.Core.Bool.{Bool, false, not, cond, _&&_}
@@ -24,7 +24,7 @@ use Rattle.file_rules.specs.Directory.{nameEq, entryByte, entryFor}
 use Rattle.file_rules.specs.Disk.{Disk}
 use Rattle.file_rules.specs.Map.{isFree}
 use Rattle.file_rules.specs.Sizes.{slotBytes, blockSlots}
-use Rattle.file_rules.specs.Written.{headerByte, diskWith, storedByte, part, blocksFor}
+use Rattle.file_rules.specs.Written.{diskHeaderByte, diskWith, storedByte, part, blocksFor}
 
 -- ---- slots: 01's lines of the book
 
@@ -39,7 +39,7 @@ abbrev pub HeldFile : Type 0
 HeldFile = Option NamedFile
 
 -- a filled slot: a file and its blocks, in sequence
-pub record Filled : Type 0 where
+pub record FilledSlot : Type 0 where
   pub file : NamedFile
   pub taken : List ℕ
 
@@ -52,16 +52,16 @@ pub record Model : Type 0 where
   -- P: the greatest number of files present at once
   pub peak : ℕ
   -- the slots from 1 up, by their number; slot 0 stays empty
-  pub slots : ℕ → Option Filled
+  pub slots : ℕ → Option FilledSlot
   -- the directory's blocks, in sequence
   pub dir : List ℕ
 
 -- a slot's file, and its blocks
-unfoldable pub fileOf : Option Filled → HeldFile
+unfoldable pub fileOf : Option FilledSlot → HeldFile
 fileOf none = none
 fileOf (some h) = some (h .file)
 
-unfoldable pub takenBy : Option Filled → List ℕ
+unfoldable pub takenBy : Option FilledSlot → List ℕ
 takenBy none = []
 takenBy (some h) = h .taken
 
@@ -81,8 +81,8 @@ unfoldable pub presentIn : Model → ℕ
 presentIn m = count (suc (m .peak)) (λ (k : ℕ). isSome (fileOf (m .slots k)))
 
 -- S: the blocks of all files present
-unfoldable pub sizeIn : Model → ℕ
-sizeIn m = sum (suc (m .peak)) (λ (k : ℕ). heldBlocks (fileOf (m .slots k)))
+unfoldable pub blocksPresent : Model → ℕ
+blocksPresent m = sum (suc (m .peak)) (λ (k : ℕ). heldBlocks (fileOf (m .slots k)))
 
 -- D: 1 + P / 24, rounded down
 unfoldable pub dirBlocks : ℕ → ℕ
@@ -103,9 +103,9 @@ unfoldable pub slotOf : HeldFile → ℕ → ℕ
 slotOf none i = 0
 slotOf (some x) i = entryByte (entryFrom x) i
 
-unfoldable pub bytesOf : HeldFile → ℕ → ℕ
-bytesOf none i = 0
-bytesOf (some x) i = storedByte (entryFrom x) (x .content) i
+unfoldable pub heldBytes : HeldFile → ℕ → ℕ
+heldBytes none i = 0
+heldBytes (some x) i = storedByte (entryFrom x) (x .content) i
 
 -- byte o of block s of the directory: entries in their slots
 unfoldable pub dirByte : (ℕ → HeldFile) → ℕ → ℕ → ℕ
@@ -117,7 +117,7 @@ content entries files Free o = 0
 content entries files System o = 0
 content entries files Other o = 0
 content entries files (File zero s) o = dirByte entries s o
-content entries files (File (suc f) s) o = part (bytesOf (files (suc f))) s o
+content entries files (File (suc f) s) o = part (heldBytes (files (suc f))) s o
 
 -- where b stands in a list of blocks
 unfoldable pub position : ℕ → ℕ → List ℕ → Option ℕ
@@ -130,22 +130,22 @@ orRecord k none r = r
 orRecord k (some s) r = File k s
 
 -- the record of block b by the slots below n: the slot that has it, and its place there
-unfoldable pub slotRecord : (ℕ → Option Filled) → ℕ → ℕ → Record
+unfoldable pub slotRecord : (ℕ → Option FilledSlot) → ℕ → ℕ → Record
 slotRecord slots zero b = Free
 slotRecord slots (suc k) b = orRecord k (position b 0 (takenBy (slots k))) (slotRecord slots k b)
 
 -- the record of block b: block 0 is system, the directory is file 0
-unfoldable pub recordIn : (ℕ → Option Filled) → List ℕ → ℕ → ℕ → Record
-recordIn slots dir peak b = cond (eqb b 0) System (orRecord 0 (position b 0 dir) (slotRecord slots (suc peak) b))
+unfoldable pub modelRecord : (ℕ → Option FilledSlot) → List ℕ → ℕ → ℕ → Record
+modelRecord slots dir peak b = cond (eqb b 0) System (orRecord 0 (position b 0 dir) (slotRecord slots (suc peak) b))
 
 -- the header, with the free word by demand 3
 unfoldable pub modelHeader : Model → ℕ → ℕ
-modelHeader m = headerByte (m .arguments) (m .updates) (freeWord (m .peak) (sizeIn m)) (suc (m .peak))
+modelHeader m = diskHeaderByte (m .arguments) (m .updates) (freeWord (m .peak) (blocksPresent m)) (suc (m .peak))
 
 -- the formatted disk with map and header, entries in their slots, files in their blocks
 unfoldable pub modelDisk : Model → Disk
 modelDisk m =
-    diskWith (modelHeader m) (recordIn (m .slots) (m .dir) (m .peak))
+    diskWith (modelHeader m) (modelRecord (m .slots) (m .dir) (m .peak))
     (content (λ (k : ℕ). fileOf (m .slots k)) (λ (k : ℕ). fileOf (m .slots k)))
 
 -- ---- format
@@ -170,13 +170,13 @@ resultOf bytes buf =
 -- ---- which slot
 
 -- whether a slot has the file of that name
-unfoldable pub named : List ℕ → HeldFile → Bool
-named name none = false
-named name (some x) = nameEq (x .name) name
+unfoldable pub hasName : List ℕ → HeldFile → Bool
+hasName name none = false
+hasName name (some x) = nameEq (x .name) name
 
 -- the slot with the file of that name, or the first past the peak
 unfoldable pub slotNamed : Model → List ℕ → ℕ
-slotNamed m name = lowest (λ (k : ℕ). named name (fileOf (m .slots k))) (suc (m .peak))
+slotNamed m name = lowest (λ (k : ℕ). hasName name (fileOf (m .slots k))) (suc (m .peak))
 
 -- the lowest empty slot from 1 on
 unfoldable pub slotVacant : Model → ℕ
@@ -223,11 +223,11 @@ peakThen m = max (m .peak) (suc (presentIn m))
 
 -- whether demand 3's word, this file counted, stays at zero or above
 unfoldable pub fits : Model → NamedFile → Bool
-fits m x = leb (dirBlocks (peakThen m) + (sizeIn m + blocksFor (length (x .content)))) usable
+fits m x = leb (dirBlocks (peakThen m) + (blocksPresent m + blocksFor (length (x .content)))) usable
 
 -- whether no slot and not the directory has block b
-unfoldable pub freeIn : (ℕ → Option Filled) → List ℕ → ℕ → ℕ → Bool
-freeIn slots dir peak b = isFree (recordIn slots dir peak b)
+unfoldable pub freeIn : (ℕ → Option FilledSlot) → List ℕ → ℕ → ℕ → Bool
+freeIn slots dir peak b = isFree (modelRecord slots dir peak b)
 
 -- the directory's blocks once a file more is present: a new one is the lowest free
 unfoldable pub dirThen : Model → List ℕ
@@ -262,20 +262,20 @@ clear m k =
 -- a reply, and the model after it
 pub record ModelChanged : Type 0 where
   pub answer : Reply
-  pub model : Model
+  pub modelAfter : Model
 
 -- 12, 13 with the slot, 15 or done
 unfoldable pub modelAdd : Model → NamedFile → ModelChanged
 modelAdd m x =
     cond (acceptable (x .name))
-    (cond (ltb (slotNamed m (x .name)) (suc (m .peak))) (record { answer = reply 13 (slotNamed m (x .name)) 0 0; model = m })
-    (cond (fits m x) (record { answer = done; model = fill m (slotVacant m) x }) (record { answer = refusal 15; model = m })))
-    (record { answer = refusal 12; model = m })
+    (cond (ltb (slotNamed m (x .name)) (suc (m .peak))) (record { answer = reply 13 (slotNamed m (x .name)) 0 0; modelAfter = m })
+    (cond (fits m x) (record { answer = done; modelAfter = fill m (slotVacant m) x }) (record { answer = refusal 15; modelAfter = m })))
+    (record { answer = refusal 12; modelAfter = m })
 
 -- 12, 14 or done
 unfoldable pub modelRemove : Model → List ℕ → ModelChanged
 modelRemove m name =
     cond (acceptable name)
-    (cond (ltb (slotNamed m name) (suc (m .peak))) (record { answer = done; model = clear m (slotNamed m name) })
-    (record { answer = refusal 14; model = m }))
-    (record { answer = refusal 12; model = m })
+    (cond (ltb (slotNamed m name) (suc (m .peak))) (record { answer = done; modelAfter = clear m (slotNamed m name) })
+    (record { answer = refusal 14; modelAfter = m }))
+    (record { answer = refusal 12; modelAfter = m })

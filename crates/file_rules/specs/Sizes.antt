@@ -1,7 +1,7 @@
 -- The numbers of the file layer, each once; those of the disk kind are the sector layer's. Document 01, "Header, map, directory".
 -- Assumes nothing: these are definitions.
 use Prim.Native.Nat.{ℕ, _*_, _/_, _%_}
-use Rattle.laws.specs.Numbers.{up}
+use Rattle.laws.specs.Numbers.{quotientUp}
 use Rattle.sector_rules.specs.Geometry.{sectorBytes, blockSectors, trackSectors, blocks}
 
 -- bytes of a block
@@ -10,11 +10,11 @@ blockBytes = blockSectors * sectorBytes
 
 -- blocks that so many bytes take
 abbrev pub blocksOf : ℕ → ℕ
-blocksOf bytes = up bytes blockBytes
+blocksOf bytes = quotientUp bytes blockBytes
 
 -- bytes of a track
-abbrev pub trackBytes : ℕ
-trackBytes = trackSectors * sectorBytes
+abbrev pub firstTrackBytes : ℕ
+firstTrackBytes = trackSectors * sectorBytes
 
 -- bytes of a directory slot, and slots of a directory block
 abbrev pub slotBytes : ℕ

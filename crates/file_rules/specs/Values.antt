@@ -5,13 +5,13 @@ use mathlib.Core.Path.{_≡_, refl}
 use mathlib.Core.List.{[], _∷_}
 use Rattle.laws.specs.Lists.{tab, elementAt}
 use Rattle.laws.specs.Numbers.{bigEndian, highFirst, highByte}
-use Rattle.sector_rules.specs.Values.{placements, placed, listed, placement-values}
+use Rattle.sector_rules.specs.Values.{placements, definedSectors, tableSectors, placement-values}
 use Rattle.file_rules.specs.declared.Record.the-variants.{Free, System, File, Other}
 use Rattle.file_rules.specs.Map.{decode, numberOf, encode}
 use Rattle.file_rules.specs.Sizes.{recordBytes}
 
 -- every row's image sector is the definition's, and the record reads as the paper says
-pub values-to-check : (placed placements ≡ listed placements) × (decode (highFirst (0x2A ∷ 0x50 ∷ 0x13 ∷ []) 0 recordBytes) ≡ File 0x2A5 0x013)
+pub values-to-check : (definedSectors placements ≡ tableSectors placements) × (decode (highFirst (0x2A ∷ 0x50 ∷ 0x13 ∷ []) 0 recordBytes) ≡ File 0x2A5 0x013)
 unfolding decode highFirst bigEndian elementAt
 values-to-check = (placement-values, refl)
 

@@ -7,7 +7,7 @@ use lib.Dec.{ltb, eqb}
 use lib.ListN.{length, getD}
 use Rattle.laws.specs.Changes.{upd, patch}
 use Rattle.laws.specs.Numbers.{highByte, at32}
-use Rattle.sector_rules.specs.Geometry.{tracks, sectors, blockSectors, turn, trackSectors, allSectors, blocks, sidePlace, backward}
+use Rattle.sector_rules.specs.Geometry.{tracks, sectors, blockSectors, trackOffset, trackSectors, allSectors, blocks, sidePlace, backward}
 use Rattle.file_rules.specs.declared.Record.{Record}
 use Rattle.file_rules.specs.declared.Record.the-variants.{Free, File}
 use Rattle.file_rules.specs.declared.Entry.{Entry}
@@ -16,24 +16,24 @@ use Rattle.file_rules.specs.Sizes.{blockBytes, slotBytes, blockSlots, ma
 use Rattle.file_rules.specs.Disk.{Disk}
 use Rattle.file_rules.specs.Map.{encode, recordAt, bears, freeCount, partBlock}
 use Rattle.file_rules.specs.Directory.{entryByte}
-use Rattle.file_rules.specs.Check.{signature}
+use Rattle.file_rules.specs.Check.{diskSignature}
 
 -- ---- the header
 
 -- byte o of the header but for update count, free word and directory length: the disk's name padded with spaces, its number, and what is fixed
 unfoldable pub fixedByte : FormatArguments → ℕ → ℕ
 fixedByte args =
-    let f₀ : ℕ → ℕ = patch (λ (o : ℕ). 0xFF) 0 4 (λ (i : ℕ). getD signature i 0) in
+    let f₀ : ℕ → ℕ = patch (λ (o : ℕ). 0xFF) 0 4 (λ (i : ℕ). getD diskSignature i 0) in
     let f₁ : ℕ → ℕ = patch (patch f₀ 4 titleMost (λ (i : ℕ). getD (args .title) i 32)) 14 2 (highByte 2 (args .number)) in
     let f₂ : ℕ → ℕ = patch (patch f₁ 22 2 (highByte 2 allSectors)) 24 2 (highByte 2 allSectors) in
     let f₃ : ℕ → ℕ = patch (patch f₂ 26 2 (highByte 2 sectors)) 28 2 (highByte 2 trackSectors) in
     let f₄ : ℕ → ℕ = patch (patch f₃ 30 2 (highByte 2 tracks)) 32 2 (highByte 2 blockSectors) in
-    let f₅ : ℕ → ℕ = patch f₄ 38 2 (highByte 2 turn) in
+    let f₅ : ℕ → ℕ = patch f₄ 38 2 (highByte 2 trackOffset) in
     patch (patch f₅ 40 trackSectors (λ (i : ℕ). getD sidePlace i 0)) 58 trackSectors (λ (i : ℕ). getD backward i 0)
 
 -- byte o of the header, with the directory's end in slots
-unfoldable pub headerByte : FormatArguments → ℕ → ℕ → ℕ → ℕ → ℕ
-headerByte args updates word end =
+unfoldable pub diskHeaderByte : FormatArguments → ℕ → ℕ → ℕ → ℕ → ℕ
+diskHeaderByte args updates word end =
     patch (patch (patch (patch (fixedByte args)
     16 4 (highByte 4 updates))
     20 2 (highByte 2 word))

@@ -19,12 +19,12 @@ pub struct MapRecord {
 // The most bytes of a file's name.
 pub const NAME_MOST: usize = 36;
 
-// A directory entry: the length counts the file's first 64 bytes, and the name is the first `named` of the 36 bytes.
+// A directory entry: the length counts the file's first 64 bytes, and the name is the first `namelen` of the 36 bytes.
 #[repr(C)]
 pub struct Entry {
     pub name: [u8; NAME_MOST],
     pub length: u32,
-    pub named: u16,
+    pub namelen: u16,
     pub date: u32,
 }
 

@@ -9,13 +9,13 @@ ghost use Rattle.file_rules.specs.Sizes.{nameMost};
 ghost use Rattle.file_rules.specs.Disk.{diskOf, imageOf};
 ghost use Rattle.file_rules.specs.Map.{sequences, freeCount};
 ghost use Rattle.file_rules.specs.Directory.{entryFor, dirEnd};
-ghost use Rattle.file_rules.specs.Check.{judged};
+ghost use Rattle.file_rules.specs.Check.{diskRefusal};
 ghost use Rattle.file_rules.specs.Written.{blocksFor};
 ghost use Rattle.file_rules.specs.Calls as Calls;
 ghost use Rattle.file_rules.specs.Calls.{opensBlock, growDir, endAfter, needed, addAt, addSound};
-ghost use Rattle.files.specs.Laws.Loading.Loaded.{Mapped};
+ghost use Rattle.files.specs.Laws.Loading.Loaded.{MapLoaded};
 ghost use Rattle.files.specs.Laws.Writing.InStep.{InStep};
-ghost use Rattle.files.specs.Laws.Calling.Judged.{Gave};
+ghost use Rattle.files.specs.Laws.Calling.SoundDisk.{Gave};
 use crate::Verdict;
 use crate::blocks::blocks_of;
 use crate::checking::judge;
@@ -34,7 +34,7 @@ use crate::sizes::SLOT_BYTES;
 use crate::steps::entry_bytes;
 use crate::steps::give_blocks;
 use crate::steps::set_end;
-use crate::steps::settle;
+use crate::steps::update_counts;
 use crate::steps::write_entry;
 use file_rules::Entry;
 use sector_rules::Reply;
@@ -86,7 +86,7 @@ fn add_at(image: &mut [u8], map: &mut MapNumbers, k: usize, e: Entry, content: &
     give_blocks(image, map, k, 0, blocks_for(content.len()), &head, content);
     write_entry(image, map, k, e);
     end_after(image, k, end);
-    settle(image, map);
+    update_counts(image, map);
 }
 
 // The entry of a new file.
@@ -99,7 +99,7 @@ fn entry_for(name: &[u8], date: u32, size: usize) -> Entry
     Entry {
         name: row,
         length: (SLOT_BYTES + size) as u32,
-        named: name.len() as u16,
+        namelen: name.len() as u16,
         date,
     }
 }
@@ -114,7 +114,7 @@ fn opens_block(image: &[u8], k: usize) -> bool
 // Whether there are blocks enough for a file of so many bytes in slot k. More bytes than the disk has never fit;
 // that is asked first, since 64 more than the size could wrap.
 fn has_room(image: &[u8], map: &MapNumbers, k: usize, size: usize) -> bool
-    requires { ⌜ Mapped (now map) (diskOf (now image)) ⌝ }
+    requires { ⌜ MapLoaded (now map) (diskOf (now image)) ⌝ }
     ensures { λ r. ⌜ r ≡ leb (needed (diskOf (now (image .entry))) k size) (freeCount (diskOf (now (image .entry)))) ⌝ }
 {
     if Geometry::IMAGE_BYTES < size {
@@ -136,7 +136,7 @@ fn add_sound(
     date: u32,
     content: &[u8],
 ) -> Reply
-    requires { ⌜ InStep (now map) (now image) × (judged (diskOf (now image)) ≡ none) ⌝ }
+    requires { ⌜ InStep (now map) (now image) × (diskRefusal (diskOf (now image)) ≡ none) ⌝ }
     ensures { λ r. ⌜ Gave (addSound (diskOf (now (image .entry))) (now (name .entry)) date (now (content .entry))) r (now (image .exit)) ⌝ }
 {
     if !name_right(name) {

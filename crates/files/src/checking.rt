@@ -8,10 +8,10 @@ ghost use Rattle.sector_rules.specs.Geometry.{imageBytes};
 ghost use Rattle.file_rules.specs.Sizes.{slotCount};
 ghost use Rattle.file_rules.specs.Disk.{diskOf};
 ghost use Rattle.file_rules.specs.Directory.{held, dirEnd};
-ghost use Rattle.file_rules.specs.Check.{entryRight, fileRight, fileFault, refusal10, refusal11, judged};
+ghost use Rattle.file_rules.specs.Check.{entryRight, fileRight, fileFault, refusal10, refusal11, diskRefusal};
 ghost use Rattle.file_rules.specs.Calls as Calls;
 ghost use Rattle.files.specs.Laws.Judging.Verdict.{verdictOf};
-ghost use Rattle.files.specs.Laws.Loading.Loaded.{Mapped};
+ghost use Rattle.files.specs.Laws.Loading.Loaded.{MapLoaded};
 ghost use Rattle.files.specs.Laws.Loading.Slots.{Located};
 ghost use Rattle.files.specs.Laws.Judging.Sound.{Tables, mapRefusal};
 use crate::Verdict;
@@ -29,9 +29,9 @@ use crate::header::judge_header;
 use crate::map::count_free;
 use crate::map::load_map;
 use crate::map::map_fault;
-use crate::names::MARKS;
+use crate::names::HASHES;
 use crate::names::NameTally;
-use crate::names::new_first;
+use crate::names::new_by_hash;
 use crate::names::tally_names;
 use crate::parts::file_blocks;
 use crate::parts::parts_right;
@@ -62,10 +62,10 @@ fn entry_right(
 {
     let e = read_entry(image, slot_place(dir, k));
     let length = e.length as usize;
-    let named = e.named as usize;
+    let namelen = e.namelen as usize;
     let name = e.name;
-    if (SLOT_BYTES <= length) & ((1 <= named) & (named <= NAME_MOST)) {
-        if new_first(image, dir, names, k, &name, named) {
+    if (SLOT_BYTES <= length) & ((1 <= namelen) & (namelen <= NAME_MOST)) {
+        if new_by_hash(image, dir, names, k, &name, namelen) {
             return parts_right(map, first, next, k, blocks_of(length));
         }
     }
@@ -115,7 +115,7 @@ fn judged_end(end: usize) -> usize
 
 // The lowest file that is not sound, or the number of slots.
 fn file_fault(image: &[u8], map: &MapNumbers) -> usize
-    requires { ⌜ (length (now image) ≡ imageBytes) × Mapped (now map) (diskOf (now image)) ⌝ }
+    requires { ⌜ (length (now image) ≡ imageBytes) × MapLoaded (now map) (diskOf (now image)) ⌝ }
     ensures { λ r. ⌜ (r ≡ fileFault (diskOf (now (image .entry)))) × (r ≤ slotCount) ⌝ }
 {
     let mut dir = [NO_BLOCK; Geometry::BLOCKS];
@@ -124,7 +124,7 @@ fn file_fault(image: &[u8], map: &MapNumbers) -> usize
     let mut next = [NO_BLOCK; Geometry::BLOCKS];
     load_chains(map, &mut first, &mut next);
     let end = dir_end(image);
-    let mut names = [0u8; MARKS + 1];
+    let mut names = [0u8; HASHES + 1];
     tally_names(image, &dir, judged_end(end), &mut names);
     for f in 0..SLOT_COUNT {
         if !file_right(image, map, &dir, &first, &next, &names, end, f) {
@@ -147,7 +147,7 @@ pub fn judge_map(map: &MapNumbers) -> Verdict
 
 // Refusal 10: the directory.
 fn judge_files(image: &[u8], map: &MapNumbers) -> Verdict
-    requires { ⌜ (length (now image) ≡ imageBytes) × Mapped (now map) (diskOf (now image)) ⌝ }
+    requires { ⌜ (length (now image) ≡ imageBytes) × MapLoaded (now map) (diskOf (now image)) ⌝ }
     ensures { λ r. ⌜ r ≡ verdictOf (refusal10 (diskOf (now (image .entry)))) ⌝ }
 {
     let f = file_fault(image, map);
@@ -159,7 +159,7 @@ fn judge_files(image: &[u8], map: &MapNumbers) -> Verdict
 
 // Refusal 11: the free word.
 pub fn judge_free(image: &[u8], map: &MapNumbers) -> Verdict
-    requires { ⌜ Mapped (now map) (diskOf (now image)) ⌝ }
+    requires { ⌜ MapLoaded (now map) (diskOf (now image)) ⌝ }
     ensures { λ r. ⌜ r ≡ verdictOf (refusal11 (diskOf (now (image .entry)))) ⌝ }
 {
     if head_word(image, 20) == Geometry::BLOCK_SECTORS * count_free(map) {
@@ -170,8 +170,8 @@ pub fn judge_free(image: &[u8], map: &MapNumbers) -> Verdict
 
 // The judgements 8 to 11, in order.
 pub fn judge(image: &[u8], map: &MapNumbers) -> Verdict
-    requires { ⌜ (length (now image) ≡ imageBytes) × Mapped (now map) (diskOf (now image)) ⌝ }
-    ensures { λ r. ⌜ r ≡ verdictOf (judged (diskOf (now (image .entry)))) ⌝ }
+    requires { ⌜ (length (now image) ≡ imageBytes) × MapLoaded (now map) (diskOf (now image)) ⌝ }
+    ensures { λ r. ⌜ r ≡ verdictOf (diskRefusal (diskOf (now (image .entry)))) ⌝ }
 {
     match judge_header(image) {
         Verdict::Refused(r) => return Verdict::Refused(r),

@@ -77,7 +77,7 @@ pub fn read_entry(image: &[u8], at: usize) -> Entry
     Entry {
         name,
         length: fields::high4(image, at),
-        named: fields::high2(image, at + 14),
+        namelen: fields::high2(image, at + 14),
         date: fields::high4(image, at + 52),
     }
 }
@@ -87,12 +87,16 @@ pub fn name_length(image: &[u8], at: usize) -> usize
     requires { ⌜ at ≤ imageBytes ⌝ }
     ensures { λ r. ⌜ r ≡ min (at16 (elementAt (now (image .entry)) at) 14) nameMost ⌝ }
 {
-    let named = fields::high2(image, at + 14) as usize;
-    if named < NAME_MOST { named } else { NAME_MOST }
+    let stored = fields::high2(image, at + 14) as usize;
+    if stored < NAME_MOST {
+        stored
+    } else {
+        NAME_MOST
+    }
 }
 
 // Whether the slot at a place has this name.
-fn named_so(image: &[u8], at: usize, name: &[u8]) -> bool
+fn entry_has_name(image: &[u8], at: usize, name: &[u8]) -> bool
     requires { ⌜ at ≤ imageBytes ⌝ }
     ensures { λ r. ⌜ r ≡ nameEq (nameOf (entryOf (elementAt (now (image .entry)) at))) (now (name .entry)) ⌝ }
 {
@@ -108,11 +112,11 @@ fn named_so(image: &[u8], at: usize, name: &[u8]) -> bool
 }
 
 // Whether slot k is held and has this name; the name is looked at first, since it seldom fits.
-pub fn held_so(image: &[u8], dir: &BlockRow, k: usize, name: &[u8]) -> bool
+pub fn slot_has_name(image: &[u8], dir: &BlockRow, k: usize, name: &[u8]) -> bool
     requires { ⌜ (length (now image) ≡ imageBytes) × (k < slotCount) × Located (now dir) (diskOf (now image)) ⌝ }
     ensures { λ r. ⌜ r ≡ (held (diskOf (now (image .entry))) k && nameEq (slotName (diskOf (now (image .entry))) k) (now (name .entry))) ⌝ }
 {
-    if named_so(image, slot_place(dir, k), name) {
+    if entry_has_name(image, slot_place(dir, k), name) {
         return held_slot(image, dir, k);
     }
     false
@@ -125,7 +129,7 @@ pub fn find_name(image: &[u8], dir: &BlockRow, name: &[u8]) -> usize
 {
     let end = dir_end(image);
     for k in 0..end {
-        if held_so(image, dir, k, name) {
+        if slot_has_name(image, dir, k, name) {
             return k;
         }
     }

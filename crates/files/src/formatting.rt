@@ -9,7 +9,7 @@ ghost use Rattle.file_rules.specs.Disk.{diskOf, imageOf};
 ghost use Rattle.file_rules.specs.Arguments.{argumentsOf};
 ghost use Rattle.file_rules.specs.Calls as Calls;
 ghost use Rattle.file_rules.specs.Calls.{freshOwner, freshHeader, formatDisk};
-ghost use Rattle.files.specs.Laws.Calling.Fresh.{titled, sized, started, mapped};
+ghost use Rattle.files.specs.Laws.Calling.Fresh.{titled, sized, started, withRecords};
 use crate::sizes::MAP_START;
 use crate::sizes::SLOT_BYTES;
 use crate::sizes::TITLE_MOST;
@@ -38,7 +38,7 @@ fn put_title(head: &mut [u8], name: &[u8], number: u16)
 }
 
 // The sizes of the disk kind, and its turn.
-fn put_sizes(head: &mut [u8])
+fn put_dimensions(head: &mut [u8])
     ensures { λ _. ⌜ now (head .exit) ≡ sized (now (head .entry)) ⌝ }
 {
     fields::put_high2(head, 22, Geometry::ALL_SECTORS as u16);
@@ -47,7 +47,7 @@ fn put_sizes(head: &mut [u8])
     fields::put_high2(head, 28, Geometry::TRACK_SECTORS as u16);
     fields::put_high2(head, 30, Geometry::TRACKS as u16);
     fields::put_high2(head, 32, Geometry::BLOCK_SECTORS as u16);
-    fields::put_high2(head, 38, Geometry::TURN as u16);
+    fields::put_high2(head, 38, Geometry::TRACK_OFFSET as u16);
 }
 
 // The two tables, no update yet, all sectors free but those of two blocks, and a directory of one slot.
@@ -73,7 +73,7 @@ fn header_bytes(name: &[u8], number: u16) -> [u8; MAP_START]
 {
     let mut head = [0xFFu8; MAP_START];
     put_title(&mut head, name, number);
-    put_sizes(&mut head);
+    put_dimensions(&mut head);
     put_start(&mut head);
     head
 }
@@ -94,7 +94,7 @@ fn fresh_record(b: usize) -> Record
 // The map of a fresh disk.
 fn write_map(image: &mut [u8])
     requires { ⌜ length (now image) ≡ imageBytes ⌝ }
-    ensures { λ _. ⌜ now (image .exit) ≡ imageOf (mapped (diskOf (now (image .entry))) freshOwner blocks) ⌝ }
+    ensures { λ _. ⌜ now (image .exit) ≡ imageOf (withRecords (diskOf (now (image .entry))) freshOwner blocks) ⌝ }
 {
     for b in 0..Geometry::BLOCKS {
         set_record(image, b, fresh_record(b));

@@ -8,7 +8,7 @@ ghost use Rattle.sector_rules.specs.Faults.{wrongAt};
 ghost use Rattle.sector_rules.specs.Geometry.{sectorBytes};
 ghost use Rattle.file_rules.specs.Disk.{diskOf};
 ghost use Rattle.file_rules.specs.Directory.{dirBytes, dirEnd};
-ghost use Rattle.file_rules.specs.Check.{lengthRight, sizesFault, headerFault, refusal8};
+ghost use Rattle.file_rules.specs.Check.{lengthRight, dimensionsFault, diskHeaderFault, refusal8};
 ghost use Rattle.files.specs.Laws.Judging.Verdict.{verdictOf};
 use crate::Verdict;
 use crate::blocks::block_word2;
@@ -62,8 +62,8 @@ fn word_fault(image: &[u8], o: usize, wanted: usize) -> Fault
 }
 
 // The words that say the disk's sizes.
-fn sizes_fault(image: &[u8]) -> Fault
-    ensures { λ r. ⌜ r ≡ sizesFault (diskOf (now (image .entry))) ⌝ }
+fn dimensions_fault(image: &[u8]) -> Fault
+    ensures { λ r. ⌜ r ≡ dimensionsFault (diskOf (now (image .entry))) ⌝ }
 {
     let block = word_fault(image, 32, Geometry::BLOCK_SECTORS);
     let tracks = word_fault(image, 30, Geometry::TRACKS);
@@ -76,17 +76,17 @@ fn sizes_fault(image: &[u8]) -> Fault
 }
 
 // The lowest wrong field of the header; its fields stand in the first sector of block 0, which is the image's first.
-fn header_fault(image: &[u8]) -> Fault
+fn disk_header_fault(image: &[u8]) -> Fault
     requires { ⌜ sectorBytes ≤ length (now image) ⌝ }
-    ensures { λ r. ⌜ r ≡ headerFault (diskOf (now (image .entry))) ⌝ }
+    ensures { λ r. ⌜ r ≡ diskHeaderFault (diskOf (now (image .entry))) ⌝ }
 {
     let backward = wrong_at(58, fields::stands_at(image, 58, &BACKWARD));
     let table = wrong_at(40, fields::stands_at(image, 40, &SIDE_PLACE));
-    let turn = word_fault(image, 38, Geometry::TURN);
+    let turn = word_fault(image, 38, Geometry::TRACK_OFFSET);
     let directory = wrong_at(34, length_right(image));
     let signature = wrong_at(0, fields::stands_at(image, 0, b"QL5A"));
     let rest = or_fault(directory, or_fault(turn, or_fault(table, backward)));
-    or_fault(signature, or_fault(sizes_fault(image), rest))
+    or_fault(signature, or_fault(dimensions_fault(image), rest))
 }
 
 // Refusal 8.
@@ -94,7 +94,7 @@ pub fn judge_header(image: &[u8]) -> Verdict
     requires { ⌜ sectorBytes ≤ length (now image) ⌝ }
     ensures { λ r. ⌜ r ≡ verdictOf (refusal8 (diskOf (now (image .entry)))) ⌝ }
 {
-    match header_fault(image) {
+    match disk_header_fault(image) {
         Fault::At(o) => Verdict::Refused(refused(8, o)),
         Fault::Sound => Verdict::Passed,
     }

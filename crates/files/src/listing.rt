@@ -11,7 +11,7 @@ ghost use Rattle.file_rules.specs.Disk.{diskOf};
 ghost use Rattle.file_rules.specs.Directory.{held, dirEnd};
 ghost use Rattle.file_rules.specs.Calls as Calls;
 ghost use Rattle.file_rules.specs.Calls.{listSound};
-ghost use Rattle.files.specs.Laws.Loading.Loaded.{Mapped};
+ghost use Rattle.files.specs.Laws.Loading.Loaded.{MapLoaded};
 ghost use Rattle.files.specs.Laws.Loading.Slots.{Located};
 ghost use Rattle.files.specs.Laws.Calling.Delivered.{slotPart};
 use crate::Verdict;
@@ -78,7 +78,7 @@ fn list_slots(image: &[u8], dir: &BlockRow, end: usize, out: &mut [u8])
 
 // Lists a sound disk, or 16.
 fn list_sound(image: &[u8], map: &MapNumbers, out: &mut [u8]) -> Reply
-    requires { ⌜ (length (now image) ≡ imageBytes) × (dirEnd (diskOf (now image)) ≤ slotCount) × Mapped (now map) (diskOf (now image)) ⌝ }
+    requires { ⌜ (length (now image) ≡ imageBytes) × (dirEnd (diskOf (now image)) ≤ slotCount) × MapLoaded (now map) (diskOf (now image)) ⌝ }
     ensures { λ r. ⌜ (r ≡ listSound (diskOf (now (image .entry))) (now (out .entry)) .answer) × (now (out .exit) ≡ listSound (diskOf (now (image .entry))) (now (out .entry)) .buffer) ⌝ }
 {
     let mut dir = [NO_BLOCK; Geometry::BLOCKS];

@@ -7,7 +7,7 @@ ghost use Rattle.sector_rules.specs.Geometry.{blocks};
 ghost use Rattle.file_rules.specs.Disk.{diskOf};
 ghost use Rattle.file_rules.specs.Map.{numberAt, isFree, isPart};
 ghost use Rattle.file_rules.specs.Check.{recordFault};
-ghost use Rattle.files.specs.Laws.Loading.Loaded.{recordIn, mapRecord, Mapped};
+ghost use Rattle.files.specs.Laws.Loading.Loaded.{loadedRecord, mapRecord, MapLoaded};
 use crate::blocks::block_byte;
 use crate::records::is_free;
 use crate::records::is_part;
@@ -41,7 +41,7 @@ fn load_record(image: &[u8], b: usize) -> u32
 // The map's records as numbers: each byte of the map is read from the image once.
 pub fn load_map(image: &[u8], map: &mut MapNumbers)
     requires { ⌜ length (now map) ≡ blocks ⌝ }
-    ensures { λ _. ⌜ Mapped (now (map .exit)) (diskOf (now (image .entry))) ⌝ }
+    ensures { λ _. ⌜ MapLoaded (now (map .exit)) (diskOf (now (image .entry))) ⌝ }
 {
     for b in 0..Geometry::BLOCKS {
         map[b] = load_record(image, b);
@@ -60,7 +60,7 @@ pub fn map_record(map: &MapNumbers, block: BlockNumber) -> MapRecord
 
 // The lowest block whose record may not stand there, or the number of blocks.
 pub fn map_fault(map: &MapNumbers) -> usize
-    ensures { λ r. ⌜ (r ≡ lowest (λ (b : ℕ). recordFault b (recordIn (now (map .entry)) b)) blocks) × (r ≤ blocks) ⌝ }
+    ensures { λ r. ⌜ (r ≡ lowest (λ (b : ℕ). recordFault b (loadedRecord (now (map .entry)) b)) blocks) × (r ≤ blocks) ⌝ }
 {
     for b in 0..Geometry::BLOCKS {
         if record_fault(map_record(map, BlockNumber(b))) {
@@ -72,7 +72,7 @@ pub fn map_fault(map: &MapNumbers) -> usize
 
 // How many records are free.
 pub fn count_free(map: &MapNumbers) -> usize
-    ensures { λ r. ⌜ (r ≡ count blocks (λ (b : ℕ). isFree (recordIn (now (map .entry)) b))) × (r ≤ blocks) ⌝ }
+    ensures { λ r. ⌜ (r ≡ count blocks (λ (b : ℕ). isFree (loadedRecord (now (map .entry)) b))) × (r ≤ blocks) ⌝ }
 {
     let mut n = 0;
     for b in 0..Geometry::BLOCKS {
@@ -87,7 +87,7 @@ pub fn count_free(map: &MapNumbers) -> usize
 
 // The block that is sequence s of file f, the lowest if there are several; the number of blocks if there is none.
 pub fn part_block(map: &MapNumbers, f: usize, s: usize) -> usize
-    ensures { λ r. ⌜ (r ≡ lowest (λ (b : ℕ). isPart f s (recordIn (now (map .entry)) b)) blocks) × (r ≤ blocks) ⌝ }
+    ensures { λ r. ⌜ (r ≡ lowest (λ (b : ℕ). isPart f s (loadedRecord (now (map .entry)) b)) blocks) × (r ≤ blocks) ⌝ }
 {
     for b in 0..Geometry::BLOCKS {
         let m = map_record(map, BlockNumber(b));

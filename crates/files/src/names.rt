@@ -12,19 +12,19 @@ ghost use Rattle.file_rules.specs.Disk.{diskOf};
 ghost use Rattle.file_rules.specs.Directory.{nameEq, nameOf, entryOf, slotName, held, dirEnd};
 ghost use Rattle.files.specs.Laws.Loading.Slots.{Located};
 ghost use Rattle.files.specs.Laws.Loading.Tally.{Tallied};
-ghost use Rattle.files.specs.Laws.Loading.Marks.{markCount, markOf, slotMark, Named};
+ghost use Rattle.files.specs.Laws.Loading.NameHashes.{hashCount, nameHash, slotHash, NamesTallied};
 use crate::directory::held_slot;
-use crate::directory::held_so;
 use crate::directory::name_length;
+use crate::directory::slot_has_name;
 use crate::directory::slot_place;
 use crate::parts::more;
 use crate::sizes::BlockRow;
 
 // How many marks there are; a vacant slot has the next one.
-pub const MARKS: usize = 16384;
+pub const HASHES: usize = 16384;
 
 // How many slots have each mark: none, one, or 2 for more.
-pub type NameTally = [u8; MARKS + 1];
+pub type NameTally = [u8; HASHES + 1];
 
 fn wide(x: u8) -> usize
     ensures { λ r. ⌜ (r ≡ x) × (r < 256) ⌝ }
@@ -33,36 +33,36 @@ fn wide(x: u8) -> usize
 }
 
 // The mark of the name in the slot at a place.
-fn name_mark(image: &[u8], at: usize) -> usize
+fn name_hash(image: &[u8], at: usize) -> usize
     requires { ⌜ at ≤ imageBytes ⌝ }
-    ensures { λ r. ⌜ (r ≡ markOf (nameOf (entryOf (elementAt (now (image .entry)) at)))) × (r < markCount) ⌝ }
+    ensures { λ r. ⌜ (r ≡ nameHash (nameOf (entryOf (elementAt (now (image .entry)) at)))) × (r < hashCount) ⌝ }
 {
     let n = name_length(image, at);
     let mut mark = 0;
     for i in 0..n {
-        mark = (mark * 33 + wide(fields::byte(image, at + 16, i))) % MARKS;
+        mark = (mark * 33 + wide(fields::byte(image, at + 16, i))) % HASHES;
     }
     mark
 }
 
 // The mark of slot k.
-fn slot_mark(image: &[u8], dir: &BlockRow, k: usize) -> usize
+fn slot_hash(image: &[u8], dir: &BlockRow, k: usize) -> usize
     requires { ⌜ (length (now image) ≡ imageBytes) × (k < slotCount) × Located (now dir) (diskOf (now image)) ⌝ }
-    ensures { λ r. ⌜ (r ≡ slotMark (diskOf (now (image .entry))) k) × (r < suc markCount) ⌝ }
+    ensures { λ r. ⌜ (r ≡ slotHash (diskOf (now (image .entry))) k) × (r < suc hashCount) ⌝ }
 {
     if held_slot(image, dir, k) {
-        return name_mark(image, slot_place(dir, k));
+        return name_hash(image, slot_place(dir, k));
     }
-    MARKS
+    HASHES
 }
 
 // Counts the slots below the end by their marks.
 pub fn tally_names(image: &[u8], dir: &BlockRow, end: usize, names: &mut NameTally)
-    requires { ⌜ (length (now image) ≡ imageBytes) × (end ≤ slotCount) × Located (now dir) (diskOf (now image)) × Tallied (now names) (suc markCount) (slotMark (diskOf (now image))) 0 ⌝ }
-    ensures { λ _. ⌜ Tallied (now (names .exit)) (suc markCount) (slotMark (diskOf (now (image .entry)))) end ⌝ }
+    requires { ⌜ (length (now image) ≡ imageBytes) × (end ≤ slotCount) × Located (now dir) (diskOf (now image)) × Tallied (now names) (suc hashCount) (slotHash (diskOf (now image))) 0 ⌝ }
+    ensures { λ _. ⌜ Tallied (now (names .exit)) (suc hashCount) (slotHash (diskOf (now (image .entry)))) end ⌝ }
 {
     for k in 0..end {
-        let mark = slot_mark(image, dir, k);
+        let mark = slot_hash(image, dir, k);
         names[mark] = more(names[mark]);
     }
 }
@@ -73,7 +73,7 @@ fn new_name(image: &[u8], dir: &BlockRow, k: usize, name: &[u8]) -> bool
     ensures { λ r. ⌜ r ≡ all (λ (j : ℕ). not (held (diskOf (now (image .entry))) j && nameEq (slotName (diskOf (now (image .entry))) j) (now (name .entry)))) k ⌝ }
 {
     for j in 0..k {
-        if held_so(image, dir, j, name) {
+        if slot_has_name(image, dir, j, name) {
             return false;
         }
     }
@@ -82,7 +82,7 @@ fn new_name(image: &[u8], dir: &BlockRow, k: usize, name: &[u8]) -> bool
 
 // The same for the first n bytes of a name, which are those of the held slot k: a mark that no other slot has tells
 // at once.
-pub fn new_first(
+pub fn new_by_hash(
     image: &[u8],
     dir: &BlockRow,
     names: &NameTally,
@@ -90,10 +90,10 @@ pub fn new_first(
     name: &[u8],
     n: usize,
 ) -> bool
-    requires { ⌜ (length (now image) ≡ imageBytes) × (k < slotCount) × Located (now dir) (diskOf (now image)) × (n ≤ length (now name)) × Named (now names) (diskOf (now image)) × (take n (now name) ≡ slotName (diskOf (now image)) k) × ((ltb k (dirEnd (diskOf (now image))) && held (diskOf (now image)) k) ≡ true) ⌝ }
+    requires { ⌜ (length (now image) ≡ imageBytes) × (k < slotCount) × Located (now dir) (diskOf (now image)) × (n ≤ length (now name)) × NamesTallied (now names) (diskOf (now image)) × (take n (now name) ≡ slotName (diskOf (now image)) k) × ((ltb k (dirEnd (diskOf (now image))) && held (diskOf (now image)) k) ≡ true) ⌝ }
     ensures { λ r. ⌜ r ≡ all (λ (j : ℕ). not (held (diskOf (now (image .entry))) j && nameEq (slotName (diskOf (now (image .entry))) j) (take n (now (name .entry))))) k ⌝ }
 {
-    let mark = name_mark(image, slot_place(dir, k));
+    let mark = name_hash(image, slot_place(dir, k));
     if names[mark] < 2 {
         return true;
     }

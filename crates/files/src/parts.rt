@@ -6,7 +6,7 @@ ghost use lib.ListN.{getD};
 ghost use Rattle.laws.specs.Below.{all, lowest};
 ghost use Rattle.sector_rules.specs.Geometry.{blocks};
 ghost use Rattle.file_rules.specs.Map.{isPart};
-ghost use Rattle.files.specs.Laws.Loading.Loaded.{recordIn};
+ghost use Rattle.files.specs.Laws.Loading.Loaded.{loadedRecord};
 ghost use Rattle.files.specs.Laws.Loading.Chains.{Chained};
 ghost use Rattle.files.specs.Laws.Loading.Tally as Tally;
 ghost use Rattle.files.specs.Laws.Loading.Tally.{Tallied};
@@ -42,8 +42,8 @@ fn tally_parts(
     n: usize,
     tally: &mut PartTally,
 )
-    requires { ⌜ (n ≤ blocks) × Chained (now first) (now next) (now map) 0 × Tallied (now tally) (suc blocks) (λ (b : ℕ). partOf f n (recordIn (now map) b)) 0 ⌝ }
-    ensures { λ _. ⌜ Tallied (now (tally .exit)) (suc blocks) (λ (b : ℕ). partOf f n (recordIn (now (map .entry)) b)) blocks ⌝ }
+    requires { ⌜ (n ≤ blocks) × Chained (now first) (now next) (now map) 0 × Tallied (now tally) (suc blocks) (λ (b : ℕ). partOf f n (loadedRecord (now map) b)) 0 ⌝ }
+    ensures { λ _. ⌜ Tallied (now (tally .exit)) (suc blocks) (λ (b : ℕ). partOf f n (loadedRecord (now (map .entry)) b)) blocks ⌝ }
 {
     let mut b = first_block(first, f);
     while b < Geometry::BLOCKS {
@@ -110,7 +110,7 @@ pub fn file_blocks(map: &MapNumbers, f: usize, row: &mut BlockRow)
 // The block that is sequence s of file f, from its blocks; a sequence that no row has is looked for in the map.
 pub fn nth_block(map: &MapNumbers, row: &BlockRow, f: usize, s: usize) -> usize
     requires { ⌜ PartsAt (now row) (now map) f ⌝ }
-    ensures { λ r. ⌜ r ≡ lowest (λ (b : ℕ). isPart f s (recordIn (now (map .entry)) b)) blocks ⌝ }
+    ensures { λ r. ⌜ r ≡ lowest (λ (b : ℕ). isPart f s (loadedRecord (now (map .entry)) b)) blocks ⌝ }
 {
     if s < Geometry::BLOCKS {
         return block_number(row[s]);

@@ -10,7 +10,7 @@ ghost use Rattle.file_rules.specs.Map.{fileByte};
 ghost use Rattle.file_rules.specs.Directory.{nameRight, slotEntry, dirEnd};
 ghost use Rattle.file_rules.specs.Calls as Calls;
 ghost use Rattle.file_rules.specs.Calls.{readSound};
-ghost use Rattle.files.specs.Laws.Loading.Loaded.{Mapped};
+ghost use Rattle.files.specs.Laws.Loading.Loaded.{MapLoaded};
 ghost use Rattle.files.specs.Laws.Loading.Slots.{Located};
 use crate::Verdict;
 use crate::blocks::byte_place;
@@ -93,7 +93,7 @@ fn part_length(o: usize, n: usize) -> usize
 
 // Copies n bytes of the file in slot k, those after its first 64, to the buffer, block by block.
 fn copy_data(image: &[u8], map: &MapNumbers, k: usize, n: usize, out: &mut [u8])
-    requires { ⌜ (length (now image) ≡ imageBytes) × Mapped (now map) (diskOf (now image)) × (n < 2 ^ 32) × (n ≤ length (now out)) ⌝ }
+    requires { ⌜ (length (now image) ≡ imageBytes) × MapLoaded (now map) (diskOf (now image)) × (n < 2 ^ 32) × (n ≤ length (now out)) ⌝ }
     ensures { λ _. ⌜ now (out .exit) ≡ overlay (now (out .entry)) 0 n (λ (i : ℕ). fileByte (diskOf (now (image .entry))) k (slotBytes + i)) ⌝ }
 {
     let mut row = [NO_BLOCK; Geometry::BLOCKS];
@@ -110,7 +110,7 @@ fn copy_data(image: &[u8], map: &MapNumbers, k: usize, n: usize, out: &mut [u8])
 
 // Reads the file in slot k, or 16.
 fn read_slot(image: &[u8], map: &MapNumbers, dir: &BlockRow, k: usize, out: &mut [u8]) -> Reply
-    requires { ⌜ (length (now image) ≡ imageBytes) × (k < slotCount) × Mapped (now map) (diskOf (now image)) × Located (now dir) (diskOf (now image)) ⌝ }
+    requires { ⌜ (length (now image) ≡ imageBytes) × (k < slotCount) × MapLoaded (now map) (diskOf (now image)) × Located (now dir) (diskOf (now image)) ⌝ }
     ensures { λ r. ⌜ (r ≡ Calls.deliver (Calls.dataOf (diskOf (now (image .entry))) k) (now (out .entry)) .answer) × (now (out .exit) ≡ Calls.deliver (Calls.dataOf (diskOf (now (image .entry))) k) (now (out .entry)) .buffer) ⌝ }
 {
     let needed = data_length(image, dir, k);
@@ -123,7 +123,7 @@ fn read_slot(image: &[u8], map: &MapNumbers, dir: &BlockRow, k: usize, out: &mut
 
 // Reads a file of a sound disk, or 12, 14 or 16.
 fn read_sound(image: &[u8], map: &MapNumbers, name: &[u8], out: &mut [u8]) -> Reply
-    requires { ⌜ (length (now image) ≡ imageBytes) × (dirEnd (diskOf (now image)) ≤ slotCount) × Mapped (now map) (diskOf (now image)) ⌝ }
+    requires { ⌜ (length (now image) ≡ imageBytes) × (dirEnd (diskOf (now image)) ≤ slotCount) × MapLoaded (now map) (diskOf (now image)) ⌝ }
     ensures { λ r. ⌜ (r ≡ readSound (diskOf (now (image .entry))) (now (name .entry)) (now (out .entry)) .answer) × (now (out .exit) ≡ readSound (diskOf (now (image .entry))) (now (name .entry)) (now (out .entry)) .buffer) ⌝ }
 {
     if !name_right(name) {

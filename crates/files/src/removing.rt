@@ -2,11 +2,11 @@
 ghost use mathlib.Core.Path.{_≡_};
 ghost use mathlib.Core.Option.{none};
 ghost use Rattle.file_rules.specs.Disk.{diskOf, imageOf};
-ghost use Rattle.file_rules.specs.Check.{judged};
+ghost use Rattle.file_rules.specs.Check.{diskRefusal};
 ghost use Rattle.file_rules.specs.Calls as Calls;
 ghost use Rattle.file_rules.specs.Calls.{removeAt, removeSound};
 ghost use Rattle.files.specs.Laws.Writing.InStep.{InStep};
-ghost use Rattle.files.specs.Laws.Calling.Judged.{Gave};
+ghost use Rattle.files.specs.Laws.Calling.SoundDisk.{Gave};
 use crate::Verdict;
 use crate::checking::judge;
 use crate::directory::find_name;
@@ -17,7 +17,7 @@ use crate::reading::name_right;
 use crate::sizes::MapNumbers;
 use crate::sizes::NO_BLOCK;
 use crate::steps::free_blocks;
-use crate::steps::settle;
+use crate::steps::update_counts;
 use crate::steps::zero_slot;
 use sector_rules::Reply;
 use sectors::Geometry;
@@ -31,12 +31,12 @@ fn remove_at(image: &mut [u8], map: &mut MapNumbers, k: usize)
 {
     free_blocks(image, map, k);
     zero_slot(image, map, k);
-    settle(image, map);
+    update_counts(image, map);
 }
 
 // Removes a file from a sound disk, or 12 or 14.
 fn remove_sound(image: &mut [u8], map: &mut MapNumbers, name: &[u8]) -> Reply
-    requires { ⌜ InStep (now map) (now image) × (judged (diskOf (now image)) ≡ none) ⌝ }
+    requires { ⌜ InStep (now map) (now image) × (diskRefusal (diskOf (now image)) ≡ none) ⌝ }
     ensures { λ r. ⌜ Gave (removeSound (diskOf (now (image .entry))) (now (name .entry))) r (now (image .exit)) ⌝ }
 {
     if !name_right(name) {

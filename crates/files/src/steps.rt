@@ -11,7 +11,7 @@ ghost use Rattle.file_rules.specs.Directory.{entryByte};
 ghost use Rattle.file_rules.specs.Written.{part, zeros, setBlock, setRecord, setSlot, setFree, setEnd, stepUpdate, freeBlock, freeBlocks};
 ghost use Rattle.file_rules.specs.declared.Record.the-variants.{File};
 ghost use Rattle.files.specs.Laws.Writing.Given.{given, giveLowest};
-ghost use Rattle.files.specs.Laws.Writing.Steps.{Packs, storedRow};
+ghost use Rattle.files.specs.Laws.Writing.Steps.{FitsRecord, storedRow};
 ghost use Rattle.files.specs.Laws.Writing.Stored.{patched};
 ghost use Rattle.files.specs.Laws.Writing.InStep.{InStep};
 use crate::blocks::block_word4;
@@ -40,7 +40,7 @@ use sectors::Geometry;
 
 // The record of block b.
 pub fn set_record(image: &mut [u8], b: usize, r: Record)
-    requires { ⌜ (length (now image) ≡ imageBytes) × (b < blocks) × Packs r ⌝ }
+    requires { ⌜ (length (now image) ≡ imageBytes) × (b < blocks) × FitsRecord r ⌝ }
     ensures { λ _. ⌜ now (image .exit) ≡ imageOf (setRecord (diskOf (now (image .entry))) b r) ⌝ }
 {
     let bytes = record_bytes(r);
@@ -49,7 +49,7 @@ pub fn set_record(image: &mut [u8], b: usize, r: Record)
 
 // The record of block b, in the image and in the loaded map.
 fn place_record(image: &mut [u8], map: &mut MapNumbers, b: usize, r: Record)
-    requires { ⌜ InStep (now map) (now image) × (0 < b) × (b < blocks) × Packs r ⌝ }
+    requires { ⌜ InStep (now map) (now image) × (0 < b) × (b < blocks) × FitsRecord r ⌝ }
     ensures { λ _. ⌜ (now (image .exit) ≡ imageOf (setRecord (diskOf (now (image .entry))) b r)) × (now (map .exit) ≡ set (now (map .entry)) b (numberOf r)) × InStep (now (map .exit)) (now (image .exit)) ⌝ }
 {
     set_record(image, b, r);
@@ -71,7 +71,7 @@ pub fn entry_bytes(e: Entry) -> [u8; SLOT_BYTES]
     let name = e.name;
     let mut row = [0u8; SLOT_BYTES];
     fields::put_high4(&mut row, 0, e.length);
-    fields::put_high2(&mut row, 14, e.named);
+    fields::put_high2(&mut row, 14, e.namelen);
     fields::copy_into(&mut row, 16, &name);
     fields::put_high4(&mut row, 52, e.date);
     row
@@ -159,7 +159,7 @@ fn set_free(image: &mut [u8], map: &MapNumbers)
 }
 
 // What every accepted add and remove ends with: the free word, then the update count.
-pub fn settle(image: &mut [u8], map: &MapNumbers)
+pub fn update_counts(image: &mut [u8], map: &MapNumbers)
     requires { ⌜ InStep (now map) (now image) ⌝ }
     ensures { λ _. ⌜ now (image .exit) ≡ imageOf (stepUpdate (setFree (diskOf (now (image .entry))))) ⌝ }
 {

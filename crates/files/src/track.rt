@@ -8,7 +8,7 @@ ghost use Rattle.file_rules.specs.Disk.{diskOf};
 ghost use Rattle.file_rules.specs.Check.{refusal8, refusal9, refusal11};
 ghost use Rattle.file_rules.specs.FirstTrack as Tracks;
 ghost use Rattle.files.specs.Laws.Judging.Verdict.{verdictOf};
-ghost use Rattle.files.specs.Laws.Loading.Loaded.{Mapped};
+ghost use Rattle.files.specs.Laws.Loading.Loaded.{MapLoaded};
 use crate::Verdict;
 use crate::checking::judge_free;
 use crate::checking::judge_map;
@@ -38,7 +38,7 @@ fn refused_track(reply: Reply) -> FirstTrack
 
 // The free word, the good word, and the records that are not free.
 fn counted_track(track: &[u8], map: &MapNumbers) -> FirstTrack
-    requires { ⌜ Mapped (now map) (diskOf (now track)) ⌝ }
+    requires { ⌜ MapLoaded (now map) (diskOf (now track)) ⌝ }
     ensures { λ r. ⌜ r ≡ Tracks.counted (diskOf (now (track .entry))) ⌝ }
 {
     let free = count_free(map);
@@ -52,7 +52,7 @@ fn counted_track(track: &[u8], map: &MapNumbers) -> FirstTrack
 
 // The judgements 8, 9 and 11, in order.
 fn judge_track(track: &[u8], map: &MapNumbers) -> Verdict
-    requires { ⌜ (sectorBytes ≤ length (now track)) × Mapped (now map) (diskOf (now track)) ⌝ }
+    requires { ⌜ (sectorBytes ≤ length (now track)) × MapLoaded (now map) (diskOf (now track)) ⌝ }
     ensures { λ r. ⌜ r ≡ verdictOf (orElse (refusal8 (diskOf (now (track .entry)))) (orElse (refusal9 (diskOf (now (track .entry)))) (refusal11 (diskOf (now (track .entry)))))) ⌝ }
 {
     match judge_header(track) {

@@ -35,5 +35,5 @@ unfoldable pub at32 : (ℕ → ℕ) → ℕ → ℕ
 at32 f o = bigEndian (λ (i : ℕ). f (o + i)) 4
 
 -- n / d rounded up
-unfoldable pub up : ℕ → ℕ → ℕ
-up n d = (n + (d - 1)) / d
+unfoldable pub quotientUp : ℕ → ℕ → ℕ
+quotientUp n d = (n + (d - 1)) / d

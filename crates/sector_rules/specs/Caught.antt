@@ -12,7 +12,7 @@ use Rattle.cells.specs.Crc.{crcFollows}
 use Rattle.cells.specs.Damage.{dataBit, bitsByte, burstBits, longestRow, Detectable}
 use Rattle.cells.specs.Laws.Caught.{cells-burst}
 use Rattle.sector_rules.specs.declared.Found.the-variants.{One}
-use Rattle.sector_rules.specs.declared.Sector.the-variants.{Delivered, Fieldless, Damaged}
+use Rattle.sector_rules.specs.declared.Sector.the-variants.{Delivered, NoField, Damaged}
 use Rattle.sector_rules.specs.declared.Reply.{Reply}
 use Rattle.sector_rules.specs.Geometry.{allSectors, imageBytes}
 use Rattle.sector_rules.specs.Search.{crcHolds, dataMark, fieldCells, isHeader, idOf, findSector, fieldAt, sectorOf}
@@ -38,10 +38,10 @@ pub crc-counted : (f : List ℕ) (n : ℕ) → crcHolds f n ≡ crcFollows (bits
 crc-counted f n = holds-bits f n
 
 -- field-caught: of a field that was delivered the data bits differ detectably, and bit k is wrong.
--- Judged at its place it is Damaged (7) where its mark reads FB, and Fieldless (6) where not; never is it delivered
+-- Judged at its place it is Damaged (7) where its mark reads FB, and NoField (6) where not; never is it delivered
 pub field-caught : (c d : List ℕ) → Binary c → Binary d → length c ≡ length d → (j p : ℕ) → fieldAt c j ≡ Delivered p
     → Detectable (dataBit (from c j)) (dataBit (from d j)) fieldBits → (k : ℕ) → k < fieldBits → dataBit (from c j) k ≢ dataBit (from d j) k
-    → fieldAt d j ≡ cond (eqb (dataByte (from d j) 48) dataMark) Damaged Fieldless
+    → fieldAt d j ≡ cond (eqb (dataByte (from d j) 48) dataMark) Damaged NoField
 field-caught c d bc bd long j p e differ k h wrong = field-refused c d bc bd j differ p k e long h wrong
 
 -- burst-refused: the same where the changed cells of the field lie among 32 neighbouring ones, clock cells counted
@@ -49,7 +49,7 @@ pub burst-refused : (c d : List ℕ) → Binary c → Binary d → length c ≡ 
     → ((k : ℕ) → k < fieldCells → k < a → getD (from c j) k 0 ≡ getD (from d j) k 0)
     → ((k : ℕ) → k < fieldCells → a + 2 * burstBits ≤ k → getD (from c j) k 0 ≡ getD (from d j) k 0)
     → (k : ℕ) → k < fieldBits → dataBit (from c j) k ≢ dataBit (from d j) k
-    → fieldAt d j ≡ cond (eqb (dataByte (from d j) 48) dataMark) Damaged Fieldless
+    → fieldAt d j ≡ cond (eqb (dataByte (from d j) 48) dataMark) Damaged NoField
 burst-refused c d bc bd long j p a e before after k h wrong =
     field-caught c d bc bd long j p e (cells-burst (from c j) (from d j) a fieldBits before after) k h wrong
 

@@ -12,7 +12,7 @@ use Rattle.cells.specs.Damage.{dataBit, burstBits, Detectable}
 use Rattle.sector_rules.specs.declared.Found.the-variants.{One}
 use Rattle.sector_rules.specs.declared.Sector.the-variants.{Delivered}
 use Rattle.sector_rules.specs.Geometry.{tracks, sides, allSectors}
-use Rattle.sector_rules.specs.Search.{headerCells, fieldCells, gapCells, isHeader, findSector, fieldAt, bytesOf}
+use Rattle.sector_rules.specs.Search.{headerCells, fieldCells, gapCells, isHeader, findSector, fieldAt, deliveredBytes}
 use Rattle.sector_rules.specs.Hfe.{sideStream}
 use Rattle.sector_rules.specs.Unpacked.{trackOf, sideOf, rOf, sectorAt}
 
@@ -39,7 +39,7 @@ pub record FieldDamage (c d : List ℕ) (i j : ℕ) : Type 0 where
 -- the field at place j has the same data bits on both sides, and the same 512 bytes
 pub record SameField (c d : List ℕ) (j : ℕ) : Type 0 where
   pub bits : (k : ℕ) → k < fieldBits → dataBit (from c j) k ≡ dataBit (from d j) k
-  pub bytes : bytesOf c (Delivered (j + 64)) ≡ bytesOf d (Delivered (j + 64))
+  pub bytes : deliveredBytes c (Delivered (j + 64)) ≡ deliveredBytes d (Delivered (j + 64))
 
 -- the side of the track that image sector m is on
 abbrev pub sideWith : List ℕ → ℕ → List ℕ

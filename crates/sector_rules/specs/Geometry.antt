@@ -25,8 +25,8 @@ abbrev pub blockSectors : ℕ
 blockSectors = 3
 
 -- how far a track is turned against the one before it: 5t mod 9
-abbrev pub turn : ℕ
-turn = 5
+abbrev pub trackOffset : ℕ
+trackOffset = 5
 
 -- what follows from them: 18, 1440, 480, 737,280
 abbrev pub trackSectors : ℕ
@@ -57,7 +57,7 @@ running b s = blockSectors * b + s
 
 -- the image sector of a table entry on track t: side 1 comes after side 0, and the place is turned
 abbrev pub onTrack : ℕ → ℕ → ℕ
-onTrack t mark = trackSectors * t + sectors * (mark / 128) + (mark % 128 + turn * t) % sectors
+onTrack t mark = trackSectors * t + sectors * (mark / 128) + (mark % 128 + trackOffset * t) % sectors
 
 -- the image sector of a running sector number
 unfoldable pub imageSector : ℕ → ℕ
@@ -67,8 +67,8 @@ imageSector n = onTrack (n / trackSectors) (getD sidePlace (n % trackSectors) 0)
 unfoldable pub runningSector : ℕ → ℕ
 runningSector m =
     trackSectors * (m / trackSectors)
-    + getD backward (sectors * (m % trackSectors / sectors) + (m % sectors + (sectors - turn) * (m / trackSectors)) % sectors) 0
+    + getD backward (sectors * (m % trackSectors / sectors) + (m % sectors + (sectors - trackOffset) * (m / trackSectors)) % sectors) 0
 
 -- the placement call: the image sector of sector s of block b, or 12 where either is out of range
-abbrev pub placed : ℕ → ℕ → Reply
-placed b s = cond (ltb b blocks && ltb s blockSectors) (reply 0 (imageSector (running b s)) 0 0) (refusal 12)
+abbrev pub placeReply : ℕ → ℕ → Reply
+placeReply b s = cond (ltb b blocks && ltb s blockSectors) (reply 0 (imageSector (running b s)) 0 0) (refusal 12)

@@ -18,12 +18,12 @@ use Rattle.sector_rules.specs.declared.Fault.{Fault}
 use Rattle.sector_rules.specs.declared.Fault.the-variants.{At, Sound}
 use Rattle.sector_rules.specs.declared.Reply.{Reply}
 use Rattle.sector_rules.specs.declared.Sector.{Sector}
-use Rattle.sector_rules.specs.declared.Sector.the-variants.{Delivered, Missing, Repeated, Fieldless, Damaged}
+use Rattle.sector_rules.specs.declared.Sector.the-variants.{Delivered, Missing, Repeated, NoField, Damaged}
 use Rattle.sector_rules.specs.Faults.{refusalAt}
 use Rattle.sector_rules.specs.Geometry.{allSectors, imageBytes}
-use Rattle.sector_rules.specs.Hfe.{signature, formatFault, flagFault, headerFault, tableFault}
+use Rattle.sector_rules.specs.Hfe.{hfeSignature, formatFault, flagFault, hfeHeaderFault, tableFault}
 use Rattle.sector_rules.specs.Laws.Base.Packed.{hfe-header, pack-done, hfe-after}
-use Rattle.sector_rules.specs.Packed.{hfeBytes, headerRest, headerByte, hfeByte, packHfe}
+use Rattle.sector_rules.specs.Packed.{hfeBytes, hfeHeaderRest, hfeHeaderByte, hfeByte, packHfe}
 use Rattle.sector_rules.specs.Replies.{done, unless}
 use Rattle.sector_rules.specs.Unpacked.{sectorAt, sectorReply, firstBad, sectorsReply, unpackReply}
 
@@ -101,7 +101,7 @@ module _ (h : List ℕ) where
   by-sector m (Delivered p) = refl
   by-sector m Missing = refl
   by-sector m Repeated = refl
-  by-sector m Fieldless = refl
+  by-sector m NoField = refl
   by-sector m Damaged = refl
 
   by-sectors : placeNamed 2 26 (sectorsReply h) ≡ 26
@@ -118,27 +118,27 @@ module _ (h : List ℕ) where
   by-fault Sound Sound = by-sectors
 
   -- 2 names the lowest wrong field of the header
-  named-is : 1024 ≤ length h → placeNamed 2 26 (unpackReply h imageBytes) ≡ faultPlace (headerFault h)
+  named-is : 1024 ≤ length h → placeNamed 2 26 (unpackReply h imageBytes) ≡ faultPlace (hfeHeaderFault h)
   unfolding unpackReply
-  named-is long = ap (placeNamed 2 26) (cond-false _ _ (lt-false long)) ∙ by-fault (headerFault h) (tableFault h)
+  named-is long = ap (placeNamed 2 26) (cond-false _ _ (lt-false long)) ∙ by-fault (hfeHeaderFault h) (tableFault h)
 
 -- two images with the same 26 bytes are judged alike
 module _ (g h : List ℕ) (lg : 26 ≤ length g) (lh : 26 ≤ length h) (e : (k : ℕ) → k < 26 → getD g k 0 ≡ getD h k 0) where
-  stands-alike : standsAt g 0 signature ≡ standsAt h 0 signature
-  unfolding standsAt bytesAre signature
+  stands-alike : standsAt g 0 hfeSignature ≡ standsAt h 0 hfeSignature
+  unfolding standsAt bytesAre hfeSignature
   stands-alike =
       let lt : leb 8 (length g) ≡ true = le-true {a = 8} {b = length g} (omega arith) in
       let lu : leb 8 (length h) ≡ true = le-true {a = 8} {b = length h} (omega arith) in
       rw (lt, lu, tab-ext (λ (i : ℕ). getD g (0 + i) 0) (λ (i : ℕ). getD h (0 + i) 0) 8 (λ k l. e (0 + k) (omega arith)))
 
-  judged-alike : headerFault g ≡ headerFault h
-  unfolding headerFault formatFault flagFault lowFirst
+  judged-alike : hfeHeaderFault g ≡ hfeHeaderFault h
+  unfolding hfeHeaderFault formatFault flagFault lowFirst
   judged-alike =
       rw (stands-alike, e 8 (lit< tt), e 9 (lit< tt), e 10 (lit< tt), e 11 (lit< tt), e 12 (lit< tt), e 13 (lit< tt))
       (rw (e 18 (lit< tt), e 19 (lit< tt), e 22 (lit< tt), e 23 (lit< tt), e 24 (lit< tt), e 25 (lit< tt)))
 
 module _ (rest : List ℕ) (long : 998 ≤ length rest) where
-  begins : (start : List ℕ) → length start ≡ 26 → named start rest ≡ faultPlace (headerFault start)
+  begins : (start : List ℕ) → length start ≡ 26 → named start rest ≡ faultPlace (hfeHeaderFault start)
   unfolding named
   begins start n =
       let l : length (start ++ rest) ≡ 26 + length rest = rw (length-append start rest, n) in
@@ -146,15 +146,15 @@ module _ (rest : List ℕ) (long : 998 ≤ length rest) where
       ∙ ap faultPlace (judged-alike (start ++ rest) start (omega arith) (omega arith) (λ k h. List·getD-append start rest 0 k (omega arith)))
 
   rows : (start : ℕ → List ℕ) → ((o : ℕ) → o < 26 → length (start o) ≡ 26)
-      → tab (λ (o : ℕ). named (start o) rest) 26 ≡ tab (λ (o : ℕ). faultPlace (headerFault (start o))) 26
+      → tab (λ (o : ℕ). named (start o) rest) 26 ≡ tab (λ (o : ℕ). faultPlace (hfeHeaderFault (start o))) 26
   rows start n = tab-ext _ _ 26 (λ o l. begins (start o) (n o l))
 
 packed-is : (image hfe : List ℕ) → length image ≡ imageBytes → length hfe ≡ hfeBytes → take 512 (packHfe image hfe) ≡ hfeHeader ++ replicate 486 0xFF
-unfolding tab headerByte headerRest signature lowByte hfeHeader
+unfolding tab hfeHeaderByte hfeHeaderRest hfeSignature lowByte hfeHeader
 packed-is image hfe li lh =
     ap (take 512) (hfe-after image hfe done (pack-done (length image) (length hfe) lh li))
     ∙ take-tab (hfeByte image) 512 hfeBytes (omega arith)
-    ∙ tab-ext (hfeByte image) headerByte 512 (hfe-header image)
+    ∙ tab-ext (hfeByte image) hfeHeaderByte 512 (hfe-header image)
     ∙ refl
 
 header-length : length hfeHeader ≡ 26
@@ -162,7 +162,7 @@ unfolding hfeHeader
 header-length = refl
 
 pub hfe-header-values : HfeHeaderValues
-unfolding tab headerFault formatFault flagFault signature hfeHeader changedAt changedFrom oneMore oneLess lowFirst standsAt bytesAre same
+unfolding tab hfeHeaderFault formatFault flagFault hfeSignature hfeHeader changedAt changedFrom oneMore oneLess lowFirst standsAt bytesAre same
 hfe-header-values =
     record {
       packed-header = packed-is;

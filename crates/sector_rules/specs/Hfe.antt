@@ -6,7 +6,7 @@ use Prim.Native.Nat.{ℕ, _+_, _*_, _%_}
 use lib.Dec.{leb, ltb, eqb}
 use lib.ListN.{length, getD, take, drop}
 use Rattle.laws.specs.Lists.{standsAt}
-use Rattle.laws.specs.Numbers.{up, lowFirst}
+use Rattle.laws.specs.Numbers.{quotientUp, lowFirst}
 use Rattle.cells.specs.Stream.{stream, hfeSide}
 use Rattle.sector_rules.specs.declared.Fault.{Fault}
 use Rattle.sector_rules.specs.Faults.{wrongAt, orFault, lowestFault}
@@ -15,8 +15,8 @@ use Rattle.sector_rules.specs.Geometry.{tracks, sides}
 -- ---- the header
 
 -- bytes 0 to 7: HXCPICFE
-unfoldable pub signature : List ℕ
-signature = 0x48 ∷ 0x58 ∷ 0x43 ∷ 0x50 ∷ 0x49 ∷ 0x43 ∷ 0x46 ∷ 0x45 ∷ []
+unfoldable pub hfeSignature : List ℕ
+hfeSignature = 0x48 ∷ 0x58 ∷ 0x43 ∷ 0x50 ∷ 0x49 ∷ 0x43 ∷ 0x46 ∷ 0x45 ∷ []
 
 -- byte o
 abbrev pub byteAt : List ℕ → ℕ → ℕ
@@ -43,9 +43,9 @@ unfoldable pub flagFault : List ℕ → ℕ → Fault
 flagFault h o = orFault (wrongAt o (flagRight h o)) (wrongAt (o + 1) (afterFlagRight h o))
 
 -- the lowest wrong field: signature, format, table offset of at least 1, flags
-unfoldable pub headerFault : List ℕ → Fault
-headerFault h =
-    orFault (wrongAt 0 (standsAt h 0 signature))
+unfoldable pub hfeHeaderFault : List ℕ → Fault
+hfeHeaderFault h =
+    orFault (wrongAt 0 (standsAt h 0 hfeSignature))
     (orFault (formatFault h)
     (orFault (wrongAt 18 (leb 1 (lowFirst h 18 2)))
     (orFault (flagFault h 22) (flagFault h 24))))
@@ -69,14 +69,14 @@ unfoldable pub trackLength : List ℕ → ℕ → ℕ
 trackLength h t = lowFirst h (entryPlace h t + 2) 2
 
 -- the bytes of its units, rounded up
-unfoldable pub trackBytes : List ℕ → ℕ → ℕ
-trackBytes h t = unitBytes * up (trackLength h t) unitBytes
+unfoldable pub trackUnitBytes : List ℕ → ℕ → ℕ
+trackUnitBytes h t = unitBytes * quotientUp (trackLength h t) unitBytes
 
 -- an entry is good if it is wholly within the image, the length is even and not 0, and the track's units end within the image
 unfoldable pub trackGood : List ℕ → ℕ → Bool
 trackGood h t =
     leb (entryPlace h t + 4) (length h) && eqb (trackLength h t % 2) 0 && ltb 0 (trackLength h t)
-    && leb (trackStart h t + trackBytes h t) (length h)
+    && leb (trackStart h t + trackUnitBytes h t) (length h)
 
 -- the lowest track whose entry is not good
 unfoldable pub tableFault : List ℕ → Fault
@@ -86,7 +86,7 @@ tableFault h = lowestFault (λ (t : ℕ). not (trackGood h t)) tracks
 
 -- the part of the image that begins at the track's offset
 unfoldable pub trackPart : List ℕ → ℕ → List ℕ
-trackPart h t = take (trackBytes h t) (drop (trackStart h t) h)
+trackPart h t = take (trackUnitBytes h t) (drop (trackStart h t) h)
 
 -- the stream of a side of a track
 unfoldable pub sideStream : List ℕ → ℕ → ℕ → List ℕ

@@ -16,7 +16,7 @@ use Rattle.sector_rules.specs.declared.Reply.{Reply}
 use Rattle.sector_rules.specs.Replies.{done, wrongHfe, wrongLength}
 use Rattle.sector_rules.specs.Geometry.{tracks, sides, sectors, trackSectors, sectorBytes, imageBytes}
 use Rattle.sector_rules.specs.Search.{headerMark, dataMark, sizeCode}
-use Rattle.sector_rules.specs.Hfe.{signature, unitBytes}
+use Rattle.sector_rules.specs.Hfe.{hfeSignature, unitBytes}
 
 -- ---- a side
 
@@ -29,8 +29,8 @@ abbrev pub each : Item → ℕ → Item
 each a q = a
 
 -- the bytes of a list
-abbrev pub row : List ℕ → ℕ → Item
-row xs q = Plain (getD xs q 0)
+abbrev pub plainItems : List ℕ → ℕ → Item
+plainItems xs q = Plain (getD xs q 0)
 
 -- the CRC over the three A1, the mark and what follows
 unfoldable pub fieldCrc : List ℕ → ℕ
@@ -60,11 +60,11 @@ unfoldable pub sectorItem : ℕ → ℕ → ℕ → List ℕ → ℕ → Item
 sectorItem t s r d =
     span 12 (each (Plain 0))
     (span 3 (each Sync)
-    (span headerItems (row (withCrc (headerRow t s r)))
+    (span headerItems (plainItems (withCrc (headerRow t s r)))
     (span 22 (each (Plain gapByte))
     (span 12 (each (Plain 0))
     (span 3 (each Sync)
-    (span fieldItems (row (withCrc (dataMark ∷ d)))
+    (span fieldItems (plainItems (withCrc (dataMark ∷ d)))
     (each (Plain gapByte))))))))
 
 -- a sector has 59 of them before its data field, and 658 in all, so that 84 of 4E are its last
@@ -130,22 +130,22 @@ fillByte = 0xFF
 
 -- signature, revision 0, 80 tracks, 2 sides, encoding 0, rate 250, rpm 300, mode 07, FF, table offset 1; the rest is FF,
 -- write-allowed and single-step among it
-unfoldable pub headerRest : List ℕ
-headerRest = 0 ∷ tracks ∷ sides ∷ 0 ∷ lowByte 250 0 ∷ lowByte 250 1 ∷ lowByte 300 0 ∷ lowByte 300 1 ∷ 7 ∷ fillByte ∷ lowByte 1 0 ∷ lowByte 1 1 ∷ []
+unfoldable pub hfeHeaderRest : List ℕ
+hfeHeaderRest = 0 ∷ tracks ∷ sides ∷ 0 ∷ lowByte 250 0 ∷ lowByte 250 1 ∷ lowByte 300 0 ∷ lowByte 300 1 ∷ 7 ∷ fillByte ∷ lowByte 1 0 ∷ lowByte 1 1 ∷ []
 
-unfoldable pub headerByte : ℕ → ℕ
-headerByte k = getD (signature ++ headerRest) k fillByte
+unfoldable pub hfeHeaderByte : ℕ → ℕ
+hfeHeaderByte k = getD (hfeSignature ++ hfeHeaderRest) k fillByte
 
 -- byte j of the table: track t at unit 2 + 49t, length 25,000, lowest byte first; the rest is FF
-unfoldable pub tableByte : ℕ → ℕ
-tableByte j =
+unfoldable pub hfeTableByte : ℕ → ℕ
+hfeTableByte j =
     cond (ltb j (4 * tracks))
     (cond (ltb (j % 4) 2) (lowByte (firstUnit + trackUnits * (j / 4)) (j % 4)) (lowByte writtenLength (j % 4 - 2)))
     fillByte
 
 -- byte o of a track's units: 256 bytes of side 0, then 256 of side 1; the unused ends are FF
-unfoldable pub trackByte : List ℕ → ℕ → ℕ → ℕ
-trackByte image t o =
+unfoldable pub hfeTrackByte : List ℕ → ℕ → ℕ → ℕ
+hfeTrackByte image t o =
     cond (ltb (256 * (o / unitBytes) + o % 256) sideBytes)
     (packed (writtenCell (imageSide image t (o % unitBytes / 256))) (256 * (o / unitBytes) + o % 256))
     fillByte
@@ -153,9 +153,9 @@ trackByte image t o =
 -- byte k of the written image
 unfoldable pub hfeByte : List ℕ → ℕ → ℕ
 hfeByte image k =
-    cond (ltb k unitBytes) (headerByte k)
-    (cond (ltb k (firstUnit * unitBytes)) (tableByte (k - unitBytes))
-    (trackByte image ((k - firstUnit * unitBytes) / (trackUnits * unitBytes)) ((k - firstUnit * unitBytes) % (trackUnits * unitBytes))))
+    cond (ltb k unitBytes) (hfeHeaderByte k)
+    (cond (ltb k (firstUnit * unitBytes)) (hfeTableByte (k - unitBytes))
+    (hfeTrackByte image ((k - firstUnit * unitBytes) / (trackUnits * unitBytes)) ((k - firstUnit * unitBytes) % (trackUnits * unitBytes))))
 
 -- the reply for a block image and an HFE image of these lengths; HFE first
 unfoldable pub packReply : ℕ → ℕ → Reply

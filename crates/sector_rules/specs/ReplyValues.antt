@@ -10,16 +10,16 @@ use lib.ListN.{length, set, replicate}
 use Rattle.laws.specs.Below.{lowest}
 use Rattle.laws.specs.Laws.Tests.{eq-false, lt-true, lt-false, cond-true, cond-false}
 use Rattle.laws.specs.Lists.{same, bytesAre, standsAt, tab}
-use Rattle.laws.specs.Numbers.{up, lowFirst}
+use Rattle.laws.specs.Numbers.{quotientUp, lowFirst}
 use Rattle.laws.specs.Options.{orElse}
 use Rattle.cells.specs.Stream.{bytePlace, cellAt, stream, from}
 use Rattle.cells.specs.Sync.{syncAt, threeSync}
 use Rattle.sector_rules.specs.declared.Reply.{Reply}
-use Rattle.sector_rules.specs.declared.Sector.the-variants.{Missing, Repeated, Fieldless, Damaged}
+use Rattle.sector_rules.specs.declared.Sector.the-variants.{Missing, Repeated, NoField, Damaged}
 use Rattle.sector_rules.specs.Faults.{faultBelow, lowestFault}
 use Rattle.sector_rules.specs.HeaderValues.{hfeHeader}
-use Rattle.sector_rules.specs.Hfe.{signature, formatFault, flagFault, headerFault}
-use Rattle.sector_rules.specs.Hfe.{entryPlace, trackStart, trackLength, trackBytes, trackGood, tableFault, trackPart, sideStream}
+use Rattle.sector_rules.specs.Hfe.{hfeSignature, formatFault, flagFault, hfeHeaderFault}
+use Rattle.sector_rules.specs.Hfe.{entryPlace, trackStart, trackLength, trackUnitBytes, trackGood, tableFault, trackPart, sideStream}
 use Rattle.sector_rules.specs.Packed.{packReply}
 use Rattle.sector_rules.specs.Replies.{reply, unless}
 use Rattle.sector_rules.specs.Search.{isHeader, headerOf, headerAt, placesBelow, foundOf, findSector, sectorFound, sectorOf}
@@ -61,7 +61,7 @@ pub record ReplyValues : Type 0 where
   -- 79 good entries and then none, and 80 good ones: the judgement goes on to the sectors
   pub tracks-judged : (tableReply (goodEntries 79) ≡ reply 3 79 0 0) × (tableReply (goodEntries 80) ≡ reply 4 0 0 1)
   -- 4 to 7 with track, side and R, for the first and last sectors of sides
-  pub sectors-named : map (sectorReply 1439) (Missing ∷ Repeated ∷ Fieldless ∷ Damaged ∷ [])
+  pub sectors-named : map (sectorReply 1439) (Missing ∷ Repeated ∷ NoField ∷ Damaged ∷ [])
       ≡ reply 4 79 1 9 ∷ reply 5 79 1 9 ∷ reply 6 79 1 9 ∷ reply 7 79 1 9 ∷ []
   pub places-named : map (λ (m : ℕ). sectorReply m Missing) (0 ∷ 8 ∷ 9 ∷ 18 ∷ []) ≡ reply 4 0 0 1 ∷ reply 4 0 0 9 ∷ reply 4 0 1 1 ∷ reply 4 1 0 1 ∷ []
 
@@ -84,8 +84,8 @@ unfolding packReply
 pack-length-is n w = cond-false _ _ (eq-false w)
 
 pub reply-values : ReplyValues
-unfolding tableReply withTable hfeHeader unpackReply unless orElse headerFault formatFault flagFault signature standsAt bytesAre
-    same tab lowFirst tableFault lowestFault faultBelow lowest trackGood entryPlace trackStart trackLength trackBytes up
+unfolding tableReply withTable hfeHeader unpackReply unless orElse hfeHeaderFault formatFault flagFault hfeSignature standsAt bytesAre
+    same tab lowFirst tableFault lowestFault faultBelow lowest trackGood entryPlace trackStart trackLength trackUnitBytes quotientUp
     goodEntries sectorsReply firstBad sectorAt sideStream trackPart sectorOf sectorFound findSector foundOf placesBelow headerAt headerOf isHeader
     stream cellAt bytePlace from threeSync syncAt
 reply-values =

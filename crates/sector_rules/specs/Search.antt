@@ -17,7 +17,7 @@ use Rattle.sector_rules.specs.declared.Header.the-variants.{Is, Absent}
 use Rattle.sector_rules.specs.declared.Found.{Found}
 use Rattle.sector_rules.specs.declared.Found.the-variants.{One, Nothing, Several}
 use Rattle.sector_rules.specs.declared.Sector.{Sector}
-use Rattle.sector_rules.specs.declared.Sector.the-variants.{Delivered, Missing, Repeated, Fieldless, Damaged}
+use Rattle.sector_rules.specs.declared.Sector.the-variants.{Delivered, Missing, Repeated, NoField, Damaged}
 
 -- the n bytes at the list's start are followed by their CRC
 unfoldable pub crcHolds : List ℕ → ℕ → Bool
@@ -55,13 +55,13 @@ unfoldable pub headerOf : List ℕ → Header
 headerOf f = cond (isHeader f) (Is (idOf f)) Absent
 
 -- a header belongs to the sector if C is the track, H the side, R the sector and N that of 512 bytes
-abbrev pub belongs : ℕ → ℕ → ℕ → Header → Bool
-belongs t s r (Is id) = eqb (id .c) t && eqb (id .h) s && eqb (id .n) sizeCode && eqb (id .r) r
-belongs t s r Absent = false
+abbrev pub isHeaderOf : ℕ → ℕ → ℕ → Header → Bool
+isHeaderOf t s r (Is id) = eqb (id .c) t && eqb (id .h) s && eqb (id .n) sizeCode && eqb (id .r) r
+isHeaderOf t s r Absent = false
 
 -- a header of sector R of this track and side stands at cell place i
 unfoldable pub headerAt : List ℕ → ℕ → ℕ → ℕ → ℕ → Bool
-headerAt c t s r i = belongs t s r (headerOf (from c i))
+headerAt c t s r i = isHeaderOf t s r (headerOf (from c i))
 
 -- the places below n where the test holds, in order
 unfoldable pub placesBelow : (ℕ → Bool) → ℕ → List ℕ
@@ -92,11 +92,11 @@ unfoldable pub fieldAt : List ℕ → ℕ → Sector
 fieldAt c j =
     cond (leb fieldCells (length (from c j)) && eqb (dataByte (from c j) 48) dataMark)
     (cond (crcHolds (from c j) (4 + sectorBytes)) (Delivered (j + 64)) Damaged)
-    Fieldless
+    NoField
 
 -- the field of the header at cell place i: the first run of three sync bytes that begins at the end of its CRC or at most 688 cells after it
 unfoldable pub fieldOf : List ℕ → ℕ → Sector
-fieldOf c i = first (λ (j : ℕ). threeSync (from c j)) (fieldAt c) Fieldless (gapCells + 1) (i + headerCells)
+fieldOf c i = first (λ (j : ℕ). threeSync (from c j)) (fieldAt c) NoField (gapCells + 1) (i + headerCells)
 
 -- what the search's answer gives
 unfoldable pub sectorFound : List ℕ → Found → Sector
@@ -113,9 +113,9 @@ unfoldable pub sectorByte : List ℕ → ℕ → ℕ → ℕ
 sectorByte c p k = dataByte (from c p) (16 * k)
 
 -- its 512 bytes, where it is delivered
-unfoldable pub bytesOf : List ℕ → Sector → List ℕ
-bytesOf c (Delivered p) = tab (sectorByte c p) sectorBytes
-bytesOf c Missing = []
-bytesOf c Repeated = []
-bytesOf c Fieldless = []
-bytesOf c Damaged = []
+unfoldable pub deliveredBytes : List ℕ → Sector → List ℕ
+deliveredBytes c (Delivered p) = tab (sectorByte c p) sectorBytes
+deliveredBytes c Missing = []
+deliveredBytes c Repeated = []
+deliveredBytes c NoField = []
+deliveredBytes c Damaged = []

@@ -10,12 +10,12 @@ use Rattle.laws.specs.Below.{lowest}
 use Rattle.laws.specs.Options.{orElse}
 use Rattle.sector_rules.specs.declared.Reply.{Reply}
 use Rattle.sector_rules.specs.declared.Sector.{Sector}
-use Rattle.sector_rules.specs.declared.Sector.the-variants.{Delivered, Missing, Repeated, Fieldless, Damaged}
+use Rattle.sector_rules.specs.declared.Sector.the-variants.{Delivered, Missing, Repeated, NoField, Damaged}
 use Rattle.sector_rules.specs.Replies.{reply, done, wrongHfe, wrongLength, unless}
 use Rattle.sector_rules.specs.Faults.{refusalAt}
 use Rattle.sector_rules.specs.Geometry.{sectors, trackSectors, allSectors, sectorBytes, imageBytes}
-use Rattle.sector_rules.specs.Search.{sectorOf, bytesOf}
-use Rattle.sector_rules.specs.Hfe.{headerFault, tableFault, sideStream}
+use Rattle.sector_rules.specs.Search.{sectorOf, deliveredBytes}
+use Rattle.sector_rules.specs.Hfe.{hfeHeaderFault, tableFault, sideStream}
 
 -- track, side and R of an image sector: image sectors go side 0, R 1 to 9, then side 1
 abbrev pub trackOf : ℕ → ℕ
@@ -32,14 +32,14 @@ unfoldable pub sectorAt : List ℕ → ℕ → Sector
 sectorAt h m = sectorOf (sideStream h (trackOf m) (sideOf m)) (trackOf m) (sideOf m) (rOf m)
 
 unfoldable pub sectorBytesAt : List ℕ → ℕ → List ℕ
-sectorBytesAt h m = bytesOf (sideStream h (trackOf m) (sideOf m)) (sectorAt h m)
+sectorBytesAt h m = deliveredBytes (sideStream h (trackOf m) (sideOf m)) (sectorAt h m)
 
 -- the number for each case: 4 no header, 5 two or more, 6 no data field, 7 data CRC wrong; with track, side and R
 abbrev pub sectorReply : ℕ → Sector → Reply
 sectorReply m (Delivered p) = done
 sectorReply m Missing = reply 4 (trackOf m) (sideOf m) (rOf m)
 sectorReply m Repeated = reply 5 (trackOf m) (sideOf m) (rOf m)
-sectorReply m Fieldless = reply 6 (trackOf m) (sideOf m) (rOf m)
+sectorReply m NoField = reply 6 (trackOf m) (sideOf m) (rOf m)
 sectorReply m Damaged = reply 7 (trackOf m) (sideOf m) (rOf m)
 
 -- whether it is bad: it gives a refusal
@@ -47,7 +47,7 @@ abbrev pub isBad : Sector → Bool
 isBad (Delivered p) = false
 isBad Missing = true
 isBad Repeated = true
-isBad Fieldless = true
+isBad NoField = true
 isBad Damaged = true
 
 -- the first bad sector by track, side, R, or 1440
@@ -67,7 +67,7 @@ unfoldable pub unpackReply : List ℕ → ℕ → Reply
 unpackReply h n =
     cond (ltb (length h) leastHfe) wrongHfe
     (cond (eqb n imageBytes)
-    (unless (orElse (refusalAt 2 (headerFault h)) (refusalAt 3 (tableFault h))) (λ (r : Reply). r) (sectorsReply h))
+    (unless (orElse (refusalAt 2 (hfeHeaderFault h)) (refusalAt 3 (tableFault h))) (λ (r : Reply). r) (sectorsReply h))
     wrongLength)
 
 -- byte k of the block image: the sectors' bytes in image-sector order

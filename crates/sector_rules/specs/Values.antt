@@ -11,31 +11,31 @@ pub record Placement : Type 0 where
   pub sector : ℕ
   pub image : ℕ
 
-unfoldable pub row : ℕ → ℕ → ℕ → Placement
-row b s i = record { block = b; sector = s; image = i }
+unfoldable pub placement : ℕ → ℕ → ℕ → Placement
+placement b s i = record { block = b; sector = s; image = i }
 
 unfoldable pub placements : List Placement
 placements =
-    row 0 0 0
-    ∷ row 2 0 1
-    ∷ row 1 0 9
-    ∷ row 1 1 12
-    ∷ row 1 2 15
-    ∷ row 6 0 23
-    ∷ row 6 1 26
-    ∷ row 6 2 20
-    ∷ row 7 0 32
-    ∷ row 474 0 1430
-    ∷ row 479 2 1438
+    placement 0 0 0
+    ∷ placement 2 0 1
+    ∷ placement 1 0 9
+    ∷ placement 1 1 12
+    ∷ placement 1 2 15
+    ∷ placement 6 0 23
+    ∷ placement 6 1 26
+    ∷ placement 6 2 20
+    ∷ placement 7 0 32
+    ∷ placement 474 0 1430
+    ∷ placement 479 2 1438
     ∷ []
 
 -- the image sectors that the definition gives for the rows, and those that the table has
-unfoldable pub placed : List Placement → List ℕ
-placed ps = map (λ (p : Placement). imageSector (running (p .block) (p .sector))) ps
+unfoldable pub definedSectors : List Placement → List ℕ
+definedSectors ps = map (λ (p : Placement). imageSector (running (p .block) (p .sector))) ps
 
-unfoldable pub listed : List Placement → List ℕ
-listed ps = map (λ (p : Placement). p .image) ps
+unfoldable pub tableSectors : List Placement → List ℕ
+tableSectors ps = map (λ (p : Placement). p .image) ps
 
-pub placement-values : placed placements ≡ listed placements
-unfolding placed listed placements row imageSector sidePlace
+pub placement-values : definedSectors placements ≡ tableSectors placements
+unfolding definedSectors tableSectors placements placement imageSector sidePlace
 placement-values = refl

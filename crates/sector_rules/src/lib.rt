@@ -49,7 +49,7 @@ pub enum Found {
 pub enum Sector {
     Missing,
     Repeated,
-    Fieldless,
+    NoField,
     Damaged,
     Delivered(usize),
 }

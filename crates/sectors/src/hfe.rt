@@ -4,7 +4,7 @@ ghost use Prim.Native.Nat.{_+_, _<_, _^_};
 ghost use lib.ListN.{length};
 ghost use Rattle.cells.specs.Stream.{hfeSide};
 ghost use Rattle.sector_rules.specs.Geometry.{tracks, sides};
-ghost use Rattle.sector_rules.specs.Hfe.{trackPart, flagFault, formatFault, headerFault, entryPlace, trackStart, trackLength, trackBytes, trackGood, tableFault};
+ghost use Rattle.sector_rules.specs.Hfe.{trackPart, flagFault, formatFault, hfeHeaderFault, entryPlace, trackStart, trackLength, trackUnitBytes, trackGood, tableFault};
 use crate::Geometry;
 use crate::faults::or_fault;
 use crate::faults::wrong_at;
@@ -43,8 +43,8 @@ fn flag_fault(hfe: &[u8], o: usize) -> Fault
 }
 
 // The lowest wrong field of the header.
-pub fn header_fault(hfe: &[u8]) -> Fault
-    ensures { λ r. ⌜ r ≡ headerFault (now (hfe .entry)) ⌝ }
+pub fn hfe_header_fault(hfe: &[u8]) -> Fault
+    ensures { λ r. ⌜ r ≡ hfeHeaderFault (now (hfe .entry)) ⌝ }
 {
     let flags = or_fault(flag_fault(hfe, 22), flag_fault(hfe, 24));
     let table = wrong_at(18, 1 <= fields::low2(hfe, 18));
@@ -78,9 +78,9 @@ pub fn track_length(hfe: &[u8], t: usize) -> u16
 }
 
 // The bytes of a track's units.
-pub fn track_bytes(hfe: &[u8], t: usize) -> usize
+pub fn track_unit_bytes(hfe: &[u8], t: usize) -> usize
     requires { ⌜ t < 2 ^ 16 ⌝ }
-    ensures { λ r. ⌜ (r ≡ trackBytes (now (hfe .entry)) t) × (r < 2 ^ 17) ⌝ }
+    ensures { λ r. ⌜ (r ≡ trackUnitBytes (now (hfe .entry)) t) × (r < 2 ^ 17) ⌝ }
 {
     UNIT * ((track_length(hfe, t) as usize + (UNIT - 1)) / UNIT)
 }
@@ -90,7 +90,7 @@ fn track_good(hfe: &[u8], t: usize) -> bool
     requires { ⌜ t < 2 ^ 16 ⌝ }
     ensures { λ r. ⌜ r ≡ trackGood (now (hfe .entry)) t ⌝ }
 {
-    let end = track_start(hfe, t) + track_bytes(hfe, t);
+    let end = track_start(hfe, t) + track_unit_bytes(hfe, t);
     let length = track_length(hfe, t);
     let entry = entry_place(hfe, t);
     (entry + 4 <= hfe.len()) & (length % 2 == 0) & (0 < length) & (end <= hfe.len())
@@ -114,7 +114,7 @@ pub fn track_part(hfe: &[u8], t: usize) -> &[u8]
     ensures { λ r. ⌜ now r ≡ trackPart (now (hfe .entry)) t ⌝ }
 {
     let start = track_start(hfe, t);
-    let end = start + track_bytes(hfe, t);
+    let end = start + track_unit_bytes(hfe, t);
     &hfe[start..end]
 }
 

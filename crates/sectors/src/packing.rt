@@ -6,7 +6,7 @@ ghost use Rattle.laws.specs.Lists.{tab};
 ghost use Rattle.laws.specs.Changes.{overlay};
 ghost use Rattle.sector_rules.specs.Geometry.{tracks, sides, imageBytes};
 ghost use Rattle.sector_rules.specs.Hfe.{unitBytes};
-ghost use Rattle.sector_rules.specs.Packed.{headerByte, tableByte, hfeByte, hfeBytes, sideItems, trackUnits, firstUnit, packReply, packHfe};
+ghost use Rattle.sector_rules.specs.Packed.{hfeHeaderByte, hfeTableByte, hfeByte, hfeBytes, sideItems, trackUnits, firstUnit, packReply, packHfe};
 ghost use Rattle.sectors.specs.Laws.Packing.Runs.{runBytes, runItems, runByte, tracksByte};
 use crate::Geometry;
 use crate::hfe::UNIT;
@@ -58,7 +58,7 @@ const HEADER_REST: [u8; HEADER_END - SIGNATURE_END] = [
 // Writes the header's unit.
 fn write_header(hfe: &mut [u8])
     requires { ⌜ length (now hfe) ≡ hfeBytes ⌝ }
-    ensures { λ _. ⌜ now (hfe .exit) ≡ overlay (now (hfe .entry)) 0 unitBytes headerByte ⌝ }
+    ensures { λ _. ⌜ now (hfe .exit) ≡ overlay (now (hfe .entry)) 0 unitBytes hfeHeaderByte ⌝ }
 {
     fields::copy_into(hfe, 0, b"HXCPICFE");
     fields::copy_into(hfe, SIGNATURE_END, &HEADER_REST);
@@ -68,7 +68,7 @@ fn write_header(hfe: &mut [u8])
 // Byte j of the track table.
 fn table_byte(j: usize) -> u8
     requires { ⌜ j < unitBytes ⌝ }
-    ensures { λ x. ⌜ x ≡ tableByte j ⌝ }
+    ensures { λ x. ⌜ x ≡ hfeTableByte j ⌝ }
 {
     if j < 4 * Geometry::TRACKS {
         let start = FIRST_UNIT + TRACK_UNITS * (j / 4);
@@ -86,7 +86,7 @@ fn table_byte(j: usize) -> u8
 // Writes the table's unit.
 fn write_table(hfe: &mut [u8])
     requires { ⌜ length (now hfe) ≡ hfeBytes ⌝ }
-    ensures { λ _. ⌜ now (hfe .exit) ≡ overlay (now (hfe .entry)) unitBytes unitBytes tableByte ⌝ }
+    ensures { λ _. ⌜ now (hfe .exit) ≡ overlay (now (hfe .entry)) unitBytes unitBytes hfeTableByte ⌝ }
 {
     for j in 0..UNIT {
         hfe[UNIT + j] = table_byte(j);

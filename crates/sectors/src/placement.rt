@@ -1,7 +1,7 @@
 // The numbers of the disk kind, each once, and the place of a block's sector in the block image.
 ghost use mathlib.Core.Path.{_≡_};
 ghost use Prim.Native.Nat.{_<_};
-ghost use Rattle.sector_rules.specs.Geometry.{running, imageSector, runningSector, placed};
+ghost use Rattle.sector_rules.specs.Geometry.{running, imageSector, runningSector, placeReply};
 use crate::Geometry;
 use crate::replies::refused;
 use sector_rules::BlockNumber;
@@ -65,7 +65,7 @@ impl Geometry {
     pub const BLOCK_SECTORS: usize = 3;
 
     // How far a track is turned against the one before it.
-    pub const TURN: usize = 5;
+    pub const TRACK_OFFSET: usize = 5;
 
     pub const TRACK_SECTORS: usize = Geometry::SIDES * Geometry::SECTORS;
 
@@ -92,7 +92,7 @@ impl Geometry {
         let left = n.0 % Geometry::TRACK_SECTORS;
         let mark = SIDE_PLACE[left] as usize;
         let side = mark / 128;
-        let place = (mark % 128 + Geometry::TURN * track) % Geometry::SECTORS;
+        let place = (mark % 128 + Geometry::TRACK_OFFSET * track) % Geometry::SECTORS;
         ImageSector(Geometry::TRACK_SECTORS * track + Geometry::SECTORS * side + place)
     }
 
@@ -103,7 +103,7 @@ impl Geometry {
     {
         let track = m.0 / Geometry::TRACK_SECTORS;
         let side = m.0 % Geometry::TRACK_SECTORS / Geometry::SECTORS;
-        let place = (m.0 % Geometry::SECTORS + (Geometry::SECTORS - Geometry::TURN) * track)
+        let place = (m.0 % Geometry::SECTORS + (Geometry::SECTORS - Geometry::TRACK_OFFSET) * track)
             % Geometry::SECTORS;
         let left = BACKWARD[Geometry::SECTORS * side + place] as usize;
         RunningSector(Geometry::TRACK_SECTORS * track + left)
@@ -112,7 +112,7 @@ impl Geometry {
 
 // The image sector of a block's sector, or 12 where the block or the sector is out of range.
 pub fn place(block: usize, sector: usize) -> Reply
-    ensures { λ r. ⌜ r ≡ placed block sector ⌝ }
+    ensures { λ r. ⌜ r ≡ placeReply block sector ⌝ }
 {
     if (block < Geometry::BLOCKS) & (sector < Geometry::BLOCK_SECTORS) {
         let at = Geometry::place(Geometry::running(BlockNumber(block), sector));

@@ -120,7 +120,7 @@ fn field_at(part: &[u8], side: Side, j: usize) -> Sector
 {
     let data_place = j + 64;
     if cells::cells_from(side, j) < FIELD_CELLS {
-        return Sector::Fieldless;
+        return Sector::NoField;
     }
     if cells::data_byte(part, side, j, 48) == DATA_MARK {
         if crc_holds(part, side, j, FIELD_BYTES) {
@@ -128,7 +128,7 @@ fn field_at(part: &[u8], side: Side, j: usize) -> Sector
         }
         return Sector::Damaged;
     }
-    Sector::Fieldless
+    Sector::NoField
 }
 
 // The field of the header at place i.
@@ -136,14 +136,14 @@ fn field_of(part: &[u8], side: Side, i: usize) -> Sector
     ensures { λ r. ⌜ r ≡ fieldOf (stream (now (part .entry)) side) i ⌝ }
 {
     if side.cells as usize <= i {
-        return Sector::Fieldless;
+        return Sector::NoField;
     }
     for k in 0..GAP_CELLS + 1 {
         if cells::three_sync(part, side, i + HEADER_CELLS + k) {
             return field_at(part, side, i + HEADER_CELLS + k);
         }
     }
-    Sector::Fieldless
+    Sector::NoField
 }
 
 // What the search's answer gives.

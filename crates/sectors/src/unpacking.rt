@@ -8,9 +8,9 @@ ghost use Rattle.sector_rules.specs.Hfe.{tableFault};
 ghost use Rattle.sector_rules.specs.Replies.{reply};
 ghost use Rattle.sector_rules.specs.Unpacked.{trackOf, sideOf, rOf, isBad, sectorReply, unpackedByte, unpackReply, unpackImage};
 ghost use Rattle.sector_rules.specs.Laws.Base.Unpacked.{placeOf};
-ghost use Rattle.sectors.specs.Laws.Unpacking.Judged.{Noted, Judged, AllJudged, SectorsUnpacked};
+ghost use Rattle.sectors.specs.Laws.Unpacking.SectorsJudged.{Noted, SectorsJudged, AllJudged, SectorsUnpacked};
 use crate::Geometry;
-use crate::hfe::header_fault;
+use crate::hfe::hfe_header_fault;
 use crate::hfe::table_fault;
 use crate::hfe::track_part;
 use crate::hfe::track_side;
@@ -32,7 +32,7 @@ fn is_bad(sector: Sector) -> bool
         Sector::Delivered(_) => false,
         Sector::Missing => true,
         Sector::Repeated => true,
-        Sector::Fieldless => true,
+        Sector::NoField => true,
         Sector::Damaged => true,
     }
 }
@@ -45,7 +45,7 @@ fn place_of(sector: Sector) -> usize
         Sector::Delivered(p) => p,
         Sector::Missing => 0,
         Sector::Repeated => 0,
-        Sector::Fieldless => 0,
+        Sector::NoField => 0,
         Sector::Damaged => 0,
     }
 }
@@ -72,7 +72,7 @@ fn sector_reply(m: usize, sector: Sector) -> Reply
         Sector::Delivered(_) => done(),
         Sector::Missing => at_sector(4, m),
         Sector::Repeated => at_sector(5, m),
-        Sector::Fieldless => at_sector(6, m),
+        Sector::NoField => at_sector(6, m),
         Sector::Damaged => at_sector(7, m),
     }
 }
@@ -80,7 +80,7 @@ fn sector_reply(m: usize, sector: Sector) -> Reply
 // Judges the nine sectors of the n-th side, where those before it are good, and notes the places of their bytes.
 fn judge_side(hfe: &[u8], n: usize, places: &mut [usize]) -> Reply
     requires { ⌜ (tableFault (now hfe) ≡ Fault.Sound) × (n < tracks * sides) × (length (now places) ≡ allSectors) × Noted (now hfe) (now places) (sectors * n) ⌝ }
-    ensures { λ r. ⌜ Judged (now (hfe .entry)) (now (places .exit)) (sectors * (n + 1)) r ⌝ }
+    ensures { λ r. ⌜ SectorsJudged (now (hfe .entry)) (now (places .exit)) (sectors * (n + 1)) r ⌝ }
 {
     let gives = image_side(hfe, n);
     for k in 0..Geometry::SECTORS {
@@ -146,7 +146,7 @@ pub fn unpack(hfe: &[u8], image: &mut [u8]) -> Reply
     if image.len() != Geometry::IMAGE_BYTES {
         return refused(1, 2);
     }
-    match header_fault(hfe) {
+    match hfe_header_fault(hfe) {
         Fault::At(o) => return refused(2, o),
         Fault::Sound => {}
     }

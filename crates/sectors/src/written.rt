@@ -65,7 +65,7 @@ fn sector_start(t: usize, s: usize, r: usize) -> usize
 }
 
 // Byte k of a header from its mark on, with its CRC.
-fn header_byte(t: usize, s: usize, r: usize, k: usize) -> u8
+fn sector_header_byte(t: usize, s: usize, r: usize, k: usize) -> u8
     requires { ⌜ (t < tracks) × (s < sides) × (r ≤ sectors) × (k < headerItems) ⌝ }
     ensures { λ x. ⌜ x ≡ getD (withCrc (headerRow t s r)) k 0 ⌝ }
 {
@@ -123,7 +123,7 @@ fn header_item(t: usize, s: usize, r: usize, o: usize) -> Item
         return Item::Sync;
     }
     if o < HEADER_END {
-        return Item::Plain(header_byte(t, s, r, o - HEADER_START));
+        return Item::Plain(sector_header_byte(t, s, r, o - HEADER_START));
     }
     if o < GAP_END {
         return Item::Plain(GAP);

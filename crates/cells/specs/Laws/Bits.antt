@@ -18,7 +18,7 @@ use Rattle.cells.specs.Crc.{crcStart, crcBit, crcBits, crcFrom, crc, crc
 use Rattle.cells.specs.Damage.{rowBit, dataBit, bitsFrom, bitsByte, register}
 use Rattle.cells.specs.Laws.Number.{digits-more}
 use Rattle.cells.specs.Laws.Crc.{crcFrom-append, follows-crc, crc-follows}
-use Rattle.cells.specs.Laws.Register.{held, passes}
+use Rattle.cells.specs.Laws.Register.{register-before-zero, passes}
 
 -- one more bit of a number, at its end
 more-of : (b p r v w : ℕ) → r ≡ p * 2 → b * r + (v * 2 + w) ≡ (b * p + v) * 2 + w
@@ -123,7 +123,7 @@ module _ (f g : ℕ → ℕ) (bit : (i : ℕ) → f i < 2) where
 
     -- where the register is 0 after their bits and the CRC's, bytes are followed by their CRC
     pub zero-follows : register crcStart f (8 * n + 16) ≡ 0 → crcFollows g n ≡ true
-    zero-follows z = crc-follows g n (crc-register ∙ held crcStart (lit< tt) f bit 16 (8 * n) (lit≤ tt) z ∙ sym crc-number)
+    zero-follows z = crc-follows g n (crc-register ∙ register-before-zero crcStart (lit< tt) f bit 16 (8 * n) (lit≤ tt) z ∙ sym crc-number)
 
 -- ---- the bits of a row of bytes, and of cells
 

@@ -9,7 +9,7 @@ use lib.Pow.{pow-pos}
 use Rattle.laws.specs.Laws.Cases.{by-order, by-equal}
 use Rattle.cells.specs.Crc.{crcBit}
 use Rattle.cells.specs.Damage.{bitsFrom, register, burstBits}
-use Rattle.cells.specs.Laws.Register.{register-lt, held, step-zero, step-only}
+use Rattle.cells.specs.Laws.Register.{register-lt, register-before-zero, step-zero, step-only}
 
 -- before the first bit that is 1 the register stays 0
 pub zeros-before : (e : ℕ → ℕ) (a : ℕ) → ((i : ℕ) → i < a → e i ≡ 0) → register 0 e a ≡ 0
@@ -55,7 +55,7 @@ module _ (e : ℕ → ℕ) (bit : (i : ℕ) → e i < 2) where
       → (i : ℕ) → i < a + w + r → e i ≡ 0
   window a w r hw before after z i h =
       let z₁ : register 0 e (a + w) ≡ 0 = zeros-after e (a + w) r after z in
-      let z₂ : bitsFrom e a w * 2 ^ (16 - w) ≡ 0 = sym (held 0 (lit< tt) e bit w a hw z₁) ∙ zeros-before e a before in
+      let z₂ : bitsFrom e a w * 2 ^ (16 - w) ≡ 0 = sym (register-before-zero 0 (lit< tt) e bit w a hw z₁) ∙ zeros-before e a before in
       by-order i a (λ l. before i l)
       (λ l. by-order i (a + w)
       (λ m. bits-none w a (none-times (bitsFrom e a w) (2 ^ (16 - w)) (pow-pos (16 - w)) z₂) i l m)

@@ -7,7 +7,7 @@ use native.Mathlib.Nat.{mod-lt, zero-lt-suc}
 use native.Mathlib.Omega.{arith}
 use lib.Dec.{eqb, lit<}
 use Rattle.cells.specs.Mfm.{bitOf, clock, before, mfmCell}
-use Rattle.cells.specs.Written.{byteOf, leftOut, itemCell}
+use Rattle.cells.specs.Written.{itemByte, leftOut, itemCell}
 use Rattle.cells.specs.declared.Item.{Item}
 
 bitOf-bit : (x k : ℕ) → bitOf x k < 2
@@ -30,7 +30,7 @@ mfmCell-bit p x j = cond-bit (eqb (j % 2) 0) _ _ (clock-bit _ _) (bitOf-bit _ _)
 -- every cell of an item is 0 or 1
 pub itemCell-bit : (p : ℕ) (a : Item) (j : ℕ) → itemCell p a j < 2
 unfolding itemCell
-itemCell-bit p a j = cond-bit (eqb j (leftOut a)) 0 _ (lit< tt) (mfmCell-bit p (byteOf a) j)
+itemCell-bit p a j = cond-bit (eqb j (leftOut a)) 0 _ (lit< tt) (mfmCell-bit p (itemByte a) j)
 
 -- the bit before a bit of a byte other than its first is the one before it in the byte
 pub before-later : (p x k : ℕ) → (k ≡ 0 → ⊥) → bitOf x (k - 1) ≡ before p x k

@@ -140,12 +140,12 @@ below-top v p q h hq w = omega (arith, mul-le-mul-right q h)
 
 module _ (s : ℕ) (hs : s < 0x10000) (f : ℕ → ℕ) (bit : (i : ℕ) → f i < 2) where
   -- a register that comes to 0 in k bits, 16 at most, held these bits on top
-  pub held : (k m : ℕ) → k ≤ 16 → register s f (m + k) ≡ 0 → register s f m ≡ bitsFrom f m k * 2 ^ (16 - k)
+  pub register-before-zero : (k m : ℕ) → k ≤ 16 → register s f (m + k) ≡ 0 → register s f m ≡ bitsFrom f m k * 2 ^ (16 - k)
   unfolding register bitsFrom
-  held zero m h e = ap (register s f) (sym (add-zero m)) ∙ e
-  held (suc k) m h e =
+  register-before-zero zero m h e = ap (register s f) (sym (add-zero m)) ∙ e
+  register-before-zero (suc k) m h e =
       let r : crcBit (register s f m) (f m) ≡ bitsFrom f (suc m) k * (2 ^ (16 - suc k) * 2) =
-      held k (suc m) (omega arith) (ap (register s f) (suc-add m k ∙ sym (add-suc m k)) ∙ e)
+      register-before-zero k (suc m) (omega arith) (ap (register s f) (suc-add m k ∙ sym (add-suc m k)) ∙ e)
       ∙ ap (λ (x : ℕ). bitsFrom f (suc m) k * x) (power-half k h) in
       placed (register s f m) (crcBit (register s f m) (f m)) (f m) (bitsFrom f (suc m) k) (2 ^ k) (2 ^ (16 - suc k)) (bit m) (power-top k h) r
       (step-back (register s f m) (f m) (register-lt s f m hs) (bit m)

@@ -14,7 +14,7 @@ use Rattle.cells.specs.Laws.Packed.{packedBits-same}
 use Rattle.cells.specs.Stream.{packed, number, dataByte}
 use Rattle.cells.specs.Mfm.{bitOf, clock, before, mfmCell}
 use Rattle.cells.specs.Sync.{syncWord, syncAt}
-use Rattle.cells.specs.Written.{byteOf, leftOut, itemCell, bitBefore, writtenCell, written}
+use Rattle.cells.specs.Written.{itemByte, leftOut, itemCell, bitBefore, writtenCell, written}
 use Rattle.cells.specs.declared.Item.{Item}
 use Rattle.cells.specs.declared.Item.the-variants.{Plain, Sync, Index}
 use Rattle.cells.specs.Laws.Number.{number-same, number-digits}
@@ -37,7 +37,7 @@ module _ (items : ℕ → Item) (q : ℕ) where
   left-even Index k e = omega arith
 
   -- every second cell of an item is a bit of its byte
-  pub data-cell : (k : ℕ) → k < 8 → writtenCell items (16 * q + (2 * k + 1)) ≡ bitOf (byteOf (items q)) k
+  pub data-cell : (k : ℕ) → k < 8 → writtenCell items (16 * q + (2 * k + 1)) ≡ bitOf (itemByte (items q)) k
   unfolding itemCell mfmCell
   data-cell k h =
       let a : (2 * k + 1) % 2 ≡ 1 = omega arith in
@@ -46,7 +46,7 @@ module _ (items : ℕ → Item) (q : ℕ) where
 
   -- a cell between them that is not left out is the clock of the two bits around it
   pub clock-cell : (k : ℕ) → k < 8 → (2 * k ≡ leftOut (items q) → ⊥)
-      → writtenCell items (16 * q + 2 * k) ≡ clock (before (bitBefore items q) (byteOf (items q)) k) (bitOf (byteOf (items q)) k)
+      → writtenCell items (16 * q + 2 * k) ≡ clock (before (bitBefore items q) (itemByte (items q)) k) (bitOf (itemByte (items q)) k)
   unfolding itemCell mfmCell
   clock-cell k h n =
       let a : (2 * k) % 2 ≡ 0 = omega arith in
@@ -60,7 +60,7 @@ left-cell items q j h e = cell-at items q j h ∙ rw (eq-eqb j (leftOut (items q
 
 -- the data cell before a clock cell is the bit before the one that the clock precedes
 pub before-cell : (items : ℕ → Item) (q k l : ℕ) → k < 8 → l + 1 ≡ 16 * q + 2 * k
-    → writtenCell items l ≡ before (bitBefore items q) (byteOf (items q)) k
+    → writtenCell items l ≡ before (bitBefore items q) (itemByte (items q)) k
 unfolding before bitBefore
 before-cell items zero zero l h e = absurd (omega arith)
 before-cell items (suc q) zero l h e = let a : l ≡ 16 * q + (2 * 7 + 1) = omega arith in rw a (data-cell items q 7 (omega arith))
@@ -121,11 +121,11 @@ module _ (items : ℕ → Item) (n q : ℕ) (h : q < n) where
   written-at j l = tab-in (writtenCell items) (16 * n) (16 * q + j) (omega arith) ∙ cell-at items q j l
 
   -- the byte that was written at item q is read there
-  pub byte-at : byteOf (items q) < 256 → dataByte (written items n) (16 * q) ≡ byteOf (items q)
+  pub byte-at : itemByte (items q) < 256 → dataByte (written items n) (16 * q) ≡ itemByte (items q)
   unfolding dataByte bitOf written
-  byte-at hx = number-digits (written items n) 2 (16 * q + 1) (byteOf (items q)) 8 hx digit 8 (lit≤ tt) ∙ div-one _
+  byte-at hx = number-digits (written items n) 2 (16 * q + 1) (itemByte (items q)) 8 hx digit 8 (lit≤ tt) ∙ div-one _
     where
-      digit : (k : ℕ) → k < 8 → getD (written items n) (16 * q + 1 + 2 * k) 0 ≡ byteOf (items q) / 2 ^ (8 - (k + 1)) % 2
+      digit : (k : ℕ) → k < 8 → getD (written items n) (16 * q + 1 + 2 * k) 0 ≡ itemByte (items q) / 2 ^ (8 - (k + 1)) % 2
       digit k l =
           let a : 16 * q + 1 + 2 * k ≡ 16 * q + (2 * k + 1) = omega arith in
           let b : 8 - (k + 1) ≡ 7 - k = omega arith in
@@ -156,7 +156,7 @@ unfolding bitBefore
 before-first items q e = rw e
 
 -- the bit before a later item is the last bit of the item before it
-pub before-later : (items : ℕ → Item) (q : ℕ) → 0 < q → bitBefore items q ≡ bitOf (byteOf (items (q - 1))) 7
+pub item-before-later : (items : ℕ → Item) (q : ℕ) → 0 < q → bitBefore items q ≡ bitOf (itemByte (items (q - 1))) 7
 unfolding bitBefore
-before-later items zero h = absurd (omega arith)
-before-later items (suc q) h = let e : suc q - 1 ≡ q = omega arith in rw e
+item-before-later items zero h = absurd (omega arith)
+item-before-later items (suc q) h = let e : suc q - 1 ≡ q = omega arith in rw e

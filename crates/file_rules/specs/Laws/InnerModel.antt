@@ -3,6 +3,6 @@ pub mod Inner
 pub mod Invariant
 pub mod Fields
 pub mod Reads
-pub mod Judged
+pub mod Judgements
 pub mod Owners
 pub mod Last

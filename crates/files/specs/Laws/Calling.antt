@@ -2,4 +2,4 @@
 pub mod Delivered
 pub mod Fresh
 pub mod Changed
-pub mod Judged
+pub mod SoundDisk

@@ -7,4 +7,4 @@ pub mod Tally
 pub mod Parts
 pub mod Chains
 pub mod Slots
-pub mod Marks
+pub mod NameHashes

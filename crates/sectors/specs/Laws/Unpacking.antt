@@ -1,3 +1,3 @@
 -- Stage 2: unpacking, side by side.
 pub mod Sides
-pub mod Judged
+pub mod SectorsJudged

@@ -11,7 +11,7 @@ use Rattle.laws.specs.Laws.Tests.{eq-true, eq-false, cond-true, cond-false}
 use Rattle.sector_rules.specs.Geometry.{imageBytes}
 use Rattle.sector_rules.specs.declared.Reply.{Reply}
 use Rattle.file_rules.specs.Calls.{unless, wrongLength, imageRight, onSound}
-use Rattle.file_rules.specs.Check.{judged}
+use Rattle.file_rules.specs.Check.{diskRefusal}
 use Rattle.file_rules.specs.Disk.{Disk, diskOf}
 
 module _ {A : Type 0} (image : List ℕ) (refuse : Reply → A) (act : Disk → A) where
@@ -22,24 +22,24 @@ module _ {A : Type 0} (image : List ℕ) (refuse : Reply → A) (act : Disk → 
 
   module _ (long : length image ≡ imageBytes) where
     -- what 8 to 11 refuse is refused so
-    pub sound-refused : (r : Reply) → judged (diskOf image) ≡ some r → onSound image refuse act ≡ refuse r
+    pub sound-refused : (r : Reply) → diskRefusal (diskOf image) ≡ some r → onSound image refuse act ≡ refuse r
     unfolding onSound imageRight unless
     sound-refused r e = cond-true _ _ (eq-true long) ∙ rw e
 
     -- a sound disk is acted on
-    pub sound-passed : judged (diskOf image) ≡ none → onSound image refuse act ≡ act (diskOf image)
+    pub sound-passed : diskRefusal (diskOf image) ≡ none → onSound image refuse act ≡ act (diskOf image)
     unfolding onSound imageRight unless
     sound-passed e = cond-true _ _ (eq-true long) ∙ rw e
 
-  by-judged : (P : A → Type 0) → ((r : Reply) → P (refuse r)) → (length image ≡ imageBytes → judged (diskOf image) ≡ none → P (act (diskOf image)))
-      → (long : length image ≡ imageBytes) (v : Option Reply) → judged (diskOf image) ≡ v → P (onSound image refuse act)
-  by-judged P f g long none e = subst P (sym (sound-passed long e)) (g long e)
-  by-judged P f g long (some r) e = subst P (sym (sound-refused long r e)) (f r)
+  by-disk-refusal : (P : A → Type 0) → ((r : Reply) → P (refuse r)) → (length image ≡ imageBytes → diskRefusal (diskOf image) ≡ none → P (act (diskOf image)))
+      → (long : length image ≡ imageBytes) (v : Option Reply) → diskRefusal (diskOf image) ≡ v → P (onSound image refuse act)
+  by-disk-refusal P f g long none e = subst P (sym (sound-passed long e)) (g long e)
+  by-disk-refusal P f g long (some r) e = subst P (sym (sound-refused long r e)) (f r)
 
   -- what holds of every refusal, and of what is done on a sound disk, holds of the call
-  pub by-sound : (P : A → Type 0) → ((r : Reply) → P (refuse r)) → (length image ≡ imageBytes → judged (diskOf image) ≡ none → P (act (diskOf image)))
+  pub by-sound : (P : A → Type 0) → ((r : Reply) → P (refuse r)) → (length image ≡ imageBytes → diskRefusal (diskOf image) ≡ none → P (act (diskOf image)))
       → P (onSound image refuse act)
   by-sound P f g =
       by-equal (length image) imageBytes
-      (λ long. by-judged P f g long (judged (diskOf image)) refl)
+      (λ long. by-disk-refusal P f g long (diskRefusal (diskOf image)) refl)
       (λ h. subst P (sym (sound-length h)) (f wrongLength))

@@ -13,7 +13,7 @@ use Rattle.laws.specs.Laws.Cases.{by-test}
 use Rattle.laws.specs.Laws.Tests.{true-le, cond-true, cond-false}
 use Rattle.laws.specs.Laws.Overlay.{overlay-is}
 use Rattle.sector_rules.specs.Replies.{reply}
-use Rattle.file_rules.specs.Calls.{kept, deliver}
+use Rattle.file_rules.specs.Calls.{bufferKept, deliver}
 use Rattle.file_rules.specs.Model.{resultOf}
 
 module _ (bytes buf : List ℕ) where
@@ -41,7 +41,7 @@ module _ (bytes buf : List ℕ) where
 
   -- the model's rule is that of the calls
   pub result-is : deliver bytes buf ≡ resultOf bytes buf
-  unfolding deliver resultOf kept
+  unfolding deliver resultOf bufferKept
   result-is =
       by-test (leb (length bytes) (length buf))
       (λ t.

@@ -12,13 +12,13 @@ use Rattle.laws.specs.Laws.Cases.{by-order, by-test}
 use Rattle.laws.specs.Laws.Tests.{lt-true, lt-false, cond-true, cond-false}
 use Rattle.sector_rules.specs.Replies.{reply, done, refusal}
 use Rattle.sector_rules.specs.declared.Reply.{Reply}
-use Rattle.file_rules.specs.Calls.{Outcome, kept}
+use Rattle.file_rules.specs.Calls.{Outcome, bufferKept}
 use Rattle.file_rules.specs.Directory.{nameEq, nameRight}
 use Rattle.file_rules.specs.Histories.{Call, accepted, without, leftBy, filesLeft, mostPresent, toAdd, toRemove, toList, toRead}
 use Rattle.file_rules.specs.Laws.OnImages.Slot.{k-none, room-fits}
 use Rattle.file_rules.specs.Laws.OnImages.Added.{present-add}
 use Rattle.file_rules.specs.Laws.InnerModel.Reads.{found-slot}
-use Rattle.file_rules.specs.Laws.InnerModel.Inner.{Inner, present, findM, emptySlot, ChangedM, refusedM, removeAtM, removeM, peakAfter, addAtM, roomFor, addM, stepM, outM, outsM, endM}
+use Rattle.file_rules.specs.Laws.InnerModel.Inner.{Inner, presentCount, findM, emptySlot, ChangedM, refusedM, removeAtM, removeM, peakAfter, addAtM, roomFor, addM, stepM, outM, outsM, endM}
 use Rattle.file_rules.specs.Laws.InnerModel.Invariant.{Inv}
 use Rattle.file_rules.specs.Laws.Base.Names.{name-bounds}
 use Rattle.file_rules.specs.Laws.FilesLeft.Present.{Fills, Once, fills-add, fills-remove, fills-count}
@@ -30,11 +30,11 @@ module _ (m : Inner) (v : Inv m) (fs : List NamedFile) (r : Fills (m .slots) fs)
   -- what a call that changes leaves, and what its reply says
   abbrev Leaves : List NamedFile → ChangedM → Type 0
   Leaves gs c =
-      Fills (c .model .slots) (cond (accepted (kept [] (c .answer))) gs fs)
-      × (c .model .peak ≡ max (m .peak) (present (c .model)))
+      Fills (c .modelAfter .slots) (cond (accepted (bufferKept [] (c .answer))) gs fs)
+      × (c .modelAfter .peak ≡ max (m .peak) (presentCount (c .modelAfter)))
 
-  pub count-is : present m ≡ length fs
-  unfolding present
+  pub count-is : presentCount m ≡ length fs
+  unfolding presentCount
   count-is = fills-count fs (m .slots) (suc (m .peak)) (λ k h. v .slot-past k h) r
 
   once : Once (m .slots)
@@ -48,20 +48,20 @@ module _ (m : Inner) (v : Inv m) (fs : List NamedFile) (r : Fills (m .slots) fs)
   unfolding addAtM
   added x = fills-add (m .slots) fs (emptySlot m) x (k-none m v) r
 
-  module _ (few : present m ≤ m .peak) where
-    stays : (gs : List NamedFile) (a : Reply) → accepted (kept [] a) ≡ false → Leaves gs (refusedM m a)
+  module _ (few : presentCount m ≤ m .peak) where
+    stays : (gs : List NamedFile) (a : Reply) → accepted (bufferKept [] a) ≡ false → Leaves gs (refusedM m a)
     unfolding refusedM
     stays gs a t = (subst (Fills (m .slots)) (sym (cond-false gs fs t)) r, omega arith)
 
     leaves-remove : (name : List ℕ) → Leaves (without name fs) (removeM m name)
-    unfolding removeM accepted kept
+    unfolding removeM accepted bufferKept
     leaves-remove name =
         by-test (nameRight name)
         (λ t. by-order (findM m name) (suc (m .peak))
         (λ h.
         let k : ℕ = findM m name in
         let w : (x : NamedFile) × (m .slots (findM m name) ≡ some x) × (nameEq (x .name) name ≡ true) × (0 < findM m name) = found-slot m v name h in
-        let e : removeM m name ≡ record { answer = done; model = removeAtM m k } = cond-true _ _ t ∙ cond-true _ _ (lt-true h) in
+        let e : removeM m name ≡ record { answer = done; modelAfter = removeAtM m k } = cond-true _ _ t ∙ cond-true _ _ (lt-true h) in
         subst (Leaves (without name fs)) (sym e) (
           removed k (w .0) name (w .1) (w .2),
           gone k (w .3) (omega arith) (w .0) (w .1),
@@ -73,11 +73,11 @@ module _ (m : Inner) (v : Inv m) (fs : List NamedFile) (r : Fills (m .slots) fs)
         let e : removeM m name ≡ refusedM m (refusal 12) = cond-false _ _ t in
         subst (Leaves (without name fs)) (sym e) (stays (without name fs) (refusal 12) refl))
       where
-        gone : (k : ℕ) → 0 < k → k ≤ m .peak → (x : NamedFile) → m .slots k ≡ some x → removeAtM m k .peak ≡ max (m .peak) (present (removeAtM m k))
+        gone : (k : ℕ) → 0 < k → k ≤ m .peak → (x : NamedFile) → m .slots k ≡ some x → removeAtM m k .peak ≡ max (m .peak) (presentCount (removeAtM m k))
         gone k p l x e = let same : removeAtM m k .peak ≡ m .peak = unfold removeAtM in refl in omega (arith, present-remove m v k p l x e)
 
     leaves-add : (x : NamedFile) → Leaves (x ∷ fs) (addM m x)
-    unfolding addM accepted kept
+    unfolding addM accepted bufferKept
     leaves-add x =
         by-test (nameRight (x .name))
         (λ t. by-order (findM m (x .name)) (suc (m .peak))
@@ -86,7 +86,7 @@ module _ (m : Inner) (v : Inv m) (fs : List NamedFile) (r : Fills (m .slots) fs)
         subst (Leaves (x ∷ fs)) (sym e) (stays (x ∷ fs) (reply 13 (findM m (x .name)) 0 0) refl))
         (λ h. by-test (roomFor m x)
         (λ s.
-        let e : addM m x ≡ record { answer = done; model = addAtM m (emptySlot m) x } =
+        let e : addM m x ≡ record { answer = done; modelAfter = addAtM m (emptySlot m) x } =
         cond-true _ _ t ∙ cond-false _ _ (lt-false h) ∙ cond-true _ _ s in
         subst (Leaves (x ∷ fs)) (sym e) (
           added x,
@@ -100,13 +100,13 @@ module _ (m : Inner) (v : Inv m) (fs : List NamedFile) (r : Fills (m .slots) fs)
         subst (Leaves (x ∷ fs)) (sym e) (stays (x ∷ fs) (refusal 12) refl))
       where
         more : nameRight (x .name) ≡ true → suc (m .peak) ≤ findM m (x .name) → roomFor m x ≡ true
-            → addAtM m (emptySlot m) x .peak ≡ max (m .peak) (present (addAtM m (emptySlot m) x))
+            → addAtM m (emptySlot m) x .peak ≡ max (m .peak) (presentCount (addAtM m (emptySlot m) x))
         more t h s =
-            let now : addAtM m (emptySlot m) x .peak ≡ max (m .peak) (suc (present m)) = unfold addAtM peakAfter in refl in
+            let now : addAtM m (emptySlot m) x .peak ≡ max (m .peak) (suc (presentCount m)) = unfold addAtM peakAfter in refl in
             omega (arith, present-add m v x (name-bounds (x .name) t) h (room-fits m x s))
 
     -- after any call
-    pub leaves : (c : Call) → Fills (stepM m c .slots) (leftBy fs c (outM m c)) × (stepM m c .peak ≡ max (m .peak) (present (stepM m c)))
+    pub leaves : (c : Call) → Fills (stepM m c .slots) (leftBy fs c (outM m c)) × (stepM m c .peak ≡ max (m .peak) (presentCount (stepM m c)))
     unfolding stepM outM leftBy
     leaves (toAdd x) = leaves-add x
     leaves (toRemove name) = leaves-remove name
@@ -121,15 +121,15 @@ first-most fs [] os = omega arith
 first-most fs (c ∷ cs) [] = omega arith
 first-most fs (c ∷ cs) (o ∷ os) = omega arith
 
-pub left-is : (cs : List Call) (m : Inner) (fs : List NamedFile) → Inv m → Fills (m .slots) fs → present m ≤ m .peak
+pub left-is : (cs : List Call) (m : Inner) (fs : List NamedFile) → Inv m → Fills (m .slots) fs → presentCount m ≤ m .peak
     → Fills (endM m cs .slots) (filesLeft fs cs (outsM m cs)) × (endM m cs .peak ≡ max (m .peak) (mostPresent fs cs (outsM m cs)))
 unfolding endM outsM filesLeft mostPresent
 left-is [] m fs v r few = (r, omega (arith, count-is m v fs r))
 left-is (c ∷ cs) m fs v r few =
-    let w : Fills (stepM m c .slots) (leftBy fs c (outM m c)) × (stepM m c .peak ≡ max (m .peak) (present (stepM m c))) = leaves m v fs r few c in
+    let w : Fills (stepM m c .slots) (leftBy fs c (outM m c)) × (stepM m c .peak ≡ max (m .peak) (presentCount (stepM m c))) = leaves m v fs r few c in
     let v′ : Inv (stepM m c) = step-inv m v c in
     let gs : List NamedFile = leftBy fs c (outM m c) in
-    let n : present (stepM m c) ≡ length gs = count-is (stepM m c) v′ gs (w .0) in
+    let n : presentCount (stepM m c) ≡ length gs = count-is (stepM m c) v′ gs (w .0) in
     let ih : Fills (endM (stepM m c) cs .slots) (filesLeft gs cs (outsM (stepM m c) cs))
     × (endM (stepM m c) cs .peak ≡ max (stepM m c .peak) (mostPresent gs cs (outsM (stepM m c) cs))) =
     left-is cs (stepM m c) gs v′ (w .0) (omega (arith, w .1)) in

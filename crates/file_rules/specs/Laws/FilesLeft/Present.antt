@@ -16,7 +16,7 @@ use Rattle.laws.specs.Laws.Tests.{true≢false, cond-true, cond-false}
 use Rattle.laws.specs.Laws.Changes.{upd-same, upd-other}
 use Rattle.laws.specs.Laws.Count.{count-none, count-drop, sum-change, sum-none}
 use Rattle.file_rules.specs.Directory.{nameEq}
-use Rattle.file_rules.specs.Histories.{without, sizeOf, fileNamed, Present}
+use Rattle.file_rules.specs.Histories.{without, blocksOfFiles, fileNamed, IsPresent}
 use Rattle.file_rules.specs.Laws.Base.Names.{name-sym, name-trans}
 use Rattle.file_rules.specs.Model.{NamedFile, HeldFile, heldBlocks}
 use Rattle.file_rules.specs.Written.{blocksFor}
@@ -110,8 +110,8 @@ fills-count (x ∷ fs) slots n past r =
     ∙ ap suc (fills-count fs (upd slots k none) n past′ (r .2))
 
 pub fills-size : (fs : List NamedFile) (slots : ℕ → HeldFile) (n : ℕ) → ((k : ℕ) → n ≤ k → slots k ≡ none) → Fills slots fs
-    → sum n (λ (k : ℕ). heldBlocks (slots k)) ≡ sizeOf fs
-unfolding heldBlocks sizeOf
+    → sum n (λ (k : ℕ). heldBlocks (slots k)) ≡ blocksOfFiles fs
+unfolding heldBlocks blocksOfFiles
 fills-size [] slots n past r = zeroes n
   where
     zeroes : (i : ℕ) → sum i (λ (k : ℕ). heldBlocks (slots k)) ≡ 0
@@ -154,18 +154,18 @@ fills-not-named (y ∷ fs) slots name h r =
     cond-false _ _ (h (r .0) y (r .1))
     ∙ fills-not-named fs (upd slots (r .0) none) name (λ k x e. h k x (left-slot slots (r .0) k x e .1)) (r .2)
 
-pub fills-present : (fs : List NamedFile) (slots : ℕ → HeldFile) (k : ℕ) (x : NamedFile) → slots k ≡ some x → Fills slots fs → Present x fs
+pub fills-present : (fs : List NamedFile) (slots : ℕ → HeldFile) (k : ℕ) (x : NamedFile) → slots k ≡ some x → Fills slots fs → IsPresent x fs
 fills-present [] slots k x e r = none-some x (sym (r k) ∙ e)
 fills-present (y ∷ fs) slots k x e r =
     by-equal (r .0) k
     (λ q. inl (some-some x y (sym e ∙ ap slots (sym q) ∙ r .1)))
     (λ q. inr (fills-present fs (upd slots (r .0) none) k x (upd-other slots (r .0) none k (λ z. q (sym z)) ∙ e) (r .2)))
 
-pub present-fills : (fs : List NamedFile) (slots : ℕ → HeldFile) (x : NamedFile) → Present x fs → Fills slots fs → (k : ℕ) × (slots k ≡ some x)
+pub present-fills : (fs : List NamedFile) (slots : ℕ → HeldFile) (x : NamedFile) → IsPresent x fs → Fills slots fs → (k : ℕ) × (slots k ≡ some x)
 present-fills [] slots x p r = absurd p
 present-fills (y ∷ fs) slots x p r =
     ⊎-elim
     (λ (e : x ≡ y). (r .0, r .1 ∙ ap some (sym e)))
-    (λ (q : Present x fs).
+    (λ (q : IsPresent x fs).
     let w : (k : ℕ) × (upd slots (r .0) none k ≡ some x) = present-fills fs (upd slots (r .0) none) x q (r .2) in
     (w .0, left-slot slots (r .0) (w .0) x (w .1) .1)) p

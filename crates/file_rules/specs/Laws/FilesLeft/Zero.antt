@@ -21,7 +21,7 @@ use Rattle.file_rules.specs.Laws.InnerModel.Inner.{Inner, header, render
 use Rattle.file_rules.specs.Laws.InnerModel.Invariant.{Inv}
 use Rattle.file_rules.specs.Laws.FilesLeft.Present.{Fills, fills-present}
 use Rattle.file_rules.specs.Laws.Base.Whole.{Valid, with-is}
-use Rattle.file_rules.specs.Model.{NamedFile, HeldFile, slotOf, bytesOf, dirByte, content}
+use Rattle.file_rules.specs.Model.{NamedFile, HeldFile, slotOf, heldBytes, dirByte, content}
 use Rattle.file_rules.specs.Sizes.{blockBytes, slotBytes, blockSlots}
 use Rattle.file_rules.specs.Written.{storedByte, part}
 
@@ -43,11 +43,11 @@ module _ (m : Inner) (b o : ℕ) (pos : 0 < b) (hb : b < blocks) (ho : o < block
 
   -- after a file's end
   tail-zero : (f s : ℕ) (x : NamedFile) → m .owner b ≡ File (suc f) s → m .slots (suc f) ≡ some x → slotBytes + length (x .content) ≤ s * blockBytes + o → render m b o ≡ 0
-  unfolding content part bytesOf storedByte
+  unfolding content part heldBytes storedByte
   tail-zero f s x e z h =
       byte-at (File (suc f) s) e
       ∙ cond-true _ _ (lt-true ho)
-      ∙ ap (λ (l : HeldFile). bytesOf l (s * blockBytes + o)) z
+      ∙ ap (λ (l : HeldFile). heldBytes l (s * blockBytes + o)) z
       ∙ cond-false _ _ (lt-false {a = s * blockBytes + o} {b = slotBytes} (omega arith))
       ∙ List·getD-eq-default (x .content) 0 (omega arith)
 

@@ -24,7 +24,7 @@ use Rattle.file_rules.specs.Laws.InnerModel.Invariant.{Owned}
 use Rattle.file_rules.specs.Laws.InnerModel.Owners.{keeps, still-free}
 use Rattle.file_rules.specs.Laws.Base.Whole.{Valid, unowned}
 use Rattle.file_rules.specs.Map.{isFree}
-use Rattle.file_rules.specs.Model.{Filled, Model, fileOf, takenBy, position, orRecord, slotRecord, recordIn}
+use Rattle.file_rules.specs.Model.{FilledSlot, Model, fileOf, takenBy, position, orRecord, slotRecord, modelRecord}
 
 -- ---- positions
 
@@ -62,7 +62,7 @@ by-position (some s) f g = g s refl
 
 -- ---- the blocks of a book are owned as its lists say
 
-unfoldable pub listedBlocks : (ℕ → Option Filled) → List ℕ → ℕ → List ℕ
+unfoldable pub listedBlocks : (ℕ → Option FilledSlot) → List ℕ → ℕ → List ℕ
 listedBlocks slots dir zero = dir
 listedBlocks slots dir (suc k) = takenBy (slots (suc k))
 
@@ -71,11 +71,11 @@ unfoldable pub withOwner : Model → (ℕ → Record) → Inner
 withOwner b owner =
     record { arguments = b .arguments; updates = b .updates; peak = b .peak; slots = λ (k : ℕ). fileOf (b .slots k); owner = owner }
 
-pub record Listed (slots : ℕ → Option Filled) (dir : List ℕ) (owner : ℕ → Record) (parts : ℕ → ℕ) : Type 0 where
+pub record BlocksListed (slots : ℕ → Option FilledSlot) (dir : List ℕ) (owner : ℕ → Record) (parts : ℕ → ℕ) : Type 0 where
   pub sizes : (k : ℕ) → length (listedBlocks slots dir k) ≡ parts k
   pub each : (k s : ℕ) → s < parts k → (getD (listedBlocks slots dir k) s 0 < blocks) × (owner (getD (listedBlocks slots dir k) s 0) ≡ File k s)
 
-module _ (slots : ℕ → Option Filled) (dir : List ℕ) (owner : ℕ → Record) (parts : ℕ → ℕ) (v : Owned owner parts) (r : Listed slots dir owner parts)
+module _ (slots : ℕ → Option FilledSlot) (dir : List ℕ) (owner : ℕ → Record) (parts : ℕ → ℕ) (v : Owned owner parts) (r : BlocksListed slots dir owner parts)
     (first : slots 0 ≡ none) (peak : ℕ) (past : (k : ℕ) → peak < k → parts k ≡ 0) where
   -- what a search finds is the owner
   hit : (b k s : ℕ) → position b 0 (listedBlocks slots dir k) ≡ some s → owner b ≡ File k s
@@ -103,7 +103,7 @@ module _ (slots : ℕ → Option Filled) (dir : List ℕ) (owner : ℕ → Recor
       go (File k s) e = absurd (high k s (omega arith) e)
       go Other e = absurd (subst Valid e (v .own-valid b l))
   slot-is (suc zero) b l high low sys =
-      ap (λ (x : Option Filled). orRecord 0 (position b 0 (takenBy x)) (slotRecord slots 0 b)) first
+      ap (λ (x : Option FilledSlot). orRecord 0 (position b 0 (takenBy x)) (slotRecord slots 0 b)) first
       ∙ slot-is zero b l (λ k s h e. by-equal k 0 (λ q. low s (e ∙ ap (λ (j : ℕ). File j s) q)) (λ q. high k s (omega arith) e)) low sys
   slot-is (suc (suc n)) b l high low sys =
       by-position (position b 0 (takenBy (slots (suc n))))
@@ -111,8 +111,8 @@ module _ (slots : ℕ → Option Filled) (dir : List ℕ) (owner : ℕ → Recor
       ∙ slot-is (suc n) b l (λ k s h q. by-equal k (suc n) (λ p. miss b (suc n) s l e (q ∙ ap (λ (j : ℕ). File j s) p)) (λ p. high k s (omega arith) q)) low sys)
       (λ s e. ap (λ (o : Option ℕ). orRecord (suc n) o (slotRecord slots (suc n) b)) e ∙ sym (hit b (suc n) s e))
 
-  pub owner-is : (b : ℕ) → b < blocks → recordIn slots dir peak b ≡ owner b
-  unfolding recordIn orRecord listedBlocks
+  pub owner-is : (b : ℕ) → b < blocks → modelRecord slots dir peak b ≡ owner b
+  unfolding modelRecord orRecord listedBlocks
   owner-is b l =
       by-equal b 0
       (λ z. cond-true _ _ (eq-true z) ∙ sym (ap owner z ∙ v .own-zero))
@@ -153,10 +153,10 @@ give-at (x ∷ xs) owner f s i (suc j) t h =
     let z : suc s + j ≡ s + suc j = omega arith in
     (w .0, w .1 ∙ ap (File f) z)
 
-module _ (slots slots′ : ℕ → Option Filled) (dir dir′ : List ℕ) (owner : ℕ → Record) (parts : ℕ → ℕ) (r : Listed slots dir owner parts) where
+module _ (slots slots′ : ℕ → Option FilledSlot) (dir dir′ : List ℕ) (owner : ℕ → Record) (parts : ℕ → ℕ) (r : BlocksListed slots dir owner parts) where
   pub give-listed : (bs : List ℕ) (f s i : ℕ) → Picks blocks (freeOf owner) i bs → parts f ≡ s
       → ((k : ℕ) → k ≢ f → listedBlocks slots′ dir′ k ≡ listedBlocks slots dir k) → listedBlocks slots′ dir′ f ≡ listedBlocks slots dir f ++ bs
-      → Listed slots′ dir′ (give owner f s bs) (upd parts f (s + length bs))
+      → BlocksListed slots′ dir′ (give owner f s bs) (upd parts f (s + length bs))
   give-listed bs f s i t e others this =
       let old : List ℕ = listedBlocks slots dir f in
       let long : length old ≡ s = r .sizes f ∙ e in
@@ -201,7 +201,7 @@ module _ (slots slots′ : ℕ → Option Filled) (dir dir′ : List ℕ) (owner
 
   pub freed-listed : (f : ℕ) (parts′ : ℕ → ℕ) → ((k : ℕ) → k ≢ f → parts′ k ≡ parts k) → parts′ f ≡ 0
       → ((k : ℕ) → k ≢ f → listedBlocks slots′ dir′ k ≡ listedBlocks slots dir k) → listedBlocks slots′ dir′ f ≡ []
-      → Listed slots′ dir′ (λ (b : ℕ). unowned f (owner b)) parts′
+      → BlocksListed slots′ dir′ (λ (b : ℕ). unowned f (owner b)) parts′
   freed-listed f parts′ e z others this =
       record {
         sizes = λ k.
@@ -215,7 +215,7 @@ module _ (slots slots′ : ℕ → Option Filled) (dir dir′ : List ℕ) (owner
             (omega (arith, w .0), ap (λ (b : ℕ). unowned f (owner b)) y ∙ keeps f k u (owner (getD (listedBlocks slots dir k) u 0)) (w .1) q));
       }
 
-pub listed-cong : (slots : ℕ → Option Filled) (dir : List ℕ) (owner : ℕ → Record) (parts parts′ : ℕ → ℕ) → ((k : ℕ) → parts k ≡ parts′ k)
-    → Listed slots dir owner parts → Listed slots dir owner parts′
+pub listed-cong : (slots : ℕ → Option FilledSlot) (dir : List ℕ) (owner : ℕ → Record) (parts parts′ : ℕ → ℕ) → ((k : ℕ) → parts k ≡ parts′ k)
+    → BlocksListed slots dir owner parts → BlocksListed slots dir owner parts′
 listed-cong slots dir owner parts parts′ e r =
     record { sizes = λ k. r .sizes k ∙ e k; each = λ k u h. r .each k u (subst (λ (x : ℕ). u < x) (sym (e k)) h) }

@@ -14,15 +14,15 @@ use Rattle.sector_rules.specs.Replies.{reply, done, refusal}
 use Rattle.sector_rules.specs.declared.Reply.{Reply}
 use Rattle.file_rules.specs.declared.Record.{Record}
 use Rattle.file_rules.specs.declared.Record.the-variants.{File}
-use Rattle.file_rules.specs.Calls.{Outcome, kept, freshOwner, deliver}
+use Rattle.file_rules.specs.Calls.{Outcome, bufferKept, freshOwner, deliver}
 use Rattle.file_rules.specs.Directory.{nameRight}
 use Rattle.file_rules.specs.Arguments.{FormatArguments}
 use Rattle.file_rules.specs.Disk.{Disk}
 use Rattle.file_rules.specs.Histories.{Call, toAdd, toRemove, toList, toRead}
 use Rattle.file_rules.specs.Laws.Base.Whole.{unowned}
 use Rattle.file_rules.specs.Map.{isFree}
-use Rattle.file_rules.specs.Model.{NamedFile, HeldFile, heldBlocks, dirBlocks, usable, freeWord, content, named, heldEntries, heldData, wrap}
-use Rattle.file_rules.specs.Written.{headerByte, diskWith, blocksFor}
+use Rattle.file_rules.specs.Model.{NamedFile, HeldFile, heldBlocks, dirBlocks, usable, freeWord, content, hasName, heldEntries, heldData, wrap}
+use Rattle.file_rules.specs.Written.{diskHeaderByte, diskWith, blocksFor}
 
 pub record Inner : Type 0 where
   -- given at format
@@ -38,8 +38,8 @@ pub record Inner : Type 0 where
 
 -- ---- sizes
 
-unfoldable pub present : Inner → ℕ
-present m = count (suc (m .peak)) (λ (k : ℕ). isSome (m .slots k))
+unfoldable pub presentCount : Inner → ℕ
+presentCount m = count (suc (m .peak)) (λ (k : ℕ). isSome (m .slots k))
 
 -- S of demand 3
 unfoldable pub fileBlocks : Inner → ℕ
@@ -48,7 +48,7 @@ fileBlocks m = sum (suc (m .peak)) (λ (k : ℕ). heldBlocks (m .slots k))
 -- ---- the image of a model
 
 unfoldable pub header : Inner → ℕ → ℕ
-header m = headerByte (m .arguments) (m .updates) (freeWord (m .peak) (fileBlocks m)) (suc (m .peak))
+header m = diskHeaderByte (m .arguments) (m .updates) (freeWord (m .peak) (fileBlocks m)) (suc (m .peak))
 
 unfoldable pub render : Inner → Disk
 render m = diskWith (header m) (m .owner) (content (m .slots) (m .slots))
@@ -63,7 +63,7 @@ formatM args = record { arguments = args; updates = 0; peak = 0; slots = emptySl
 
 -- the slot of that name, or the first past the peak
 unfoldable pub findM : Inner → List ℕ → ℕ
-findM m name = lowest (λ (k : ℕ). named name (m .slots k)) (suc (m .peak))
+findM m name = lowest (λ (k : ℕ). hasName name (m .slots k)) (suc (m .peak))
 
 -- the lowest empty slot
 unfoldable pub emptySlot : Inner → ℕ
@@ -83,15 +83,15 @@ listM m buf = deliver (heldEntries (m .slots) (suc (m .peak))) buf
 unfoldable pub readM : Inner → List ℕ → List ℕ → Outcome
 readM m name buf =
     cond (nameRight name)
-    (cond (ltb (findM m name) (suc (m .peak))) (deliver (heldData (m .slots (findM m name))) buf) (kept buf (refusal 14)))
-    (kept buf (refusal 12))
+    (cond (ltb (findM m name) (suc (m .peak))) (deliver (heldData (m .slots (findM m name))) buf) (bufferKept buf (refusal 14)))
+    (bufferKept buf (refusal 12))
 
 pub record ChangedM : Type 0 where
   pub answer : Reply
-  pub model : Inner
+  pub modelAfter : Inner
 
 unfoldable pub refusedM : Inner → Reply → ChangedM
-refusedM m r = record { answer = r; model = m }
+refusedM m r = record { answer = r; modelAfter = m }
 
 unfoldable pub removeAtM : Inner → ℕ → Inner
 removeAtM m k =
@@ -106,7 +106,7 @@ removeAtM m k =
 unfoldable pub removeM : Inner → List ℕ → ChangedM
 removeM m name =
     cond (nameRight name)
-    (cond (ltb (findM m name) (suc (m .peak))) (record { answer = done; model = removeAtM m (findM m name) })
+    (cond (ltb (findM m name) (suc (m .peak))) (record { answer = done; modelAfter = removeAtM m (findM m name) })
     (refusedM m (refusal 14)))
     (refusedM m (refusal 12))
 
@@ -116,7 +116,7 @@ growOwner m peak =
     (give (m .owner) 0 (dirBlocks (m .peak)) (firsts blocks 1 (freeOf (m .owner)))) (m .owner)
 
 unfoldable pub peakAfter : Inner → ℕ
-peakAfter m = max (m .peak) (suc (present m))
+peakAfter m = max (m .peak) (suc (presentCount m))
 
 unfoldable pub addAtM : Inner → ℕ → NamedFile → Inner
 addAtM m k x =
@@ -137,20 +137,20 @@ unfoldable pub addM : Inner → NamedFile → ChangedM
 addM m x =
     cond (nameRight (x .name))
     (cond (ltb (findM m (x .name)) (suc (m .peak))) (refusedM m (reply 13 (findM m (x .name)) 0 0))
-    (cond (roomFor m x) (record { answer = done; model = addAtM m (emptySlot m) x }) (refusedM m (refusal 15))))
+    (cond (roomFor m x) (record { answer = done; modelAfter = addAtM m (emptySlot m) x }) (refusedM m (refusal 15))))
     (refusedM m (refusal 12))
 
 -- ---- histories
 
 unfoldable pub stepM : Inner → Call → Inner
-stepM m (toAdd x) = addM m x .model
-stepM m (toRemove name) = removeM m name .model
+stepM m (toAdd x) = addM m x .modelAfter
+stepM m (toRemove name) = removeM m name .modelAfter
 stepM m (toList buf) = m
 stepM m (toRead name buf) = m
 
 unfoldable pub outM : Inner → Call → Outcome
-outM m (toAdd x) = kept [] (addM m x .answer)
-outM m (toRemove name) = kept [] (removeM m name .answer)
+outM m (toAdd x) = bufferKept [] (addM m x .answer)
+outM m (toRemove name) = bufferKept [] (removeM m name .answer)
 outM m (toList buf) = listM m buf
 outM m (toRead name buf) = readM m name buf
 

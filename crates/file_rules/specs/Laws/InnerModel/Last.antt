@@ -23,13 +23,13 @@ use Rattle.file_rules.specs.Laws.Base.Whole.{Valid, With, freeCount-is, 
 use Rattle.file_rules.specs.Map.{isSystem, isPart, freeCount, partBlock}
 use Rattle.file_rules.specs.Model.{HeldFile, slotOf, dirByte, content, wrap}
 use Rattle.file_rules.specs.Sizes.{blockBytes, slotBytes, blockSlots, freeSectors, wholeBlocks, bytesOver}
-use Rattle.file_rules.specs.Written.{fixedByte, headerByte, setSlot, setWord, setFree, setEnd, stepUpdate}
+use Rattle.file_rules.specs.Written.{fixedByte, diskHeaderByte, setSlot, setWord, setFree, setEnd, stepUpdate}
 
 -- ---- the header's words
 
 module _ (args : FormatArguments) where
-  pub set-free-word : (u w w′ e o : ℕ) → patch (headerByte args u w e) 20 2 (highByte 2 w′) o ≡ headerByte args u w′ e o
-  unfolding headerByte
+  pub set-free-word : (u w w′ e o : ℕ) → patch (diskHeaderByte args u w e) 20 2 (highByte 2 w′) o ≡ diskHeaderByte args u w′ e o
+  unfolding diskHeaderByte
   set-free-word u w w′ e o =
       let X : ℕ → ℕ = patch (fixedByte args) 16 4 (highByte 4 u) in
       let a : ℕ → ℕ = highByte 2 (wholeBlocks e) in
@@ -40,8 +40,8 @@ module _ (args : FormatArguments) where
       (patch-swap Y 34 2 a 20 2 (highByte 2 w′) o (omega arith)
       ∙ patch-cong (patch Y 20 2 (highByte 2 w′)) (patch X 20 2 (highByte 2 w′)) 34 2 a o (patch-twice X 20 2 (highByte 2 w) (highByte 2 w′) o))
 
-  pub set-updates : (u u′ w e o : ℕ) → patch (headerByte args u w e) 16 4 (highByte 4 u′) o ≡ headerByte args u′ w e o
-  unfolding headerByte
+  pub set-updates : (u u′ w e o : ℕ) → patch (diskHeaderByte args u w e) 16 4 (highByte 4 u′) o ≡ diskHeaderByte args u′ w e o
+  unfolding diskHeaderByte
   set-updates u u′ w e o =
       let F : ℕ → ℕ = fixedByte args in
       let a : ℕ → ℕ = highByte 2 (wholeBlocks e) in
@@ -58,8 +58,8 @@ module _ (args : FormatArguments) where
       ∙ patch-cong (patch X 16 4 (highByte 4 u′)) X′ 20 2 (highByte 2 w) o (patch-twice F 16 4 (highByte 4 u) (highByte 4 u′) o)))
 
   pub set-end : (u w e e′ o : ℕ)
-      → patch (patch (headerByte args u w e) 34 2 (highByte 2 (wholeBlocks e′))) 36 2 (highByte 2 (bytesOver e′)) o ≡ headerByte args u w e′ o
-  unfolding headerByte
+      → patch (patch (diskHeaderByte args u w e) 34 2 (highByte 2 (wholeBlocks e′))) 36 2 (highByte 2 (bytesOver e′)) o ≡ diskHeaderByte args u w e′ o
+  unfolding diskHeaderByte
   set-end u w e e′ o =
       let Y : ℕ → ℕ = patch (patch (fixedByte args) 16 4 (highByte 4 u)) 20 2 (highByte 2 w) in
       let a : ℕ → ℕ = highByte 2 (wholeBlocks e) in
@@ -71,8 +71,8 @@ module _ (args : FormatArguments) where
       ∙ patch-cong (patch (patch Y 34 2 a) 34 2 a′) (patch Y 34 2 a′) 36 2 b o (patch-twice Y 34 2 a a′ o))
       ∙ patch-twice (patch Y 34 2 a′) 36 2 b b′ o
 
-  updates-at : (u w e : ℕ) → u < 4294967296 → at32 (headerByte args u w e) 16 ≡ u
-  unfolding at32 bigEndian headerByte patch
+  updates-at : (u w e : ℕ) → u < 4294967296 → at32 (diskHeaderByte args u w e) 16 ≡ u
+  unfolding at32 bigEndian diskHeaderByte patch
   updates-at u w e h = high4-at u h
 
 wrap-bytes : (u i : ℕ) → u < 4294967296 → highByte 4 (u + 1) i ≡ highByte 4 (wrap (u + 1)) i
@@ -85,46 +85,46 @@ wrap-bytes u (suc (suc (suc i))) h = let e : 8 * (4 - (suc (suc (suc i)) + 1)) �
 -- ---- the free word and the update count
 
 module _ (args : FormatArguments) (u w e : ℕ) (owner : ℕ → Record) (c : Record → ℕ → ℕ) (d : Disk)
-    (p : With d (headerByte args u w e) owner c) where
-  pub free-step : ((b : ℕ) → b < blocks → Valid (owner b)) → With (setFree d) (headerByte args u (freeSectors (count blocks (freeOf owner))) e) owner c
+    (p : With d (diskHeaderByte args u w e) owner c) where
+  pub free-step : ((b : ℕ) → b < blocks → Valid (owner b)) → With (setFree d) (diskHeaderByte args u (freeSectors (count blocks (freeOf owner))) e) owner c
   unfolding setFree setWord freeOf
   free-step v =
-      let n : freeCount d ≡ count blocks (freeOf owner) = freeCount-is d (headerByte args u w e) owner c p v in
-      subst (λ (k : ℕ). With (upd d 0 (patch (d 0) 20 2 (highByte 2 (freeSectors k)))) (headerByte args u (freeSectors (count blocks (freeOf owner))) e) owner c) (sym n)
+      let n : freeCount d ≡ count blocks (freeOf owner) = freeCount-is d (diskHeaderByte args u w e) owner c p v in
+      subst (λ (k : ℕ). With (upd d 0 (patch (d 0) 20 2 (highByte 2 (freeSectors k)))) (diskHeaderByte args u (freeSectors (count blocks (freeOf owner))) e) owner c) (sym n)
       (with-same (upd d 0 (patch (d 0) 20 2 (highByte 2 (freeSectors (count blocks (freeOf owner))))))
-      (patch (headerByte args u w e) 20 2 (highByte 2 (freeSectors (count blocks (freeOf owner))))) owner c
-      (write-head d (headerByte args u w e) owner c p 20 2 (highByte 2 (freeSectors (count blocks (freeOf owner)))) (omega arith))
-      (headerByte args u (freeSectors (count blocks (freeOf owner))) e) owner c
+      (patch (diskHeaderByte args u w e) 20 2 (highByte 2 (freeSectors (count blocks (freeOf owner))))) owner c
+      (write-head d (diskHeaderByte args u w e) owner c p 20 2 (highByte 2 (freeSectors (count blocks (freeOf owner)))) (omega arith))
+      (diskHeaderByte args u (freeSectors (count blocks (freeOf owner))) e) owner c
       (λ o k. set-free-word args u w (freeSectors (count blocks (freeOf owner))) e o) (λ b k. refl) (λ b o i j k. refl))
 
-  pub end-step : (e′ : ℕ) → With (setEnd d e′) (headerByte args u w e′) owner c
+  pub end-step : (e′ : ℕ) → With (setEnd d e′) (diskHeaderByte args u w e′) owner c
   unfolding setEnd setWord
   end-step e′ =
-      let h : ℕ → ℕ = headerByte args u w e in
+      let h : ℕ → ℕ = diskHeaderByte args u w e in
       let a : ℕ → ℕ = highByte 2 (wholeBlocks e′) in
       let b : ℕ → ℕ = highByte 2 (bytesOver e′) in
       let d₁ : Disk = upd d 0 (patch (d 0) 34 2 a) in
       with-same (upd d₁ 0 (patch (d₁ 0) 36 2 b)) (patch (patch h 34 2 a) 36 2 b) owner c
       (write-head d₁ (patch h 34 2 a) owner c (write-head d h owner c p 34 2 a (omega arith)) 36 2 b (omega arith))
-      (headerByte args u w e′) owner c
+      (diskHeaderByte args u w e′) owner c
       (λ o k. set-end args u w e e′ o) (λ x k. refl) (λ x o i j k. refl)
 
-  pub update-step : u < 4294967296 → With (stepUpdate d) (headerByte args (wrap (u + 1)) w e) owner c
+  pub update-step : u < 4294967296 → With (stepUpdate d) (diskHeaderByte args (wrap (u + 1)) w e) owner c
   unfolding stepUpdate at32 bigEndian
   update-step small =
-      let h : ℕ → ℕ = headerByte args u w e in
+      let h : ℕ → ℕ = diskHeaderByte args u w e in
       let n : at32 (d 0) 16 ≡ u = rw (p .head 16 (omega arith), p .head 17 (omega arith), p .head 18 (omega arith), p .head 19 (omega arith)) (updates-at args u w e small) in
       let g : highByte 4 (u + 1) ≡ highByte 4 (wrap (u + 1)) = fun-ext (λ (i : ℕ). wrap-bytes u i small) in
-      subst (λ (f : ℕ → ℕ). With (upd d 0 (patch (d 0) 16 4 f)) (headerByte args (wrap (u + 1)) w e) owner c)
+      subst (λ (f : ℕ → ℕ). With (upd d 0 (patch (d 0) 16 4 f)) (diskHeaderByte args (wrap (u + 1)) w e) owner c)
       (sym (ap (λ (k : ℕ). highByte 4 (k + 1)) n ∙ g))
       (with-same (upd d 0 (patch (d 0) 16 4 (highByte 4 (wrap (u + 1))))) (patch h 16 4 (highByte 4 (wrap (u + 1)))) owner c
       (write-head d h owner c p 16 4 (highByte 4 (wrap (u + 1))) (omega arith))
-      (headerByte args (wrap (u + 1)) w e) owner c
+      (diskHeaderByte args (wrap (u + 1)) w e) owner c
       (λ o k. set-updates args u (wrap (u + 1)) w e o) (λ b k. refl) (λ b o i j k. refl))
 
 pub finish : (args : FormatArguments) (u w e : ℕ) (owner : ℕ → Record) (c : Record → ℕ → ℕ) (d : Disk)
-    → With d (headerByte args u w e) owner c → ((b : ℕ) → b < blocks → Valid (owner b)) → u < 4294967296
-    → With (stepUpdate (setFree d)) (headerByte args (wrap (u + 1)) (freeSectors (count blocks (freeOf owner))) e) owner c
+    → With d (diskHeaderByte args u w e) owner c → ((b : ℕ) → b < blocks → Valid (owner b)) → u < 4294967296
+    → With (stepUpdate (setFree d)) (diskHeaderByte args (wrap (u + 1)) (freeSectors (count blocks (freeOf owner))) e) owner c
 finish args u w e owner c d p v small =
     update-step args u (freeSectors (count blocks (freeOf owner))) e owner c (setFree d) (free-step args u w e owner c d p v) small
 

@@ -11,7 +11,7 @@ use lib.Dec.{ltb, eqb}
 use lib.ListN.{length, getD, take}
 use Rattle.laws.specs.Lists.{same, bytesAre, tab}
 use Rattle.laws.specs.Below.{count, lowest}
-use Rattle.laws.specs.Numbers.{at16, at32, up, bigEndian}
+use Rattle.laws.specs.Numbers.{at16, at32, quotientUp, bigEndian}
 use Rattle.laws.specs.Options.{isSome}
 use Rattle.laws.specs.Laws.Cases.{by-order, by-equal}
 use Rattle.laws.specs.Laws.Tests.{lt-true, lt-false, eq-true, eq-false, true≢false, cond-true, cond-false, and-true, and-false-left, and-false-right}
@@ -24,7 +24,7 @@ use Rattle.sector_rules.specs.Geometry.{blocks}
 use Rattle.sector_rules.specs.Replies.{refusal}
 use Rattle.file_rules.specs.declared.Record.{Record}
 use Rattle.file_rules.specs.declared.Record.the-variants.{File}
-use Rattle.file_rules.specs.Calls.{Outcome, kept, deliver, entries, listSound, dataOf, readSound}
+use Rattle.file_rules.specs.Calls.{Outcome, bufferKept, deliver, entries, listSound, dataOf, readSound}
 use Rattle.file_rules.specs.Directory.{nameEq, nameRight, entryOf, entryByte, nameOf, entryFor, slotByte, slotEntry, slotName, held, dirBytes}
 use Rattle.file_rules.specs.Directory.{dirEnd, findName, vacantSlot}
 use Rattle.file_rules.specs.Disk.{Disk}
@@ -32,7 +32,7 @@ use Rattle.file_rules.specs.Laws.InnerModel.Inner.{Inner, fileBlocks, he
 use Rattle.file_rules.specs.Laws.InnerModel.Invariant.{partsOf, Inv}
 use Rattle.file_rules.specs.Laws.Base.Whole.{With, with-is, record-is, freeCount-is, partBlock-is}
 use Rattle.file_rules.specs.Map.{recordAt, isSystem, isPart, freeCount, partBlock, fileByte}
-use Rattle.file_rules.specs.Model.{NamedFile, HeldFile, heldBlocks, dirBlocks, usable, freeWord, slotOf, bytesOf, dirByte, content, named}
+use Rattle.file_rules.specs.Model.{NamedFile, HeldFile, heldBlocks, dirBlocks, usable, freeWord, slotOf, heldBytes, dirByte, content, hasName}
 use Rattle.file_rules.specs.Model.{heldEntry, heldEntries, heldData}
 use Rattle.file_rules.specs.Sizes.{blockBytes, slotBytes, blockSlots, mapStart, nameMost, wholeBlocks, bytesOver}
 use Rattle.file_rules.specs.Written.{storedByte, part, blocksFor}
@@ -140,7 +140,7 @@ module _ (m : Inner) (v : Inv m) where
 
     module _ (x : NamedFile) (e : m .slots k ≡ some x) where
       size-fits : slotBytes + length (x .content) ≤ 735744
-      unfolding fileBlocks heldBlocks blocksFor up
+      unfolding fileBlocks heldBlocks blocksFor quotientUp
       size-fits =
           let one : heldBlocks (m .slots k) ≤ fileBlocks m = sum-at (suc (m .peak)) k (λ (j : ℕ). heldBlocks (m .slots j)) (omega arith) in
           let it : (slotBytes + length (x .content) + (blockBytes - 1)) / blockBytes ≤ usable = omega (arith, v .free-sum, ap heldBlocks e) in
@@ -159,7 +159,7 @@ module _ (m : Inner) (v : Inv m) where
           (entry-length (x .name) (x .date) (length (x .content)) (omega (arith, size-fits)))
 
       -- the name length that is read of a filled slot
-      pub slotNameLength-is : (slotEntry d k .named) ≡ length (x .name)
+      pub slotNameLength-is : (slotEntry d k .namelen) ≡ length (x .name)
       unfolding slotEntry entryOf at16 bigEndian
       slotNameLength-is =
           rw (entry-is 14 (omega arith), entry-is 15 (omega arith))
@@ -176,8 +176,8 @@ module _ (m : Inner) (v : Inv m) where
           ∙ entry-name-byte (x .name) (x .date) (length (x .content)) i (omega (arith, v .slot-name k x e .1)))
           ∙ tab-self (x .name)
 
-    named-is : (name : List ℕ) (l : HeldFile) → m .slots k ≡ l → (held d k && nameEq (slotName d k) name) ≡ named name l
-    unfolding named isSome
+    named-is : (name : List ℕ) (l : HeldFile) → m .slots k ≡ l → (held d k && nameEq (slotName d k) name) ≡ hasName name l
+    unfolding hasName isSome
     named-is name none e = and-false-left (nameEq (slotName d k) name) (held-is none e)
     named-is name (some x) e = ap₂ (λ (a b : Bool). a && b) (held-is (some x) e) (ap (λ (n : List ℕ). nameEq n name) (slotName-is x e))
 
@@ -193,7 +193,7 @@ module _ (m : Inner) (v : Inv m) where
   unfolding findName findM
   findName-is name =
       ap (λ (n : ℕ). lowest (λ (k : ℕ). (held d k && nameEq (slotName d k) name)) n) dirEnd-is
-      ∙ lowest-cong (λ (k : ℕ). (held d k && nameEq (slotName d k) name)) (λ (k : ℕ). named name (m .slots k)) (suc (m .peak))
+      ∙ lowest-cong (λ (k : ℕ). (held d k && nameEq (slotName d k) name)) (λ (k : ℕ). hasName name (m .slots k)) (suc (m .peak))
       (λ k h. named-is k (omega arith) name (m .slots k) refl)
 
   -- the first vacant slot of the disk is the first empty one of the model
@@ -215,7 +215,7 @@ module _ (m : Inner) (v : Inv m) where
 
   -- the data that is read of a filled slot is the file's content
   pub readAt-is : (k : ℕ) (x : NamedFile) → suc k ≤ m .peak → m .slots (suc k) ≡ some x → dataOf d (suc k) ≡ x .content
-  unfolding dataOf fileByte partsOf heldBlocks blocksFor up content part bytesOf storedByte
+  unfolding dataOf fileByte partsOf heldBlocks blocksFor quotientUp content part heldBytes storedByte
   readAt-is k x h e =
       let n : ℕ = length (x .content) in
       let size : heldBlocks (m .slots (suc k)) ≡ (slotBytes + n + (blockBytes - 1)) / blockBytes = ap heldBlocks e in
@@ -227,7 +227,7 @@ module _ (m : Inner) (v : Inv m) where
       let back : slotBytes + i - slotBytes ≡ i = omega arith in
       part-byte (suc k) ((slotBytes + i) / blockBytes) ((slotBytes + i) % blockBytes) (omega arith) (omega arith)
       ∙ cond-true _ _ (lt-true {a = (slotBytes + i) % blockBytes} {b = blockBytes} (omega arith))
-      ∙ ap₂ bytesOf e whole
+      ∙ ap₂ heldBytes e whole
       ∙ cond-false _ _ (lt-false {a = slotBytes + i} {b = slotBytes} (omega arith))
       ∙ ap (λ (j : ℕ). getD (x .content) j 0) back)
       ∙ tab-self (x .content)
@@ -237,9 +237,9 @@ module _ (m : Inner) (v : Inv m) where
   -- a slot in which a name is found holds a file of that name and is not slot 0
   pub found-slot : (name : List ℕ) → findM m name < suc (m .peak)
       → (x : NamedFile) × (m .slots (findM m name) ≡ some x) × (nameEq (x .name) name ≡ true) × (0 < findM m name)
-  unfolding findM named isSome
+  unfolding findM hasName isSome
   found-slot name h =
-      go (m .slots (findM m name)) refl (lowest-hit (λ (k : ℕ). named name (m .slots k)) (suc (m .peak)) h)
+      go (m .slots (findM m name)) refl (lowest-hit (λ (k : ℕ). hasName name (m .slots k)) (suc (m .peak)) h)
     where
       pos : (x : NamedFile) → m .slots (findM m name) ≡ some x → 0 < findM m name
       pos x e =
@@ -247,10 +247,10 @@ module _ (m : Inner) (v : Inv m) where
           (λ z. true≢false (isSome (m .slots (findM m name))) (ap isSome e) (ap (λ (j : ℕ). isSome (m .slots j)) z ∙ ap isSome (v .slot-zero)))
           (λ z. omega arith)
 
-      go : (l : HeldFile) → m .slots (findM m name) ≡ l → named name (m .slots (findM m name)) ≡ true
+      go : (l : HeldFile) → m .slots (findM m name) ≡ l → hasName name (m .slots (findM m name)) ≡ true
           → (x : NamedFile) × (m .slots (findM m name) ≡ some x) × (nameEq (x .name) name ≡ true) × (0 < findM m name)
-      go none e t = true≢false (named name (m .slots (findM m name))) t (ap (named name) e)
-      go (some x) e t = (x, e, sym (ap (named name) e) ∙ t, pos x e)
+      go none e t = true≢false (hasName name (m .slots (findM m name))) t (ap (hasName name) e)
+      go (some x) e t = (x, e, sym (ap (hasName name) e) ∙ t, pos x e)
 
   -- list gives on the disk what it gives in the model
   pub list-is : (buf : List ℕ) → listSound d buf ≡ listM m buf
@@ -267,10 +267,10 @@ module _ (m : Inner) (v : Inv m) where
   unfolding readSound readM
   read-is name buf =
       rw (findName-is name, dirEnd-is)
-      (ap (λ (o : Outcome). cond (nameRight name) o (kept buf (refusal 12)))
+      (ap (λ (o : Outcome). cond (nameRight name) o (bufferKept buf (refusal 12)))
       (by-order (findM m name) (suc (m .peak))
       (λ h.
       let w : (x : NamedFile) × (m .slots (findM m name) ≡ some x) × (nameEq (x .name) name ≡ true) × (0 < findM m name) = found-slot name h in
-      ap (λ (xs : List ℕ). cond (ltb (findM m name) (suc (m .peak))) (deliver xs buf) (kept buf (refusal 14)))
+      ap (λ (xs : List ℕ). cond (ltb (findM m name) (suc (m .peak))) (deliver xs buf) (bufferKept buf (refusal 14)))
       (data-is (findM m name) (w .0) (w .3) (omega arith) (w .1)))
       (λ h. cond-false _ _ (lt-false h) ∙ sym (cond-false _ _ (lt-false h)))))

@@ -28,13 +28,13 @@ use Rattle.file_rules.specs.Laws.InnerModel.Invariant.{partsOf, Inv}
 use Rattle.file_rules.specs.Laws.InnerModel.Last.{end-step, finish, slot-step}
 use Rattle.file_rules.specs.Laws.Base.Whole.{With, with-is, with-only, free-is, with-same}
 use Rattle.file_rules.specs.Map.{isFree, freeAt}
-use Rattle.file_rules.specs.Model.{NamedFile, HeldFile, entryFrom, dirBlocks, usable, freeWord, slotOf, bytesOf, dirByte, content, wrap}
+use Rattle.file_rules.specs.Model.{NamedFile, HeldFile, entryFrom, dirBlocks, usable, freeWord, slotOf, heldBytes, dirByte, content, wrap}
 use Rattle.file_rules.specs.Sizes.{blockBytes, slotBytes, blockSlots, nameMost, freeSectors}
-use Rattle.file_rules.specs.Written.{headerByte, storedByte, part, blocksFor, zeros, setSlot, setEnd, giveBlocks}
+use Rattle.file_rules.specs.Written.{diskHeaderByte, storedByte, part, blocksFor, zeros, setSlot, setEnd, giveBlocks}
 use Rattle.file_rules.specs.Laws.OnImages.Slot.{picks-inside, give-step, k-le, k-pos, k-none, peak-same, peak-more, grows-is, by-growth}
 use Rattle.file_rules.specs.Laws.OnImages.Added.{owned₁, owned₂, k-in, add-inv}
 
-file-content : (E F : ℕ → HeldFile) (f s o : ℕ) → 0 < f → content E F (File f s) o ≡ part (bytesOf (F f)) s o
+file-content : (E F : ℕ → HeldFile) (f s o : ℕ) → 0 < f → content E F (File f s) o ≡ part (heldBytes (F f)) s o
 unfolding content
 file-content E F zero s o h = absurd (omega arith)
 file-content E F (suc f) s o h = refl
@@ -46,7 +46,7 @@ other-file E F G Free o e = refl
 other-file E F G System o e = refl
 other-file E F G Other o e = refl
 other-file E F G (File zero s) o e = refl
-other-file E F G (File (suc f) s) o e = ap (λ (x : HeldFile). part (bytesOf x) s o) (e (suc f) s refl)
+other-file E F G (File (suc f) s) o e = ap (λ (x : HeldFile). part (heldBytes x) s o) (e (suc f) s refl)
 
 module _ (m : Inner) (v : Inv m) (x : NamedFile) (right : (1 ≤ length (x .name)) × (length (x .name) ≤ nameMost))
     (new : suc (m .peak) ≤ findM m (x .name)) (room : dirBlocks (peakAfter m) + (fileBlocks m + blocksFor (length (x .content))) ≤ usable) where
@@ -130,7 +130,7 @@ module _ (m : Inner) (v : Inv m) (x : NamedFile) (right : (1 ≤ length (x .name
   d₂ = giveBlocks d₁ kk stored 0 (firsts blocks n (freeAt d₁))
 
   filled : With d₂ (header m) (give owner₁ kk 0 rest) (content (m .slots) L′)
-  unfolding bytesOf
+  unfolding heldBytes
   filled =
       let same-rest : firsts blocks n (freeAt d₁) ≡ rest =
       firsts-cong blocks n (freeAt d₁) (freeOf owner₁)
@@ -138,7 +138,7 @@ module _ (m : Inner) (v : Inv m) (x : NamedFile) (right : (1 ≤ length (x .name
       subst (λ (bs : List ℕ). With (giveBlocks d₁ kk stored 0 bs) (header m) (give owner₁ kk 0 rest) (content (m .slots) L′)) (sym same-rest)
       (give-step rest d₁ (header m) owner₁ (content (m .slots) L′) kk 0 stored
       (picks-inside (freeOf owner₁) 0 rest owner₁-free (firsts-picks blocks n (freeOf owner₁)))
-      (λ t o h l. sym (file-content (m .slots) L′ kk t o (k-pos m v) ∙ ap (λ (y : HeldFile). part (bytesOf y) t o) (upd-same (m .slots) kk (some x) kk refl)))
+      (λ t o h l. sym (file-content (m .slots) L′ kk t o (k-pos m v) ∙ ap (λ (y : HeldFile). part (heldBytes y) t o) (upd-same (m .slots) kk (some x) kk refl)))
       grown)
 
   abbrev entry : ℕ → ℕ
@@ -158,7 +158,7 @@ module _ (m : Inner) (v : Inv m) (x : NamedFile) (right : (1 ≤ length (x .name
   abbrev d₄ : Disk
   d₄ = endAfter kk (dirEnd d₀) d₃
 
-  ended : With d₄ (headerByte (m .arguments) (m .updates) (freeWord (m .peak) (fileBlocks m)) (suc (peakAfter m))) (m′ .owner) (content L′ L′)
+  ended : With d₄ (diskHeaderByte (m .arguments) (m .updates) (freeWord (m .peak) (fileBlocks m)) (suc (peakAfter m))) (m′ .owner) (content L′ L′)
   unfolding endAfter header
   ended =
       let w : ℕ = freeWord (m .peak) (fileBlocks m) in
@@ -166,14 +166,14 @@ module _ (m : Inner) (v : Inv m) (x : NamedFile) (right : (1 ≤ length (x .name
       (λ h.
       let e : suc (m .peak) ≡ suc (peakAfter m) = ap suc (sym (peak-same m v (omega arith))) in
       let dd : d₄ ≡ d₃ = cond-false _ _ (eq-false {a = kk} {b = dirEnd d₀} (omega (arith, dirEnd-is m v))) in
-      subst (λ (z : Disk). With z (headerByte (m .arguments) (m .updates) w (suc (peakAfter m))) (m′ .owner) (content L′ L′)) (sym dd)
-      (subst (λ (z : ℕ). With d₃ (headerByte (m .arguments) (m .updates) w z) (m′ .owner) (content L′ L′)) e slotted))
+      subst (λ (z : Disk). With z (diskHeaderByte (m .arguments) (m .updates) w (suc (peakAfter m))) (m′ .owner) (content L′ L′)) (sym dd)
+      (subst (λ (z : ℕ). With d₃ (diskHeaderByte (m .arguments) (m .updates) w z) (m′ .owner) (content L′ L′)) e slotted))
       (λ h.
       let k₁ : kk ≡ suc (m .peak) = omega (arith, k-le m v) in
       let e : suc kk ≡ suc (peakAfter m) = ap suc (k₁ ∙ sym (peak-more m v k₁)) in
       let dd : d₄ ≡ setEnd d₃ (suc kk) = cond-true _ _ (eq-true {a = kk} {b = dirEnd d₀} (omega (arith, dirEnd-is m v))) in
-      subst (λ (z : Disk). With z (headerByte (m .arguments) (m .updates) w (suc (peakAfter m))) (m′ .owner) (content L′ L′)) (sym dd)
-      (subst (λ (z : ℕ). With (setEnd d₃ (suc kk)) (headerByte (m .arguments) (m .updates) w z) (m′ .owner) (content L′ L′)) e
+      subst (λ (z : Disk). With z (diskHeaderByte (m .arguments) (m .updates) w (suc (peakAfter m))) (m′ .owner) (content L′ L′)) (sym dd)
+      (subst (λ (z : ℕ). With (setEnd d₃ (suc kk)) (diskHeaderByte (m .arguments) (m .updates) w z) (m′ .owner) (content L′ L′)) e
       (end-step (m .arguments) (m .updates) w (suc (m .peak)) (m′ .owner) (content L′ L′) d₃ slotted (suc kk))))
 
   -- the image with the file added is that of the model with the file added
@@ -187,4 +187,4 @@ module _ (m : Inner) (v : Inv m) (x : NamedFile) (right : (1 ≤ length (x .name
       (owned₂ m v x right new room .own-valid) (v .updates-fit) in
       with-only (header m′) (m′ .owner) (content L′ L′) (addAt (render m) kk (entryFrom x) (x .content))
       (subst (λ (y : ℕ). With (addAt (render m) kk (entryFrom x) (x .content))
-      (headerByte (m .arguments) (wrap (m .updates + 1)) y (suc (peakAfter m))) (m′ .owner) (content L′ L′)) w p)
+      (diskHeaderByte (m .arguments) (wrap (m .updates + 1)) y (suc (peakAfter m))) (m′ .owner) (content L′ L′)) w p)

@@ -21,11 +21,11 @@ use Rattle.sector_rules.specs.Geometry.{blocks}
 use Rattle.file_rules.specs.declared.Record.{Record}
 use Rattle.file_rules.specs.Directory.{nameEq}
 use Rattle.file_rules.specs.Laws.InnerModel.Fields.{parts-none}
-use Rattle.file_rules.specs.Laws.InnerModel.Inner.{Inner, present, fileBlocks, findM, emptySlot, give, freeOf, growOwner, peakAfter, addAtM}
+use Rattle.file_rules.specs.Laws.InnerModel.Inner.{Inner, presentCount, fileBlocks, findM, emptySlot, give, freeOf, growOwner, peakAfter, addAtM}
 use Rattle.file_rules.specs.Laws.InnerModel.Invariant.{partsOf, Owned, Inv}
 use Rattle.file_rules.specs.Laws.Base.Names.{name-sym}
 use Rattle.file_rules.specs.Laws.InnerModel.Owners.{owned-cong, give-owned, give-count}
-use Rattle.file_rules.specs.Model.{NamedFile, HeldFile, heldBlocks, dirBlocks, usable, content, named, wrap}
+use Rattle.file_rules.specs.Model.{NamedFile, HeldFile, heldBlocks, dirBlocks, usable, content, hasName, wrap}
 use Rattle.file_rules.specs.Sizes.{nameMost}
 use Rattle.file_rules.specs.Written.{blocksFor}
 use Rattle.file_rules.specs.Laws.OnImages.Slot.{none-blocks, k-le, k-pos, k-none, peak-same, peak-more, filled-blocks, by-growth}
@@ -102,8 +102,8 @@ module _ (m : Inner) (v : Inv m) (x : NamedFile) (right : (1 ≤ length (x .name
   rest = firsts blocks n (freeOf owner₁)
 
   -- the file gets as many blocks as it takes
-  pub rest-length : length rest ≡ n
-  rest-length = firsts-length blocks n (freeOf owner₁) (omega (arith, v .free-sum, count₁))
+  pub given-length : length rest ≡ n
+  given-length = firsts-length blocks n (freeOf owner₁) (omega (arith, v .free-sum, count₁))
 
   -- the slot that is filled had no blocks
   pub parts₁-k : parts₁ kk ≡ 0
@@ -117,7 +117,7 @@ module _ (m : Inner) (v : Inv m) (x : NamedFile) (right : (1 ≤ length (x .name
       by-equal (suc f) kk
       (λ q.
       let l : heldBlocks (L′ (suc f)) ≡ n = ap heldBlocks (upd-same (m .slots) kk (some x) (suc f) q) in
-      omega (arith, upd-same parts₁ kk (0 + length rest) (suc f) q, rest-length))
+      omega (arith, upd-same parts₁ kk (0 + length rest) (suc f) q, given-length))
       (λ q.
       upd-other parts₁ kk (0 + length rest) (suc f) q ∙ upd-other (partsOf m) 0 (dirBlocks (peakAfter m)) (suc f) (omega arith)
       ∙ ap heldBlocks (sym (upd-other (m .slots) kk (some x) (suc f) q)))
@@ -128,11 +128,11 @@ module _ (m : Inner) (v : Inv m) (x : NamedFile) (right : (1 ≤ length (x .name
   owned₂ =
       owned-cong (give owner₁ kk 0 rest) (upd parts₁ kk (0 + length rest)) (partsOf m′) parts-after
       (give-owned rest owner₁ parts₁ kk 0 0 owned₁ (firsts-picks blocks n (freeOf owner₁)) (omega (arith, k-le m v, v .peak-most)) parts₁-k
-      (omega (arith, rest-length)))
+      (omega (arith, given-length)))
 
   count₂ : count blocks (freeOf (m′ .owner)) + n ≡ count blocks (freeOf owner₁)
   unfolding addAtM
-  count₂ = omega (arith, give-count rest owner₁ kk 0 0 (firsts-picks blocks n (freeOf owner₁)), rest-length)
+  count₂ = omega (arith, give-count rest owner₁ kk 0 0 (firsts-picks blocks n (freeOf owner₁)), given-length)
 
   -- the blocks of all files
   slot-n : heldBlocks (L′ kk) ≡ n
@@ -171,12 +171,12 @@ module _ (m : Inner) (v : Inv m) (x : NamedFile) (right : (1 ≤ length (x .name
 
   -- no other file has the name
   no-such : (j : ℕ) (y : NamedFile) → m .slots j ≡ some y → nameEq (y .name) (x .name) ≡ true → ⊥
-  unfolding named findM isSome
+  unfolding hasName findM isSome
   no-such j y e q =
       by-order (m .peak) j
       (λ h. true≢false (isSome (m .slots j)) (ap isSome e) (ap isSome (v .slot-past j h)))
-      (λ h. true≢false (named (x .name) (m .slots j)) (ap (named (x .name)) e ∙ q)
-      (lowest-low (λ (i : ℕ). named (x .name) (m .slots i)) (suc (m .peak)) j (omega arith)))
+      (λ h. true≢false (hasName (x .name) (m .slots j)) (ap (hasName (x .name)) e ∙ q)
+      (lowest-low (λ (i : ℕ). hasName (x .name) (m .slots i)) (suc (m .peak)) j (omega arith)))
 
   -- the invariant holds after a file is added
   pub add-inv : Inv m′
@@ -214,8 +214,8 @@ module _ (m : Inner) (v : Inv m) (x : NamedFile) (right : (1 ≤ length (x .name
       }
 
   -- one file more is present
-  pub present-add : present m′ ≡ suc (present m)
-  unfolding present addAtM isSome
+  pub present-add : presentCount m′ ≡ suc (presentCount m)
+  unfolding presentCount addAtM isSome
   present-add =
       let at-k : isSome (L′ kk) ≡ true = ap isSome (upd-same (m .slots) kk (some x) kk refl) in
       let off-k : (j : ℕ) → j ≢ kk → isSome (L′ j) ≡ isSome (m .slots j) = λ j q. ap isSome (upd-other (m .slots) kk (some x) j q) in

@@ -17,14 +17,14 @@ use Rattle.file_rules.specs.declared.Record.{Record}
 use Rattle.file_rules.specs.declared.Record.the-variants.{Free, System, File, Other}
 use Rattle.file_rules.specs.Calls.{removeAt}
 use Rattle.file_rules.specs.Disk.{Disk}
-use Rattle.file_rules.specs.Laws.InnerModel.Inner.{Inner, present, fileBlocks, header, render, freeOf, removeAtM}
+use Rattle.file_rules.specs.Laws.InnerModel.Inner.{Inner, presentCount, fileBlocks, header, render, freeOf, removeAtM}
 use Rattle.file_rules.specs.Laws.InnerModel.Invariant.{partsOf, Owned, Inv}
 use Rattle.file_rules.specs.Laws.InnerModel.Last.{finish, slot-step}
 use Rattle.file_rules.specs.Laws.InnerModel.Owners.{unowned-file, freed-count, freed-owned}
 use Rattle.file_rules.specs.Laws.Base.Whole.{With, with-is, with-only, with-same, unowned, free-all}
-use Rattle.file_rules.specs.Model.{NamedFile, HeldFile, heldBlocks, dirBlocks, freeWord, slotOf, bytesOf, content, wrap}
+use Rattle.file_rules.specs.Model.{NamedFile, HeldFile, heldBlocks, dirBlocks, freeWord, slotOf, heldBytes, content, wrap}
 use Rattle.file_rules.specs.Sizes.{blockSlots, freeSectors}
-use Rattle.file_rules.specs.Written.{headerByte, part, zeros, setSlot, freeBlocks}
+use Rattle.file_rules.specs.Written.{diskHeaderByte, part, zeros, setSlot, freeBlocks}
 
 -- a slot that is not the one written
 pub kept-slot : (L : ℕ → HeldFile) (k : ℕ) (x y : HeldFile) (j : ℕ) → upd L k y j ≡ x → (j ≢ k) → L j ≡ x
@@ -109,7 +109,7 @@ module _ (m : Inner) (v : Inv m) (k : ℕ) (pos : 0 < k) (low : k ≤ m .peak) w
       go (File zero s) e = unfold content in refl
       go (File (suc f) s) e =
           unfold content in
-          ap (λ (x : HeldFile). part (bytesOf x) s o) (sym (upd-other (m .slots) k none (suc f) (unowned-file k (suc f) s (m .owner b) e .1)))
+          ap (λ (x : HeldFile). part (heldBytes x) s o) (sym (upd-other (m .slots) k none (suc f) (unowned-file k (suc f) s (m .owner b) e .1)))
 
   pub remove-image : removeAt (render m) k ≡ render m′
   unfolding removeAt render removeAtM header
@@ -127,10 +127,10 @@ module _ (m : Inner) (v : Inv m) (k : ℕ) (pos : 0 < k) (low : k ≤ m .peak) w
       let w : freeSectors (count blocks (freeOf own′)) ≡ freeWord (m .peak) (fileBlocks m′) = unfold freeWord in omega (arith, remove-inv .free-sum) in
       let p₄ = finish (m .arguments) (m .updates) (freeWord (m .peak) (fileBlocks m)) (suc (m .peak)) own′ (content L′ L′) d₂ p₃ (owned .own-valid) (v .updates-fit) in
       with-only (header m′) own′ (content L′ L′) (removeAt (render m) k)
-      (subst (λ (x : ℕ). With (removeAt (render m) k) (headerByte (m .arguments) (wrap (m .updates + 1)) x (suc (m .peak))) own′ (content L′ L′)) w p₄)
+      (subst (λ (x : ℕ). With (removeAt (render m) k) (diskHeaderByte (m .arguments) (wrap (m .updates + 1)) x (suc (m .peak))) own′ (content L′ L′)) w p₄)
 
-  pub present-remove : (x : NamedFile) → m .slots k ≡ some x → present m ≡ suc (present m′)
-  unfolding present removeAtM isSome
+  pub present-remove : (x : NamedFile) → m .slots k ≡ some x → presentCount m ≡ suc (presentCount m′)
+  unfolding presentCount removeAtM isSome
   present-remove x e =
       count-drop (suc (m .peak)) k (λ (j : ℕ). isSome (m .slots j)) (λ (j : ℕ). isSome (L′ j)) (omega arith) (ap isSome e)
       (ap isSome (upd-same (m .slots) k none k refl)) (λ j l q. ap isSome (sym (upd-other (m .slots) k none j q)))

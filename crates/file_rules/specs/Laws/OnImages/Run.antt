@@ -17,8 +17,8 @@ use Rattle.sector_rules.specs.Replies.{reply, done, refusal}
 use Rattle.sector_rules.specs.declared.Reply.{Reply}
 use Rattle.file_rules.specs.declared.Record.{Record}
 use Rattle.file_rules.specs.declared.Record.the-variants.{Free, System, File, Other}
-use Rattle.file_rules.specs.Calls.{Outcome, Changed, Written, kept, refused, imageRight, onSound, freshOwner, freshHeader, formatDisk, format, list, read, addSound, imaged, add, removeSound, remove}
-use Rattle.file_rules.specs.Check.{judged}
+use Rattle.file_rules.specs.Calls.{Outcome, DiskChanged, ImageChanged, bufferKept, diskKept, imageRight, onSound, freshOwner, freshHeader, formatDisk, format, list, read, addSound, imaged, add, removeSound, remove}
+use Rattle.file_rules.specs.Check.{diskRefusal}
 use Rattle.file_rules.specs.Directory.{nameEq, nameRight}
 use Rattle.file_rules.specs.Arguments.{FormatArguments}
 use Rattle.file_rules.specs.Disk.{Disk, diskOf, imageOf}
@@ -29,14 +29,14 @@ use Rattle.file_rules.specs.Laws.OnImages.Add.{add-image}
 use Rattle.file_rules.specs.Laws.Base.Disk.{length-image, disk-image}
 use Rattle.file_rules.specs.Laws.Base.OnSound.{sound-passed}
 use Rattle.file_rules.specs.Laws.InnerModel.Reads.{dirEnd-is, findName-is, vacantSlot-is, found-slot, list-is, read-is}
-use Rattle.file_rules.specs.Laws.InnerModel.Judged.{judged-none}
+use Rattle.file_rules.specs.Laws.InnerModel.Judgements.{disk-refusal-none}
 use Rattle.file_rules.specs.Laws.InnerModel.Inner.{Inner, fileBlocks, header, render, emptySlots, formatM, findM, emptySlot, freeOf, ChangedM, refusedM, removeAtM, removeM, addAtM, roomFor, addM, stepM, outM, outsM, endM}
 use Rattle.file_rules.specs.Laws.InnerModel.Invariant.{partsOf, Inv}
 use Rattle.file_rules.specs.Laws.Base.Names.{name-bounds}
 use Rattle.file_rules.specs.Laws.OnImages.Remove.{remove-inv, remove-image}
 use Rattle.file_rules.specs.Laws.Base.Whole.{Valid, with-is, with-only, with-same}
 use Rattle.file_rules.specs.Map.{isFree, isSystem}
-use Rattle.file_rules.specs.Model.{NamedFile, heldBlocks, dirBlocks, freeWord, slotOf, bytesOf, dirByte, content}
+use Rattle.file_rules.specs.Model.{NamedFile, heldBlocks, dirBlocks, freeWord, slotOf, heldBytes, dirByte, content}
 use Rattle.file_rules.specs.Sizes.{blockBytes, nameMost, titleMost}
 use Rattle.file_rules.specs.Written.{part}
 
@@ -49,7 +49,7 @@ unfolding format imageRight
 format-done image args long short = cond-true _ _ (eq-true long) ∙ cond-true _ _ (le-true short)
 
 blank : (r : Record) (o : ℕ) → content emptySlots emptySlots r o ≡ 0
-unfolding content dirByte slotOf bytesOf part emptySlots
+unfolding content dirByte slotOf heldBytes part emptySlots
 blank Free o = refl
 blank System o = refl
 blank Other o = refl
@@ -114,67 +114,67 @@ format-inv args =
 
 -- ---- one call
 
-disked : ChangedM → Changed
-disked c = record { answer = c .answer; disk = render (c .model) }
+disked : ChangedM → DiskChanged
+disked c = record { answer = c .answer; diskAfter = render (c .modelAfter) }
 
 module _ (m : Inner) (v : Inv m) where
-  remove-is : (name : List ℕ) → (removeSound (render m) name ≡ disked (removeM m name)) × Inv (removeM m name .model)
-  unfolding removeSound removeM refused refusedM disked
+  remove-is : (name : List ℕ) → (removeSound (render m) name ≡ disked (removeM m name)) × Inv (removeM m name .modelAfter)
+  unfolding removeSound removeM diskKept refusedM disked
   remove-is name =
       by-test (nameRight name)
       (λ t. by-order (findM m name) (suc (m .peak))
       (λ h.
       let w : (x : NamedFile) × (m .slots (findM m name) ≡ some x) × (nameEq (x .name) name ≡ true) × (0 < findM m name) = found-slot m v name h in
-      let e : removeM m name ≡ record { answer = done; model = removeAtM m (findM m name) } = cond-true _ _ t ∙ cond-true _ _ (lt-true h) in (
+      let e : removeM m name ≡ record { answer = done; modelAfter = removeAtM m (findM m name) } = cond-true _ _ t ∙ cond-true _ _ (lt-true h) in (
         rw (findName-is m v name, dirEnd-is m v)
             (cond-true _ _ t ∙ cond-true _ _ (lt-true h)
-            ∙ ap (λ (d : Disk). record { answer = done; disk = d }) (remove-image m v (findM m name) (w .3) (omega arith))
+            ∙ ap (λ (d : Disk). record { answer = done; diskAfter = d }) (remove-image m v (findM m name) (w .3) (omega arith))
             ∙ ap disked (sym e)),
-        subst (λ (c : ChangedM). Inv (c .model)) (sym e) (remove-inv m v (findM m name) (w .3) (omega arith)),
+        subst (λ (c : ChangedM). Inv (c .modelAfter)) (sym e) (remove-inv m v (findM m name) (w .3) (omega arith)),
       ))
       (λ h.
       let e : removeM m name ≡ refusedM m (refusal 14) = cond-true _ _ t ∙ cond-false _ _ (lt-false h) in (
         rw (findName-is m v name, dirEnd-is m v)
             (cond-true _ _ t ∙ cond-false _ _ (lt-false h) ∙ ap disked (sym e)),
-        subst (λ (c : ChangedM). Inv (c .model)) (sym e) v,
+        subst (λ (c : ChangedM). Inv (c .modelAfter)) (sym e) v,
       )))
       (λ t.
       let e : removeM m name ≡ refusedM m (refusal 12) = cond-false _ _ t in (
         cond-false _ _ t ∙ ap disked (sym e),
-        subst (λ (c : ChangedM). Inv (c .model)) (sym e) v,
+        subst (λ (c : ChangedM). Inv (c .modelAfter)) (sym e) v,
       ))
 
-  add-is : (x : NamedFile) → (addSound (render m) (x .name) (x .date) (x .content) ≡ disked (addM m x)) × Inv (addM m x .model)
-  unfolding addSound addM refused refusedM disked nameRight roomFor
+  add-is : (x : NamedFile) → (addSound (render m) (x .name) (x .date) (x .content) ≡ disked (addM m x)) × Inv (addM m x .modelAfter)
+  unfolding addSound addM diskKept refusedM disked nameRight roomFor
   add-is x =
       by-test (nameRight (x .name))
       (λ t. by-order (findM m (x .name)) (suc (m .peak))
       (λ h.
       let e : addM m x ≡ refusedM m (reply 13 (findM m (x .name)) 0 0) = cond-true _ _ t ∙ cond-true _ _ (lt-true h) in (
         rw (findName-is m v (x .name), dirEnd-is m v) (cond-true _ _ t ∙ cond-true _ _ (lt-true h) ∙ ap disked (sym e)),
-        subst (λ (c : ChangedM). Inv (c .model)) (sym e) v,
+        subst (λ (c : ChangedM). Inv (c .modelAfter)) (sym e) v,
       ))
       (λ h. by-test (roomFor m x)
       (λ r.
       let right : (1 ≤ length (x .name)) × (length (x .name) ≤ nameMost) = name-bounds (x .name) t in
-      let e : addM m x ≡ record { answer = done; model = addAtM m (emptySlot m) x } =
+      let e : addM m x ≡ record { answer = done; modelAfter = addAtM m (emptySlot m) x } =
       cond-true _ _ t ∙ cond-false _ _ (lt-false h) ∙ cond-true _ _ r in (
         rw (findName-is m v (x .name), dirEnd-is m v, vacantSlot-is m v)
             (cond-true _ _ t ∙ cond-false _ _ (lt-false h) ∙ cond-true _ _ (sym (room-is m v x) ∙ r)
-            ∙ ap (λ (d : Disk). record { answer = done; disk = d }) (add-image m v x right h (true-le r))
+            ∙ ap (λ (d : Disk). record { answer = done; diskAfter = d }) (add-image m v x right h (true-le r))
             ∙ ap disked (sym e)),
-        subst (λ (c : ChangedM). Inv (c .model)) (sym e) (add-inv m v x right h (true-le r)),
+        subst (λ (c : ChangedM). Inv (c .modelAfter)) (sym e) (add-inv m v x right h (true-le r)),
       ))
       (λ r.
       let e : addM m x ≡ refusedM m (refusal 15) = cond-true _ _ t ∙ cond-false _ _ (lt-false h) ∙ cond-false _ _ r in (
         rw (findName-is m v (x .name), dirEnd-is m v, vacantSlot-is m v)
             (cond-true _ _ t ∙ cond-false _ _ (lt-false h) ∙ cond-false _ _ (sym (room-is m v x) ∙ r) ∙ ap disked (sym e)),
-        subst (λ (c : ChangedM). Inv (c .model)) (sym e) v,
+        subst (λ (c : ChangedM). Inv (c .modelAfter)) (sym e) v,
       ))))
       (λ t.
       let e : addM m x ≡ refusedM m (refusal 12) = cond-false _ _ t in (
         cond-false _ _ t ∙ ap disked (sym e),
-        subst (λ (c : ChangedM). Inv (c .model)) (sym e) v,
+        subst (λ (c : ChangedM). Inv (c .modelAfter)) (sym e) v,
       ))
 
   -- ---- the same on the image
@@ -190,29 +190,29 @@ module _ (m : Inner) (v : Inv m) where
 
   -- it is sound, so that a call acts on the model's disk
   pub img-sound : {A : Type 0} (refuse : Reply → A) (act : Disk → A) → onSound img refuse act ≡ act (render m)
-  img-sound refuse act = sound-passed img refuse act (length-image (render m)) (ap judged img-disk ∙ judged-none m v) ∙ ap act img-disk
+  img-sound refuse act = sound-passed img refuse act (length-image (render m)) (ap diskRefusal img-disk ∙ disk-refusal-none m v) ∙ ap act img-disk
 
-  add-image-is : (x : NamedFile) → add img (x .name) (x .date) (x .content) ≡ record { answer = addM m x .answer; image = imageOf (render (addM m x .model)) }
+  add-image-is : (x : NamedFile) → add img (x .name) (x .date) (x .content) ≡ record { answer = addM m x .answer; image = imageOf (render (addM m x .modelAfter)) }
   unfolding add imaged disked
   add-image-is x =
       img-sound _ _ ∙ ap imaged (add-is x .0)
 
-  remove-image-is : (name : List ℕ) → remove img name ≡ record { answer = removeM m name .answer; image = imageOf (render (removeM m name .model)) }
+  remove-image-is : (name : List ℕ) → remove img name ≡ record { answer = removeM m name .answer; image = imageOf (render (removeM m name .modelAfter)) }
   unfolding remove imaged disked
   remove-image-is name =
       img-sound _ _ ∙ ap imaged (remove-is name .0)
 
   pub out-is : (c : Call) → imageOut img c ≡ outM m c
   unfolding imageOut outM list read
-  out-is (toAdd x) = ap (λ (w : Written). kept [] (w .answer)) (add-image-is x)
-  out-is (toRemove name) = ap (λ (w : Written). kept [] (w .answer)) (remove-image-is name)
+  out-is (toAdd x) = ap (λ (w : ImageChanged). bufferKept [] (w .answer)) (add-image-is x)
+  out-is (toRemove name) = ap (λ (w : ImageChanged). bufferKept [] (w .answer)) (remove-image-is name)
   out-is (toList buf) = img-sound _ _ ∙ list-is m v buf
   out-is (toRead name buf) = img-sound _ _ ∙ read-is m v name buf
 
   pub step-is : (c : Call) → imageStep img c ≡ imageOf (render (stepM m c))
   unfolding imageStep stepM
-  step-is (toAdd x) = ap (λ (w : Written). w .image) (add-image-is x)
-  step-is (toRemove name) = ap (λ (w : Written). w .image) (remove-image-is name)
+  step-is (toAdd x) = ap (λ (w : ImageChanged). w .image) (add-image-is x)
+  step-is (toRemove name) = ap (λ (w : ImageChanged). w .image) (remove-image-is name)
   step-is (toList buf) = refl
   step-is (toRead name buf) = refl
 

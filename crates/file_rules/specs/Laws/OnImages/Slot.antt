@@ -11,7 +11,7 @@ use lib.Dec.{leb, ltb, eqb}
 use lib.ListN.{length}
 use Rattle.laws.specs.Changes.{upd}
 use Rattle.laws.specs.Below.{sum, lowest}
-use Rattle.laws.specs.Numbers.{up}
+use Rattle.laws.specs.Numbers.{quotientUp}
 use Rattle.laws.specs.Options.{isSome}
 use Rattle.laws.specs.Laws.Cases.{by-order, by-equal, by-test}
 use Rattle.laws.specs.Laws.Tests.{lt-true, lt-false, eq-true, eq-false, true-lt, true-le, true≢false, not-was, cond-true, cond-false, and-true}
@@ -26,7 +26,7 @@ use Rattle.file_rules.specs.Calls.{opensBlock, needed}
 use Rattle.file_rules.specs.Directory.{dirEnd}
 use Rattle.file_rules.specs.Disk.{Disk}
 use Rattle.file_rules.specs.Laws.InnerModel.Reads.{dirEnd-is, freeCount-at}
-use Rattle.file_rules.specs.Laws.InnerModel.Inner.{Inner, present, fileBlocks, render, emptySlot, give, peakAfter, roomFor}
+use Rattle.file_rules.specs.Laws.InnerModel.Inner.{Inner, presentCount, fileBlocks, render, emptySlot, give, peakAfter, roomFor}
 use Rattle.file_rules.specs.Laws.InnerModel.Invariant.{Inv}
 use Rattle.file_rules.specs.Laws.Base.Whole.{With, give-block, part-out}
 use Rattle.file_rules.specs.Map.{freeCount}
@@ -71,7 +71,7 @@ none-blocks l e = ap heldBlocks e
 
 -- a file has a block at least
 some-blocks : (l : HeldFile) → isSome l ≡ true → 1 ≤ heldBlocks l
-unfolding heldBlocks isSome blocksFor up
+unfolding heldBlocks isSome blocksFor quotientUp
 some-blocks none e = true≢false false e refl
 some-blocks (some x) e = omega arith
 
@@ -126,9 +126,9 @@ module _ (m : Inner) (v : Inv m) where
 
   -- where a slot within is filled, the highest slot stays
   pub peak-same : k ≤ m .peak → peakAfter m ≡ m .peak
-  unfolding peakAfter present
+  unfolding peakAfter presentCount
   peak-same h =
-      let few : present m + 2 ≤ suc (m .peak) =
+      let few : presentCount m + 2 ≤ suc (m .peak) =
       count-two-out (suc (m .peak)) 0 k (λ (j : ℕ). isSome (m .slots j)) (omega arith) (omega arith) (omega (arith, k-pos)) zero-empty k-empty in
       omega arith
     where
@@ -137,9 +137,9 @@ module _ (m : Inner) (v : Inv m) where
 
   -- where no slot within is empty, the highest slot is the next one
   pub peak-more : k ≡ suc (m .peak) → peakAfter m ≡ suc (m .peak)
-  unfolding peakAfter present
+  unfolding peakAfter presentCount
   peak-more e =
-      let all-present : present m ≡ m .peak = count-but-zero (m .peak) (λ (j : ℕ). isSome (m .slots j)) zero-empty (all-filled e) in
+      let all-present : presentCount m ≡ m .peak = count-but-zero (m .peak) (λ (j : ℕ). isSome (m .slots j)) zero-empty (all-filled e) in
       omega arith
 
   -- where no slot within is empty, there are at most as many slots as blocks of files

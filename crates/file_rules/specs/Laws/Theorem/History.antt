@@ -15,25 +15,25 @@ use Rattle.laws.specs.Laws.Cases.{by-order, by-test}
 use Rattle.laws.specs.Laws.Tests.{lt-true, lt-false, true≢false, cond-true, cond-false}
 use Rattle.laws.specs.Laws.Lowest.{lowest-low}
 use Rattle.sector_rules.specs.Replies.{done, refusal}
-use Rattle.file_rules.specs.Calls.{Outcome, Written, kept, freshOwner, formatDisk, format, check, deliver, read, add}
+use Rattle.file_rules.specs.Calls.{Outcome, ImageChanged, bufferKept, freshOwner, formatDisk, format, check, deliver, read, add}
 use Rattle.file_rules.specs.Directory.{nameEq, nameRight, held, dirEnd}
 use Rattle.file_rules.specs.Arguments.{FormatArguments}
 use Rattle.file_rules.specs.Disk.{Disk, diskOf, imageOf}
-use Rattle.file_rules.specs.Histories.{Call, imageOut, imageOuts, imageEnd, modelOuts, modelEnd, filesLeft, mostPresent, sizeOf, fileNamed, Present, toAdd, toRead}
-use Rattle.file_rules.specs.History.{dataFound, HasEntry, Belongs, Holds, formatted, History, HistoryCheck}
+use Rattle.file_rules.specs.Histories.{Call, imageOut, imageOuts, imageEnd, modelOuts, modelEnd, filesLeft, mostPresent, blocksOfFiles, fileNamed, IsPresent, toAdd, toRead}
+use Rattle.file_rules.specs.History.{dataFound, HasEntry, Belongs, Holds, formatted, EveryHistory, HistoryCheck}
 use Rattle.file_rules.specs.Laws.InModel.Agree.{agree, fresh-listed, start-is}
 use Rattle.file_rules.specs.Laws.Base.Disk.{length-image}
 use Rattle.file_rules.specs.Laws.InnerModel.Reads.{dirEnd-is, word20, held-is, found-slot}
-use Rattle.file_rules.specs.Laws.InnerModel.Inner.{Inner, present, fileBlocks, render, emptySlots, formatM, findM, readM, ChangedM, refusedM, peakAfter, roomFor, addM, outM, outsM, endM}
+use Rattle.file_rules.specs.Laws.InnerModel.Inner.{Inner, presentCount, fileBlocks, render, emptySlots, formatM, findM, readM, ChangedM, refusedM, peakAfter, roomFor, addM, outM, outsM, endM}
 use Rattle.file_rules.specs.Laws.InnerModel.Invariant.{partsOf, Inv}
 use Rattle.file_rules.specs.Laws.FilesLeft.Left.{count-is, left-is}
-use Rattle.file_rules.specs.Laws.InModel.Listed.{withOwner, Listed}
+use Rattle.file_rules.specs.Laws.InModel.Listed.{withOwner, BlocksListed}
 use Rattle.file_rules.specs.Laws.FilesLeft.Present.{Fills, none-some, fills-size, fills-named, fills-not-named, fills-present, present-fills}
 use Rattle.file_rules.specs.Laws.Base.Names.{bounds-name}
 use Rattle.file_rules.specs.Laws.Base.Results.{result-is}
 use Rattle.file_rules.specs.Laws.OnImages.Run.{format-done, format-is, format-inv, img-disk, img-sound, out-is, runs, end-inv}
 use Rattle.file_rules.specs.Laws.FilesLeft.Zero.{by-slot, filled-below, slot-entry, zero-outside}
-use Rattle.file_rules.specs.Model.{NamedFile, HeldFile, Model, dirBlocks, usable, freeWord, modelDisk, modelFormat, named, heldData}
+use Rattle.file_rules.specs.Model.{NamedFile, HeldFile, Model, dirBlocks, usable, freeWord, modelDisk, modelFormat, hasName, heldData}
 use Rattle.file_rules.specs.Sizes.{nameMost}
 use Rattle.file_rules.specs.Written.{blocksFor}
 
@@ -43,8 +43,8 @@ fresh-fills : (args : FormatArguments) → Fills (formatM args .slots) []
 unfolding formatM emptySlots
 fresh-fills args k = refl
 
-fresh-few : (args : FormatArguments) → present (formatM args) ≤ formatM args .peak
-unfolding formatM emptySlots isSome present count
+fresh-few : (args : FormatArguments) → presentCount (formatM args) ≤ formatM args .peak
+unfolding formatM emptySlots isSome presentCount count
 fresh-few args = omega arith
 
 fresh-peak : (args : FormatArguments) → formatM args .peak ≡ 0
@@ -54,16 +54,16 @@ fresh-peak args = refl
 -- ---- what is read of the inner model at the end
 
 module _ (m : Inner) (v : Inv m) (fs : List NamedFile) (r : Fills (m .slots) fs) where
-  size-is : fileBlocks m ≡ sizeOf fs
+  size-is : fileBlocks m ≡ blocksOfFiles fs
   unfolding fileBlocks
   size-is = fills-size fs (m .slots) (suc (m .peak)) (λ k h. v .slot-past k h) r
 
   -- a name that no slot has
   no-slot : (name : List ℕ) → suc (m .peak) ≤ findM m name → (k : ℕ) (x : NamedFile) → m .slots k ≡ some x → nameEq (x .name) name ≡ false
-  unfolding findM named
+  unfolding findM hasName
   no-slot name h k x e =
-      ap (named name) (sym e)
-      ∙ lowest-low (λ (j : ℕ). named name (m .slots j)) (suc (m .peak)) k (omega (arith, filled-below m v fs r k x e .1))
+      ap (hasName name) (sym e)
+      ∙ lowest-low (λ (j : ℕ). hasName name (m .slots j)) (suc (m .peak)) k (omega (arith, filled-below m v fs r k x e .1))
 
   -- by whether a slot has it
   by-name : {X : Type 0} (name : List ℕ)
@@ -77,7 +77,7 @@ module _ (m : Inner) (v : Inv m) (fs : List NamedFile) (r : Fills (m .slots) fs)
       (λ h. g h (fills-not-named fs (m .slots) name (no-slot name h) r))
 
   read-found : (name buf : List ℕ) → 1 ≤ length name → length name ≤ nameMost → readM m name buf ≡ dataFound (fileNamed name fs) buf
-  unfolding readM dataFound heldData kept
+  unfolding readM dataFound heldData bufferKept
   read-found name buf p q =
       cond-true _ _ (bounds-name name p q)
       ∙ by-name name
@@ -94,18 +94,18 @@ module _ (m : Inner) (v : Inv m) (fs : List NamedFile) (r : Fills (m .slots) fs)
       (λ s. ap (λ (c : ChangedM). c .answer) (cond-true _ _ t ∙ cond-false _ _ (lt-false h) ∙ cond-true _ _ s) ∙ sym (cond-true _ _ s))
       (λ s. ap (λ (c : ChangedM). c .answer) (cond-true _ _ t ∙ cond-false _ _ (lt-false h) ∙ cond-false _ _ s) ∙ sym (cond-false _ _ s)))
 
-  room-by : (x : NamedFile) → roomFor m x ≡ leb (dirBlocks (max (m .peak) (suc (length fs))) + (sizeOf fs + blocksFor (length (x .content)))) usable
+  room-by : (x : NamedFile) → roomFor m x ≡ leb (dirBlocks (max (m .peak) (suc (length fs))) + (blocksOfFiles fs + blocksFor (length (x .content)))) usable
   unfolding roomFor peakAfter
   room-by x =
       ap₂ (λ (p s : ℕ). leb (dirBlocks (max (m .peak) (suc p)) + (s + blocksFor (length (x .content)))) usable) (count-is m v fs r) size-is
 
-  slot-of : (x : NamedFile) → Present x fs → (k : ℕ) × (0 < k) × (k < dirEnd (render m)) × HasEntry (render m) k x
+  slot-of : (x : NamedFile) → IsPresent x fs → (k : ℕ) × (0 < k) × (k < dirEnd (render m)) × HasEntry (render m) k x
   slot-of x p =
       let w : (k : ℕ) × (m .slots k ≡ some x) = present-fills fs (m .slots) x p r in
       let b : (0 < w .0) × (w .0 ≤ m .peak) = filled-below m v fs r (w .0) x (w .1) in
       (w .0, b .0, omega (arith, b .1, dirEnd-is m v), slot-entry m v fs r (w .0) x (w .1))
 
-  of-slot : (k : ℕ) → k < dirEnd (render m) → held (render m) k ≡ true → (x : NamedFile) × Present x fs × HasEntry (render m) k x
+  of-slot : (k : ℕ) → k < dirEnd (render m) → held (render m) k ≡ true → (x : NamedFile) × IsPresent x fs × HasEntry (render m) k x
   unfolding isSome
   of-slot k l h =
       let low : k ≤ m .peak = omega (arith, dirEnd-is m v) in
@@ -147,8 +147,8 @@ module _ (args : FormatArguments) (calls : List Call) where
   with-model =
       let e : m₀ ≡ withOwner b₀ freshOwner = start-is args in
       let w : Inv (withOwner b₀ freshOwner) = subst Inv e (format-inv args) in
-      let l : Listed (b₀ .slots) (b₀ .dir) freshOwner (partsOf (withOwner b₀ freshOwner)) =
-      subst (λ (z : Inner). Listed (b₀ .slots) (b₀ .dir) freshOwner (partsOf z)) e (fresh-listed args) in
+      let l : BlocksListed (b₀ .slots) (b₀ .dir) freshOwner (partsOf (withOwner b₀ freshOwner)) =
+      subst (λ (z : Inner). BlocksListed (b₀ .slots) (b₀ .dir) freshOwner (partsOf z)) e (fresh-listed args) in
       let h : (outsM (withOwner b₀ freshOwner) calls ≡ modelOuts b₀ calls)
       × (render (endM (withOwner b₀ freshOwner) calls) ≡ modelDisk (modelEnd b₀ calls))
       × (endM (withOwner b₀ freshOwner) calls .peak ≡ modelEnd b₀ calls .peak) = agree calls b₀ freshOwner w l in (
@@ -173,7 +173,7 @@ module _ (args : FormatArguments) (calls : List Call) where
         has-slot = λ x p.
             subst (λ (d : Disk). (k : ℕ) × (0 < k) × (k < dirEnd d) × HasEntry d k x) (sym on-disk) (slot-of m v fs (both .0) x p);
         slot-has =
-            subst (λ (d : Disk). (k : ℕ) → k < dirEnd d → held d k ≡ true → (x : NamedFile) × Present x fs × HasEntry d k x) (sym on-disk)
+            subst (λ (d : Disk). (k : ℕ) → k < dirEnd d → held d k ≡ true → (x : NamedFile) × IsPresent x fs × HasEntry d k x) (sym on-disk)
             (of-slot m v fs (both .0));
         peak-is = sym (with-model .2) ∙ peak-most-is;
         free-word =
@@ -181,7 +181,7 @@ module _ (args : FormatArguments) (calls : List Call) where
         no-less = room-left;
         add-gives = λ x p q n.
             add-at x ∙ add-found m v fs (both .0) x p q n
-            ∙ ap (λ (b : Bool). cond b done (refusal 15)) (room-by m v fs (both .0) x ∙ ap (λ (p : ℕ). leb (dirBlocks (max p (suc (length fs))) + (sizeOf fs + blocksFor (length (x .content)))) usable) peak-most-is);
+            ∙ ap (λ (b : Bool). cond b done (refusal 15)) (room-by m v fs (both .0) x ∙ ap (λ (p : ℕ). leb (dirBlocks (max p (suc (length fs))) + (blocksOfFiles fs + blocksFor (length (x .content)))) usable) peak-most-is);
         zero-else =
             subst (λ (d : Disk). (b o : ℕ) → (Belongs d fs b o → ⊥) → d b o ≡ 0) (sym on-disk) (zero-outside m v fs (both .0));
       }
@@ -190,16 +190,16 @@ module _ (args : FormatArguments) (calls : List Call) where
       read-at name buf = unfold imageOut outM in out-is m v (toRead name buf)
 
       add-at : (x : NamedFile) → add img (x .name) (x .date) (x .content) .answer ≡ addM m x .answer
-      add-at x = unfold imageOut outM kept in ap (λ (o : Outcome). o .answer) (out-is m v (toAdd x))
+      add-at x = unfold imageOut outM bufferKept in ap (λ (o : Outcome). o .answer) (out-is m v (toAdd x))
 
-      room-left : dirBlocks P + sizeOf fs ≤ usable
+      room-left : dirBlocks P + blocksOfFiles fs ≤ usable
       room-left = omega (arith, v .free-sum, ap dirBlocks peak-most-is, size-is m v fs (both .0))
 
-pub history : History
+pub history : EveryHistory
 history old args calls long short =
     let f : format old args ≡ record { answer = done; image = imageOf (formatDisk args) } = format-done old args long short in
     let start : formatted old args ≡ imageOf (render (formatM args)) =
-    ap (λ (w : Written). w .image) f ∙ ap imageOf (format-is args) in
+    ap (λ (w : ImageChanged). w .image) f ∙ ap imageOf (format-is args) in
     let run : (imageOuts (imageOf (render (formatM args))) calls ≡ outsM (formatM args) calls)
     × (imageEnd (imageOf (render (formatM args))) calls ≡ imageOf (render (endM (formatM args) calls))) =
     runs calls (formatM args) (format-inv args) in
@@ -207,7 +207,7 @@ history old args calls long short =
     ap (λ (l : List ℕ). imageEnd l calls) start ∙ run .1 in
     let o : imageOuts (formatted old args) calls ≡ outsM (formatM args) calls =
     ap (λ (l : List ℕ). imageOuts l calls) start ∙ run .0 in (
-      ap (λ (w : Written). w .answer) f,
+      ap (λ (w : ImageChanged). w .answer) f,
       subst (λ (im : List ℕ). Holds args calls im (imageOuts (formatted old args) calls)
           (filesLeft [] calls (imageOuts (formatted old args) calls)) (mostPresent [] calls (imageOuts (formatted old args) calls))) (sym e)
           (subst (λ (xs : List Outcome). Holds args calls (imageOf (render (endM (formatM args) calls))) xs (filesLeft [] calls xs) (mostPresent [] calls xs)) (sym o)
@@ -222,6 +222,6 @@ history-check old args calls long short =
     let w : Inv n = end-inv calls (formatM args) (format-inv args) in
     let f : format old args ≡ record { answer = done; image = imageOf (formatDisk args) } = format-done old args long short in
     let e : imageEnd (formatted old args) calls ≡ imageOf (render n) =
-    ap (λ (l : List ℕ). imageEnd l calls) (ap (λ (x : Written). x .image) f ∙ ap imageOf (format-is args))
+    ap (λ (l : List ℕ). imageEnd l calls) (ap (λ (x : ImageChanged). x .image) f ∙ ap imageOf (format-is args))
     ∙ runs calls (formatM args) (format-inv args) .1 in
     ap check e ∙ img-sound n w _ _

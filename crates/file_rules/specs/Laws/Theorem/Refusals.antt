@@ -14,7 +14,7 @@ use Rattle.sector_rules.specs.Replies.{done, refusal}
 use Rattle.sector_rules.specs.declared.Reply.{Reply}
 use Rattle.sector_rules.specs.Packed.{packReply, packHfe}
 use Rattle.sector_rules.specs.Unpacked.{unpackReply, unpackImage}
-use Rattle.file_rules.specs.Calls.{Outcome, Changed, Written, kept, refused, unwritten, imageRight, wrongLength, format, deliver, listSound, list, readSound, read, needed, addSound, imaged, add, removeSound, remove}
+use Rattle.file_rules.specs.Calls.{Outcome, DiskChanged, ImageChanged, bufferKept, diskKept, imageKept, imageRight, wrongLength, format, deliver, listSound, list, readSound, read, needed, addSound, imaged, add, removeSound, remove}
 use Rattle.file_rules.specs.Directory.{nameRight, dirEnd, findName, vacantSlot}
 use Rattle.file_rules.specs.Arguments.{FormatArguments}
 use Rattle.file_rules.specs.Disk.{Disk, diskOf, imageOf}
@@ -26,17 +26,17 @@ use Rattle.file_rules.specs.Sizes.{titleMost}
 
 -- ---- on a disk
 
-abbrev KeepsDisk : Disk → Changed → Type 0
-KeepsDisk d c = Refuses (c .answer) → c .disk ≡ d
+abbrev KeepsDisk : Disk → DiskChanged → Type 0
+KeepsDisk d c = Refuses (c .answer) → c .diskAfter ≡ d
 
-refused-keeps : (d : Disk) (r : Reply) → KeepsDisk d (refused d r)
-unfolding refused
+refused-keeps : (d : Disk) (r : Reply) → KeepsDisk d (diskKept d r)
+unfolding diskKept
 refused-keeps d r n = refl
 
-done-keeps : (d d′ : Disk) → KeepsDisk d (record { answer = done; disk = d′ })
+done-keeps : (d d′ : Disk) → KeepsDisk d (record { answer = done; diskAfter = d′ })
 done-keeps d d′ n = absurd (n refl)
 
-by-cond : (d : Disk) (b : Bool) (x y : Changed) → KeepsDisk d x → KeepsDisk d y → KeepsDisk d (cond b x y)
+by-cond : (d : Disk) (b : Bool) (x y : DiskChanged) → KeepsDisk d x → KeepsDisk d y → KeepsDisk d (cond b x y)
 by-cond d true x y p q = p
 by-cond d false x y p q = q
 
@@ -57,14 +57,14 @@ removeSound-keeps d name =
 
 -- ---- on an image
 
-abbrev KeepsImage : List ℕ → Written → Type 0
+abbrev KeepsImage : List ℕ → ImageChanged → Type 0
 KeepsImage image w = Refuses (w .answer) → w .image ≡ image
 
-unwritten-keeps : (image : List ℕ) (r : Reply) → KeepsImage image (unwritten image r)
-unfolding unwritten
+unwritten-keeps : (image : List ℕ) (r : Reply) → KeepsImage image (imageKept image r)
+unfolding imageKept
 unwritten-keeps image r n = refl
 
-imaged-keeps : (image : List ℕ) → length image ≡ imageBytes → (c : Changed) → KeepsDisk (diskOf image) c → KeepsImage image (imaged c)
+imaged-keeps : (image : List ℕ) → length image ≡ imageBytes → (c : DiskChanged) → KeepsDisk (diskOf image) c → KeepsImage image (imaged c)
 unfolding imaged
 imaged-keeps image long c k n = ap imageOf (k n) ∙ image-disk image long
 
@@ -93,8 +93,8 @@ format-unchanged image args =
 abbrev KeepsBuffer : List ℕ → Outcome → Type 0
 KeepsBuffer buf o = Refuses (o .answer) → o .buffer ≡ buf
 
-kept-keeps : (buf : List ℕ) (r : Reply) → KeepsBuffer buf (kept buf r)
-unfolding kept
+kept-keeps : (buf : List ℕ) (r : Reply) → KeepsBuffer buf (bufferKept buf r)
+unfolding bufferKept
 kept-keeps buf r n = refl
 
 deliver-keeps : (bytes buf : List ℕ) → KeepsBuffer buf (deliver bytes buf)

@@ -5,7 +5,7 @@ use Rattle.file_rules.specs.Calls.{add}
 use Rattle.file_rules.specs.Laws.Base.OnSound.{sound-length, sound-refused, sound-passed}
 use Rattle.files.specs.Laws.Judging.Verdict.{verdict-some, verdict-none}
 use Rattle.files.specs.Laws.Writing.InStep.{in-step}
-use Rattle.files.specs.Laws.Calling.Judged.{wrote-refused, wrote-gave}
+use Rattle.files.specs.Laws.Calling.SoundDisk.{wrote-refused, wrote-gave}
 use borrow.Author.Needs.{needs}
 use Rattle.files.proofs.adding.add.Statement.{statement}
 use Rattle.files.proofs.adding.add.Tie as tie

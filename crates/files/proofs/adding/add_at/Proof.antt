@@ -30,14 +30,14 @@ write-entry-requires c κs = c .before .before .before .before .give-blocks .ens
 end-after-requires : tie.Need-end-after-requires
 end-after-requires c κs = ((step-slot _ _ (c .before .before .before .before .before .before .before .before .give-blocks .ensures .1) _ _ _ (c .before .before .before .write-entry .ensures)) .long, c .before .before .before .before .before .before .before .before .before .before .before .before .before .before .before .before .before .before .before .before .before .before .before .pre .1)
 
-settle-requires : tie.Need-settle-requires
-settle-requires c κs = step-after _ _ (step-slot _ _ (c .before .before .before .before .before .before .before .before .before .before .before .before .before .give-blocks .ensures .1) _ _ _ (c .before .before .before .before .before .before .before .before .write-entry .ensures)) _ _ _ (c .before .before .before .before .end-after .ensures)
+update-counts-requires : tie.Need-update-counts-requires
+update-counts-requires c κs = step-after _ _ (step-slot _ _ (c .before .before .before .before .before .before .before .before .before .before .before .before .before .give-blocks .ensures .1) _ _ _ (c .before .before .before .before .before .before .before .before .write-entry .ensures)) _ _ _ (c .before .before .before .before .end-after .ensures)
 
 same-length : tie.Need-same-length
 same-length c = search needs
 
 returns : tie.Need-returns
-returns c = add-written _ _ _ _ _ _ _ _ _ _ _ _ (c .before .before .before .before .before .before .before .before .before .before .before .before .before .before .before .before .before .before .before .before .before .before .before .before .before .before .before .dir-end .ensures .0) (c .before .before .before .before .before .before .before .before .before .before .before .before .before .before .before .before .before .before .before .before .before .before .before .before .before .before .entry-bytes .ensures) (c .before .before .before .before .before .before .before .before .before .before .before .before .before .before .before .before .before .before .blocks-for .ensures .0) (c .before .before .before .before .before .before .before .before .before .before .before .before .before .before .before .before .before .before .before .before .before .before .before .grow-dir .ensures .0) (c .before .before .before .before .before .before .before .before .before .before .before .before .before .before .before .before .give-blocks .ensures .0) (c .before .before .before .before .before .before .before .before .before .before .before .write-entry .ensures) (c .before .before .before .before .before .before .before .end-after .ensures) (c .before .before .settle .ensures)
+returns c = add-written _ _ _ _ _ _ _ _ _ _ _ _ (c .before .before .before .before .before .before .before .before .before .before .before .before .before .before .before .before .before .before .before .before .before .before .before .before .before .before .before .dir-end .ensures .0) (c .before .before .before .before .before .before .before .before .before .before .before .before .before .before .before .before .before .before .before .before .before .before .before .before .before .before .entry-bytes .ensures) (c .before .before .before .before .before .before .before .before .before .before .before .before .before .before .before .before .before .before .blocks-for .ensures .0) (c .before .before .before .before .before .before .before .before .before .before .before .before .before .before .before .before .before .before .before .before .before .before .before .grow-dir .ensures .0) (c .before .before .before .before .before .before .before .before .before .before .before .before .before .before .before .before .give-blocks .ensures .0) (c .before .before .before .before .before .before .before .before .before .before .before .write-entry .ensures) (c .before .before .before .before .before .before .before .end-after .ensures) (c .before .before .update-counts .ensures)
 
 pub add-at-spec : {M : Type 1} → statement M
-add-at-spec = tie.close (tie.spec dir-end-requires entry-bytes-requires grow-dir-requires blocks-for-requires slice-aggregate-give-blocks give-blocks-requires write-entry-requires end-after-requires settle-requires same-length returns)
+add-at-spec = tie.close (tie.spec dir-end-requires entry-bytes-requires grow-dir-requires blocks-for-requires slice-aggregate-give-blocks give-blocks-requires write-entry-requires end-after-requires update-counts-requires same-length returns)

@@ -4,9 +4,9 @@ use mathlib.Core.Path.{sym, _∙_}
 use borrow.Author.Tests.{not-false}
 use Rattle.laws.specs.Laws.Tests.{not-was}
 use Rattle.files.specs.Laws.Loading.Parts.{from-none}
-use Rattle.files.specs.Laws.Loading.Slots.{located}
+use Rattle.files.specs.Laws.Loading.Slots.{located-directory}
 use Rattle.files.specs.Laws.Judging.Ends.{end-within}
-use Rattle.files.specs.Laws.Calling.Judged.{vacant-most, room-size, name-most, gave-refused, gave-done, add-name, add-present, add-full, add-done}
+use Rattle.files.specs.Laws.Calling.SoundDisk.{vacant-most, room-size, name-most, gave-refused, gave-done, add-name, add-present, add-full, add-done}
 use borrow.Author.Needs.{needs}
 use Rattle.files.proofs.adding.add_sound.Statement.{statement}
 use Rattle.files.proofs.adding.add_sound.Tie as tie
@@ -24,7 +24,7 @@ file-blocks-requires : tie.Need-file-blocks-requires
 file-blocks-requires c κs = from-none _ _
 
 find-name-requires : tie.Need-find-name-requires
-find-name-requires c κs = (c .before .before .before .before .before .before .before .before .before .before .pre .0 .long, end-within _ (c .before .before .before .before .before .before .before .before .before .before .pre .1), located _ _ _ (c .before .before .before .before .before .before .before .before .before .before .pre .0 .mapped) (c .before .before .file-blocks .ensures))
+find-name-requires c κs = (c .before .before .before .before .before .before .before .before .before .before .pre .0 .long, end-within _ (c .before .before .before .before .before .before .before .before .before .before .pre .1), located-directory _ _ _ (c .before .before .before .before .before .before .before .before .before .before .pre .0 .loadedMap) (c .before .before .file-blocks .ensures))
 
 dir-end-requires : tie.Need-dir-end-requires
 dir-end-requires c κs = search needs
@@ -39,10 +39,10 @@ returns-2 : tie.Need-returns-2
 returns-2 c = gave-refused _ _ _ _ (c .before .before .before .before .before .before .before .before .before .before .before .before .before .before .before .pre .0 .long) (add-present _ _ _ _ (sym (c .before .before .before .before .before .before .before .before .before .before .before .name-right .ensures) ∙ not-false _ (c .before .before .before .before .before .before .before .before .before .before .if1 .left)) _ _ (c .before .before .before .before .find-name .ensures) (c .before .before .dir-end .ensures .0) (c .before .if2 .taken)) (c .refused2 .ensures)
 
 vacant-slot-requires : tie.Need-vacant-slot-requires
-vacant-slot-requires c κs = (c .before .before .before .before .before .before .before .before .before .before .before .before .before .before .before .before .pre .0 .long, end-within _ (c .before .before .before .before .before .before .before .before .before .before .before .before .before .before .before .before .pre .1), located _ _ _ (c .before .before .before .before .before .before .before .before .before .before .before .before .before .before .before .before .pre .0 .mapped) (c .before .before .before .before .before .before .before .before .file-blocks .ensures))
+vacant-slot-requires c κs = (c .before .before .before .before .before .before .before .before .before .before .before .before .before .before .before .before .pre .0 .long, end-within _ (c .before .before .before .before .before .before .before .before .before .before .before .before .before .before .before .before .pre .1), located-directory _ _ _ (c .before .before .before .before .before .before .before .before .before .before .before .before .before .before .before .before .pre .0 .loadedMap) (c .before .before .before .before .before .before .before .before .file-blocks .ensures))
 
 has-room-requires : tie.Need-has-room-requires
-has-room-requires c κs = c .before .before .before .before .before .before .before .before .before .before .before .before .before .before .before .before .before .before .before .pre .0 .mapped
+has-room-requires c κs = c .before .before .before .before .before .before .before .before .before .before .before .before .before .before .before .before .before .before .before .pre .0 .loadedMap
 
 refused-requires-3 : tie.Need-refused-requires-3
 refused-requires-3 c κs = search needs

@@ -4,7 +4,7 @@ use mathlib.Core.Path.{refl}
 use Prim.Native.Nat.{_-_}
 use borrow.Author.Needs.{needs}
 use Rattle.laws.specs.Lists.{tab}
-use Rattle.files.specs.Laws.Calling.Judged.{name-filled, entry-filled}
+use Rattle.files.specs.Laws.Calling.SoundDisk.{name-filled, entry-filled}
 use Rattle.files.proofs.adding.entry_for.Statement.{statement}
 use Rattle.files.proofs.adding.entry_for.Tie as tie
 

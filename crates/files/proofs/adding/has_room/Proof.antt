@@ -1,8 +1,8 @@
 -- `has_room` meets its contract.
 -- Assumes nothing.
 use mathlib.Core.Path.{sym, _∙_}
-use Rattle.files.specs.Laws.Loading.Loaded.{free-mapped}
-use Rattle.files.specs.Laws.Calling.Judged.{room-none, room-opens, room-keeps}
+use Rattle.files.specs.Laws.Loading.Loaded.{free-loaded}
+use Rattle.files.specs.Laws.Calling.SoundDisk.{room-none, room-opens, room-keeps}
 use borrow.Author.Needs.{needs}
 use Rattle.files.proofs.adding.has_room.Statement.{statement}
 use Rattle.files.proofs.adding.has_room.Tie as tie
@@ -23,10 +23,10 @@ add-result : tie.Need-add-result
 add-result c = search needs
 
 returns-2 : tie.Need-returns-2
-returns-2 c = room-opens _ _ _ _ _ (sym (c .before .opens-block .ensures) ∙ c .if2 .taken) (c .before .before .blocks-for .ensures .0) (c .before .before .before .count-free .ensures .0 ∙ free-mapped _ _ (c .before .before .before .before .before .before .pre))
+returns-2 c = room-opens _ _ _ _ _ (sym (c .before .opens-block .ensures) ∙ c .if2 .taken) (c .before .before .blocks-for .ensures .0) (c .before .before .before .count-free .ensures .0 ∙ free-loaded _ _ (c .before .before .before .before .before .before .pre))
 
 returns-3 : tie.Need-returns-3
-returns-3 c = room-keeps _ _ _ _ _ (sym (c .before .opens-block .ensures) ∙ c .if2 .left) (c .before .before .blocks-for .ensures .0) (c .before .before .before .count-free .ensures .0 ∙ free-mapped _ _ (c .before .before .before .before .before .before .pre))
+returns-3 c = room-keeps _ _ _ _ _ (sym (c .before .opens-block .ensures) ∙ c .if2 .left) (c .before .before .blocks-for .ensures .0) (c .before .before .before .count-free .ensures .0 ∙ free-loaded _ _ (c .before .before .before .before .before .before .pre))
 
 pub has-room-spec : {M : Type 1} → statement M
 has-room-spec = tie.close (tie.spec returns count-free-requires blocks-for-requires opens-block-requires add-result returns-2 returns-3)

@@ -2,7 +2,7 @@
 -- Assumes nothing.
 use Prim.Native.Nat.{_-_}
 use borrow.Author.Needs.{needs}
-use Rattle.files.specs.Laws.Calling.Judged.{opens-is}
+use Rattle.files.specs.Laws.Calling.SoundDisk.{opens-is}
 use Rattle.files.proofs.adding.opens_block.Statement.{statement}
 use Rattle.files.proofs.adding.opens_block.Tie as tie
 

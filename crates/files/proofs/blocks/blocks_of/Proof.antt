@@ -4,7 +4,7 @@ use mathlib.Core.Path.{refl}
 use Prim.Native.Nat.{_-_}
 use native.Mathlib.Omega.{arith}
 use borrow.Author.Needs.{needs}
-use Rattle.laws.specs.Numbers.{up}
+use Rattle.laws.specs.Numbers.{quotientUp}
 use Rattle.files.proofs.blocks.blocks_of.Statement.{statement}
 use Rattle.files.proofs.blocks.blocks_of.Tie as tie
 
@@ -15,7 +15,7 @@ add-result : tie.Need-add-result
 add-result c = search needs
 
 returns : tie.Need-returns
-unfolding up
+unfolding quotientUp
 returns c = (refl, omega arith)
 
 pub blocks-of-spec : {M : Type 1} → statement M

@@ -6,8 +6,8 @@ use Rattle.laws.specs.Lists.{elementAt}
 use Rattle.file_rules.specs.Disk.{diskOf}
 use Rattle.file_rules.specs.Directory.{entryOf}
 use Rattle.file_rules.specs.Check.{partsRight}
-use Rattle.files.specs.Laws.Loading.Slots.{entry-row}
-use Rattle.files.specs.Laws.Judging.Sound.{sizes-name, parts-mapped, entry-sizes-wrong, entry-name-wrong, entry-parts, entry-name}
+use Rattle.files.specs.Laws.Loading.Slots.{slot-entry-row}
+use Rattle.files.specs.Laws.Judging.Sound.{sizes-name, parts-loaded, entry-sizes-wrong, entry-name-wrong, entry-parts, entry-name}
 use borrow.Author.Needs.{needs}
 use Rattle.files.proofs.checking.entry_right.Statement.{statement}
 use Rattle.files.proofs.checking.entry_right.Tie as tie
@@ -21,29 +21,29 @@ read-entry-requires c κs = search needs
 cast-length : tie.Need-cast-length
 cast-length c = search needs
 
-cast-named : tie.Need-cast-named
-cast-named c = search needs
+cast-namelen : tie.Need-cast-namelen
+cast-namelen c = search needs
 
-slice-aggregate-new-first : tie.Need-slice-aggregate-new-first
-slice-aggregate-new-first c = search needs
+slice-aggregate-new-by-hash : tie.Need-slice-aggregate-new-by-hash
+slice-aggregate-new-by-hash c = search needs
 
-new-first-requires : tie.Need-new-first-requires
-new-first-requires c κs = (c .before .before .before .before .before .before .before .before .pre .0 .long, c .before .before .before .before .before .before .before .before .pre .1, c .before .before .before .before .before .before .before .before .pre .0 .located, sizes-name _ _ (c .before .before .before .before .before .read-entry .ensures) (c .before .if1 .taken), c .before .before .before .before .before .before .before .before .pre .0 .named, entry-name _ _ (c .before .before .before .before .before .read-entry .result) (c .before .before .before .before .before .read-entry .ensures ∙ ap (λ (x : ℕ). entryOf (elementAt (c .before .before .before .before .before .before .before .before .args .image .now) x)) (c .before .before .before .before .before .before .slot-place .ensures .0) ∙ sym (entry-row _ _ _ (c .before .before .before .before .before .before .before .before .pre .0 .long) (c .before .before .before .before .before .before .before .before .pre .1) (c .before .before .before .before .before .before .before .before .pre .0 .located))), c .before .before .before .before .before .before .before .before .pre .2)
+new-by-hash-requires : tie.Need-new-by-hash-requires
+new-by-hash-requires c κs = (c .before .before .before .before .before .before .before .before .pre .0 .long, c .before .before .before .before .before .before .before .before .pre .1, c .before .before .before .before .before .before .before .before .pre .0 .loadedDirectory, sizes-name _ _ (c .before .before .before .before .before .read-entry .ensures) (c .before .if1 .taken), c .before .before .before .before .before .before .before .before .pre .0 .talliedNames, entry-name _ _ (c .before .before .before .before .before .read-entry .result) (c .before .before .before .before .before .read-entry .ensures ∙ ap (λ (x : ℕ). entryOf (elementAt (c .before .before .before .before .before .before .before .before .args .image .now) x)) (c .before .before .before .before .before .before .slot-place .ensures .0) ∙ sym (slot-entry-row _ _ _ (c .before .before .before .before .before .before .before .before .pre .0 .long) (c .before .before .before .before .before .before .before .before .pre .1) (c .before .before .before .before .before .before .before .before .pre .0 .loadedDirectory))), c .before .before .before .before .before .before .before .before .pre .2)
 
 blocks-of-requires : tie.Need-blocks-of-requires
 blocks-of-requires c κs = search needs
 
 parts-right-requires : tie.Need-parts-right-requires
-parts-right-requires c κs = c .before .before .before .before .before .before .before .before .before .before .before .pre .0 .chained
+parts-right-requires c κs = c .before .before .before .before .before .before .before .before .before .before .before .pre .0 .loadedChains
 
 returns : tie.Need-returns
-returns c = entry-parts _ _ (c .before .before .before .before .before .before .before .before .before .read-entry .result) (c .before .before .before .before .before .before .before .before .before .read-entry .ensures ∙ ap (λ (x : ℕ). entryOf (elementAt (c .before .before .before .before .before .before .before .before .before .before .before .before .args .image .now) x)) (c .before .before .before .before .before .before .before .before .before .before .slot-place .ensures .0) ∙ sym (entry-row _ _ _ (c .before .before .before .before .before .before .before .before .before .before .before .before .pre .0 .long) (c .before .before .before .before .before .before .before .before .before .before .before .before .pre .1) (c .before .before .before .before .before .before .before .before .before .before .before .before .pre .0 .located))) (c .before .before .before .before .before .if1 .taken) (sym (c .before .before .before .new-first .ensures) ∙ c .before .before .if2 .taken) _ (c .parts-right .ensures ∙ parts-mapped _ _ (c .before .before .before .before .before .before .before .before .before .before .before .before .pre .0 .mapped) _ _ ∙ ap (partsRight (diskOf (c .before .before .before .before .before .before .before .before .before .before .before .before .args .image .now)) (c .before .before .before .before .before .before .before .before .before .before .before .before .args .k)) (c .before .blocks-of .ensures .0))
+returns c = entry-parts _ _ (c .before .before .before .before .before .before .before .before .before .read-entry .result) (c .before .before .before .before .before .before .before .before .before .read-entry .ensures ∙ ap (λ (x : ℕ). entryOf (elementAt (c .before .before .before .before .before .before .before .before .before .before .before .before .args .image .now) x)) (c .before .before .before .before .before .before .before .before .before .before .slot-place .ensures .0) ∙ sym (slot-entry-row _ _ _ (c .before .before .before .before .before .before .before .before .before .before .before .before .pre .0 .long) (c .before .before .before .before .before .before .before .before .before .before .before .before .pre .1) (c .before .before .before .before .before .before .before .before .before .before .before .before .pre .0 .loadedDirectory))) (c .before .before .before .before .before .if1 .taken) (sym (c .before .before .before .new-by-hash .ensures) ∙ c .before .before .if2 .taken) _ (c .parts-right .ensures ∙ parts-loaded _ _ (c .before .before .before .before .before .before .before .before .before .before .before .before .pre .0 .loadedMap) _ _ ∙ ap (partsRight (diskOf (c .before .before .before .before .before .before .before .before .before .before .before .before .args .image .now)) (c .before .before .before .before .before .before .before .before .before .before .before .before .args .k)) (c .before .blocks-of .ensures .0))
 
 returns-2 : tie.Need-returns-2
-returns-2 c = entry-name-wrong _ _ (c .before .before .before .before .before .before .before .read-entry .result) (c .before .before .before .before .before .before .before .read-entry .ensures ∙ ap (λ (x : ℕ). entryOf (elementAt (c .before .before .before .before .before .before .before .before .before .before .args .image .now) x)) (c .before .before .before .before .before .before .before .before .slot-place .ensures .0) ∙ sym (entry-row _ _ _ (c .before .before .before .before .before .before .before .before .before .before .pre .0 .long) (c .before .before .before .before .before .before .before .before .before .before .pre .1) (c .before .before .before .before .before .before .before .before .before .before .pre .0 .located))) (c .before .before .before .if1 .taken) (sym (c .before .new-first .ensures) ∙ c .if2 .left)
+returns-2 c = entry-name-wrong _ _ (c .before .before .before .before .before .before .before .read-entry .result) (c .before .before .before .before .before .before .before .read-entry .ensures ∙ ap (λ (x : ℕ). entryOf (elementAt (c .before .before .before .before .before .before .before .before .before .before .args .image .now) x)) (c .before .before .before .before .before .before .before .before .slot-place .ensures .0) ∙ sym (slot-entry-row _ _ _ (c .before .before .before .before .before .before .before .before .before .before .pre .0 .long) (c .before .before .before .before .before .before .before .before .before .before .pre .1) (c .before .before .before .before .before .before .before .before .before .before .pre .0 .loadedDirectory))) (c .before .before .before .if1 .taken) (sym (c .before .new-by-hash .ensures) ∙ c .if2 .left)
 
 returns-3 : tie.Need-returns-3
-returns-3 c = entry-sizes-wrong _ _ (c .before .before .before .before .read-entry .result) (c .before .before .before .before .read-entry .ensures ∙ ap (λ (x : ℕ). entryOf (elementAt (c .before .before .before .before .before .before .before .args .image .now) x)) (c .before .before .before .before .before .slot-place .ensures .0) ∙ sym (entry-row _ _ _ (c .before .before .before .before .before .before .before .pre .0 .long) (c .before .before .before .before .before .before .before .pre .1) (c .before .before .before .before .before .before .before .pre .0 .located))) (c .if1 .left)
+returns-3 c = entry-sizes-wrong _ _ (c .before .before .before .before .read-entry .result) (c .before .before .before .before .read-entry .ensures ∙ ap (λ (x : ℕ). entryOf (elementAt (c .before .before .before .before .before .before .before .args .image .now) x)) (c .before .before .before .before .before .slot-place .ensures .0) ∙ sym (slot-entry-row _ _ _ (c .before .before .before .before .before .before .before .pre .0 .long) (c .before .before .before .before .before .before .before .pre .1) (c .before .before .before .before .before .before .before .pre .0 .loadedDirectory))) (c .if1 .left)
 
 pub entry-right-spec : {M : Type 1} → statement M
-entry-right-spec = tie.close (tie.spec slot-place-requires read-entry-requires cast-length cast-named slice-aggregate-new-first new-first-requires blocks-of-requires parts-right-requires returns returns-2 returns-3)
+entry-right-spec = tie.close (tie.spec slot-place-requires read-entry-requires cast-length cast-namelen slice-aggregate-new-by-hash new-by-hash-requires blocks-of-requires parts-right-requires returns returns-2 returns-3)

@@ -2,13 +2,13 @@
 -- Assumes nothing.
 use borrow.Author.Count.{below-none, below-more}
 use Rattle.sector_rules.specs.Geometry.{blocks}
-use Rattle.files.specs.Laws.Loading.Marks.{markCount}
+use Rattle.files.specs.Laws.Loading.NameHashes.{hashCount}
 use Rattle.file_rules.specs.Map.{sequences}
 use Rattle.files.specs.Laws.Loading.Tally.{tally-none}
 use Rattle.files.specs.Laws.Loading.Parts.{from-none}
 use Rattle.files.specs.Laws.Loading.Chains.{chain-none}
-use Rattle.files.specs.Laws.Loading.Slots.{located}
-use Rattle.files.specs.Laws.Judging.Sound.{fault-here, fault-none}
+use Rattle.files.specs.Laws.Loading.Slots.{located-directory}
+use Rattle.files.specs.Laws.Judging.Sound.{fault-here, file-fault-none}
 use borrow.Author.Needs.{needs}
 use native.Mathlib.Omega.{arith}
 use mathlib.Core.Path.{_≡_, refl, sym, ap, _∙_}
@@ -39,13 +39,13 @@ judged-end-requires : tie.Need-judged-end-requires Inv-loop μ-loop
 judged-end-requires c κs = search needs
 
 tally-names-requires : tie.Need-tally-names-requires Inv-loop μ-loop
-tally-names-requires c κs = (c .before .before .before .before .before .before .before .before .before .before .pre .0, c .before .judged-end .ensures .1, located _ _ _ (c .before .before .before .before .before .before .before .before .before .before .pre .1) (c .before .before .before .before .before .before .before .file-blocks .ensures), tally-none (suc markCount) _)
+tally-names-requires c κs = (c .before .before .before .before .before .before .before .before .before .before .pre .0, c .before .judged-end .ensures .1, located-directory _ _ _ (c .before .before .before .before .before .before .before .before .before .before .pre .1) (c .before .before .before .before .before .before .before .file-blocks .ensures), tally-none (suc hashCount) _)
 
 loop-holds : tie.Need-loop-holds Inv-loop μ-loop
 loop-holds c = (omega arith, below-none _)
 
 file-right-requires : tie.Need-file-right-requires Inv-loop μ-loop
-file-right-requires c κs = (record { long = c .before .before .before .before .before .before .before .before .before .before .before .before .before .before .before .before .before .pre .0; mapped = c .before .before .before .before .before .before .before .before .before .before .before .before .before .before .before .before .before .pre .1; located = located _ _ _ (c .before .before .before .before .before .before .before .before .before .before .before .before .before .before .before .before .before .pre .1) (c .before .before .before .before .before .before .before .before .before .before .before .before .before .before .file-blocks .ensures); chained = c .before .before .before .before .before .before .before .before .before .before .before .load-chains .ensures; named = rw (c .before .before .before .before .before .before .before .before .judged-end .ensures .0, c .before .before .before .before .before .before .before .before .before .before .dir-end .ensures .0) at (c .before .before .before .before .before .before .tally-names .ensures) }, omega arith, c .before .before .before .before .before .before .before .before .before .before .dir-end .ensures .0)
+file-right-requires c κs = (record { long = c .before .before .before .before .before .before .before .before .before .before .before .before .before .before .before .before .before .pre .0; loadedMap = c .before .before .before .before .before .before .before .before .before .before .before .before .before .before .before .before .before .pre .1; loadedDirectory = located-directory _ _ _ (c .before .before .before .before .before .before .before .before .before .before .before .before .before .before .before .before .before .pre .1) (c .before .before .before .before .before .before .before .before .before .before .before .before .before .before .file-blocks .ensures); loadedChains = c .before .before .before .before .before .before .before .before .before .before .before .load-chains .ensures; talliedNames = rw (c .before .before .before .before .before .before .before .before .judged-end .ensures .0, c .before .before .before .before .before .before .before .before .before .before .dir-end .ensures .0) at (c .before .before .before .before .before .before .tally-names .ensures) }, omega arith, c .before .before .before .before .before .before .before .before .before .before .dir-end .ensures .0)
 
 returns : tie.Need-returns Inv-loop μ-loop
 returns c = (fault-here _ _ (omega arith) (c .before .before .before .before .before .before .before .loop .inv .1) (ap not (sym (c .before .file-right .ensures)) ∙ c .if1 .taken), omega arith)
@@ -60,7 +60,7 @@ loop-again : tie.Need-loop-again Inv-loop μ-loop
 loop-again c = (omega arith, below-more _ _ (c .before .before .before .before .before .before .before .loop .inv .1) (ap not (sym (c .before .file-right .ensures)) ∙ c .if1 .left))
 
 returns-2 : tie.Need-returns-2 Inv-loop μ-loop
-returns-2 c = (fault-none _ (λ j h. c .before .loop .inv .1 j (omega arith)), omega arith)
+returns-2 c = (file-fault-none _ (λ j h. c .before .loop .inv .1 j (omega arith)), omega arith)
 
 pub file-fault-spec : {M : Type 1} → statement M
 file-fault-spec =

@@ -8,8 +8,8 @@ use Rattle.sector_rules.specs.Geometry.{blocks}
 use Rattle.file_rules.specs.Disk.{diskOf}
 use Rattle.file_rules.specs.Directory.{held}
 use Rattle.file_rules.specs.Check.{partsRight}
-use Rattle.files.specs.Laws.Loading.Chains.{first-none}
-use Rattle.files.specs.Laws.Judging.Sound.{parts-mapped, unborne-mapped, file-zero, file-listed, file-unlisted}
+use Rattle.files.specs.Laws.Loading.Chains.{chain-empty}
+use Rattle.files.specs.Laws.Judging.Sound.{parts-loaded, no-record-mapped, file-zero, file-listed, file-unlisted}
 use borrow.Author.Needs.{needs}
 use Rattle.files.proofs.checking.file_right.Statement.{statement}
 use Rattle.files.proofs.checking.file_right.Tie as tie
@@ -21,13 +21,13 @@ blocks-of-requires : tie.Need-blocks-of-requires
 blocks-of-requires c κs = search needs
 
 parts-right-requires : tie.Need-parts-right-requires
-parts-right-requires c κs = c .before .before .before .before .pre .0 .chained
+parts-right-requires c κs = c .before .before .before .before .pre .0 .loadedChains
 
 returns : tie.Need-returns
-returns c = rw (c .before .before .before .if1 .taken) (c .parts-right .ensures ∙ parts-mapped _ _ (c .before .before .before .before .before .pre .0 .mapped) _ _ ∙ ap (partsRight (diskOf (c .before .before .before .before .before .args .image .now)) 0) (c .before .blocks-of .ensures .0) ∙ file-zero _ _ (c .before .before .dir-bytes .ensures .0))
+returns c = rw (c .before .before .before .if1 .taken) (c .parts-right .ensures ∙ parts-loaded _ _ (c .before .before .before .before .before .pre .0 .loadedMap) _ _ ∙ ap (partsRight (diskOf (c .before .before .before .before .before .args .image .now)) 0) (c .before .blocks-of .ensures .0) ∙ file-zero _ _ (c .before .before .dir-bytes .ensures .0))
 
 is-listed-requires : tie.Need-is-listed-requires
-is-listed-requires c κs = (c .before .before .pre .0 .long, c .before .before .pre .1, c .before .before .pre .0 .located)
+is-listed-requires c κs = (c .before .before .pre .0 .long, c .before .before .pre .1, c .before .before .pre .0 .loadedDirectory)
 
 entry-right-requires : tie.Need-entry-right-requires
 entry-right-requires c κs = (c .before .before .before .before .pre .0, c .before .before .before .before .pre .1, ap (λ (x : ℕ). ltb (c .before .before .before .before .args .f) x && held (diskOf (c .before .before .before .before .args .image .now)) (c .before .before .before .before .args .f)) (sym (c .before .before .before .before .pre .2)) ∙ sym (c .before .is-listed .ensures) ∙ c .if2 .taken)
@@ -39,7 +39,7 @@ first-block-requires : tie.Need-first-block-requires
 first-block-requires c κs = search needs
 
 returns-3 : tie.Need-returns-3
-returns-3 c = ap (λ (b : ℕ). eqb b blocks) (c .first-block .ensures) ∙ first-none _ _ _ _ (c .before .before .before .before .before .pre .0 .chained) ∙ unborne-mapped _ _ (c .before .before .before .before .before .pre .0 .mapped) _ ∙ file-unlisted _ _ (c .before .before .before .if1 .left) (ap (λ (x : ℕ). ltb (c .before .before .before .before .before .args .f) x && held (diskOf (c .before .before .before .before .before .args .image .now)) (c .before .before .before .before .before .args .f)) (sym (c .before .before .before .before .before .pre .2)) ∙ sym (c .before .before .is-listed .ensures) ∙ c .before .if2 .left)
+returns-3 c = ap (λ (b : ℕ). eqb b blocks) (c .first-block .ensures) ∙ chain-empty _ _ _ _ (c .before .before .before .before .before .pre .0 .loadedChains) ∙ no-record-mapped _ _ (c .before .before .before .before .before .pre .0 .loadedMap) _ ∙ file-unlisted _ _ (c .before .before .before .if1 .left) (ap (λ (x : ℕ). ltb (c .before .before .before .before .before .args .f) x && held (diskOf (c .before .before .before .before .before .args .image .now)) (c .before .before .before .before .before .args .f)) (sym (c .before .before .before .before .before .pre .2)) ∙ sym (c .before .before .is-listed .ensures) ∙ c .before .if2 .left)
 
 pub file-right-spec : {M : Type 1} → statement M
 file-right-spec = tie.close (tie.spec dir-bytes-requires blocks-of-requires parts-right-requires returns is-listed-requires entry-right-requires returns-2 first-block-requires returns-3)

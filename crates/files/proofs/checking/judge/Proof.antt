@@ -2,7 +2,7 @@
 -- Assumes nothing.
 use mathlib.Core.Path.{sym, ap, _∙_}
 use Rattle.files.specs.Laws.Judging.Verdict.{verdictOf}
-use Rattle.files.specs.Laws.Judging.Sound.{refusal-mapped, judged-header, judged-map, judged-files, judged-free}
+use Rattle.files.specs.Laws.Judging.Sound.{refusal-loaded, disk-refusal-header, disk-refusal-map, disk-refusal-files, disk-refusal-free}
 use borrow.Author.Needs.{needs}
 use Rattle.files.proofs.checking.judge.Statement.{statement}
 use Rattle.files.proofs.checking.judge.Tie as tie
@@ -14,7 +14,7 @@ enum-known-r : tie.Need-enum-known-r
 enum-known-r c = search needs
 
 returns : tie.Need-returns
-returns c = judged-header _ _ (sym (c .before .r .given .1) ∙ c .before .before .before .judge-header .ensures)
+returns c = disk-refusal-header _ _ (sym (c .before .r .given .1) ∙ c .before .before .before .judge-header .ensures)
 
 enum-told : tie.Need-enum-told
 enum-told c = search needs
@@ -26,7 +26,7 @@ enum-known-r-2 : tie.Need-enum-known-r-2
 enum-known-r-2 c = search needs
 
 returns-2 : tie.Need-returns-2
-returns-2 c = judged-map _ (sym (c .before .before .before .before .enum-told .given .1) ∙ c .before .before .before .before .before .before .judge-header .ensures) _ (sym (c .before .r2 .given .1) ∙ c .before .before .before .judge-map .ensures ∙ ap verdictOf (refusal-mapped _ _ (c .before .before .before .before .before .before .before .before .pre .1)))
+returns-2 c = disk-refusal-map _ (sym (c .before .before .before .before .enum-told .given .1) ∙ c .before .before .before .before .before .before .judge-header .ensures) _ (sym (c .before .r2 .given .1) ∙ c .before .before .before .judge-map .ensures ∙ ap verdictOf (refusal-loaded _ _ (c .before .before .before .before .before .before .before .before .pre .1)))
 
 enum-told-2 : tie.Need-enum-told-2
 enum-told-2 c = search needs
@@ -44,10 +44,10 @@ judge-free-requires : tie.Need-judge-free-requires
 judge-free-requires c κs = search needs
 
 returns-3 : tie.Need-returns-3
-returns-3 c = judged-files _ (sym (c .before .before .before .before .before .before .before .enum-told .given .1) ∙ c .before .before .before .before .before .before .before .before .before .judge-header .ensures) (sym (c .before .before .before .before .enum-told2 .given .1) ∙ c .before .before .before .before .before .before .judge-map .ensures ∙ ap verdictOf (refusal-mapped _ _ (c .before .before .before .before .before .before .before .before .before .before .before .pre .1))) _ (sym (c .before .r3 .given .1) ∙ c .before .before .before .judge-files .ensures)
+returns-3 c = disk-refusal-files _ (sym (c .before .before .before .before .before .before .before .enum-told .given .1) ∙ c .before .before .before .before .before .before .before .before .before .judge-header .ensures) (sym (c .before .before .before .before .enum-told2 .given .1) ∙ c .before .before .before .before .before .before .judge-map .ensures ∙ ap verdictOf (refusal-loaded _ _ (c .before .before .before .before .before .before .before .before .before .before .before .pre .1))) _ (sym (c .before .r3 .given .1) ∙ c .before .before .before .judge-files .ensures)
 
 returns-4 : tie.Need-returns-4
-returns-4 c = judged-free _ (sym (c .before .before .before .before .before .before .before .enum-told .given .1) ∙ c .before .before .before .before .before .before .before .before .before .judge-header .ensures) (sym (c .before .before .before .before .enum-told2 .given .1) ∙ c .before .before .before .before .before .before .judge-map .ensures ∙ ap verdictOf (refusal-mapped _ _ (c .before .before .before .before .before .before .before .before .before .before .before .pre .1))) _ (c .judge-free .ensures) (sym (c .before .enum-told3 .given .1) ∙ c .before .before .before .judge-files .ensures)
+returns-4 c = disk-refusal-free _ (sym (c .before .before .before .before .before .before .before .enum-told .given .1) ∙ c .before .before .before .before .before .before .before .before .before .judge-header .ensures) (sym (c .before .before .before .before .enum-told2 .given .1) ∙ c .before .before .before .before .before .before .judge-map .ensures ∙ ap verdictOf (refusal-loaded _ _ (c .before .before .before .before .before .before .before .before .before .before .before .pre .1))) _ (c .judge-free .ensures) (sym (c .before .enum-told3 .given .1) ∙ c .before .before .before .judge-files .ensures)
 
 pub judge-spec : {M : Type 1} → statement M
 judge-spec = tie.close (tie.spec judge-header-requires enum-known-r returns enum-told judge-map-requires enum-known-r-2 returns-2 enum-told-2 judge-files-requires enum-known-r-3 enum-told-3 judge-free-requires returns-3 returns-4)

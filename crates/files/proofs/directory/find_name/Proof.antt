@@ -24,11 +24,11 @@ dir-end-requires c κs = search needs
 loop-holds : tie.Need-loop-holds Inv-loop μ-loop
 loop-holds c = (omega arith, below-none _)
 
-held-so-requires : tie.Need-held-so-requires Inv-loop μ-loop
-held-so-requires c κs = search needs
+slot-has-name-requires : tie.Need-slot-has-name-requires Inv-loop μ-loop
+slot-has-name-requires c κs = search needs
 
 returns : tie.Need-returns Inv-loop μ-loop
-returns c = found-at _ _ (c .before .before .before .before .dir-end .ensures .0) _ _ (omega arith) (c .before .before .before .loop .inv .1) (sym (c .before .held-so .ensures) ∙ c .if1 .taken)
+returns c = found-at _ _ (c .before .before .before .before .dir-end .ensures .0) _ _ (omega arith) (c .before .before .before .loop .inv .1) (sym (c .before .slot-has-name .ensures) ∙ c .if1 .taken)
 
 add-k : tie.Need-add-k Inv-loop μ-loop
 add-k c = search needs
@@ -37,7 +37,7 @@ loop-less : tie.Need-loop-less Inv-loop μ-loop
 loop-less c = omega arith
 
 loop-again : tie.Need-loop-again Inv-loop μ-loop
-loop-again c = (omega arith, below-more _ _ (c .before .before .before .loop .inv .1) (sym (c .before .held-so .ensures) ∙ c .if1 .left))
+loop-again c = (omega arith, below-more _ _ (c .before .before .before .loop .inv .1) (sym (c .before .slot-has-name .ensures) ∙ c .if1 .left))
 
 returns-2 : tie.Need-returns-2 Inv-loop μ-loop
 returns-2 c = found-none _ _ (c .before .before .dir-end .ensures .0) _ (λ j h. c .before .loop .inv .1 j (omega arith))
@@ -50,7 +50,7 @@ find-name-spec =
     μ-loop
     dir-end-requires
     loop-holds
-    held-so-requires
+    slot-has-name-requires
     returns
     add-k
     loop-less

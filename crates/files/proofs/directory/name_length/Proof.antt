@@ -16,8 +16,8 @@ add-high2 c = search needs
 high2-requires : tie.Need-high2-requires
 high2-requires c κs = search needs
 
-cast-named : tie.Need-cast-named
-cast-named c = search needs
+cast-stored : tie.Need-cast-stored
+cast-stored c = search needs
 
 returns : tie.Need-returns
 returns c = let e : c .before .high2 .result ≡ at16 (elementAt (c .before .before .before .args .image .now) (c .before .before .before .args .at)) 14 = c .before .high2 .ensures ∙ word2-row _ _ 14 in omega arith
@@ -26,4 +26,4 @@ returns-2 : tie.Need-returns-2
 returns-2 c = let e : c .before .high2 .result ≡ at16 (elementAt (c .before .before .before .args .image .now) (c .before .before .before .args .at)) 14 = c .before .high2 .ensures ∙ word2-row _ _ 14 in omega arith
 
 pub name-length-spec : {M : Type 1} → statement M
-name-length-spec = tie.close (tie.spec add-high2 high2-requires cast-named returns returns-2)
+name-length-spec = tie.close (tie.spec add-high2 high2-requires cast-stored returns returns-2)

@@ -4,7 +4,7 @@ use Prim.Native.Nat.{_-_}
 use borrow.Author.Needs.{needs}
 use Rattle.file_rules.specs.Laws.OnImages.Run.{format-done}
 use Rattle.files.specs.Laws.Calling.Fresh.{format-length, format-name}
-use Rattle.files.specs.Laws.Calling.Judged.{wrote-refused, wrote-done}
+use Rattle.files.specs.Laws.Calling.SoundDisk.{wrote-refused, wrote-done}
 use Rattle.files.proofs.formatting.format.Statement.{statement}
 use Rattle.files.proofs.formatting.format.Tie as tie
 

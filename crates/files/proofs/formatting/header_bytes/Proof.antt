@@ -14,11 +14,11 @@ slice-aggregate-put-title c = search needs
 put-title-requires : tie.Need-put-title-requires
 put-title-requires c κs = search needs
 
-slice-aggregate-put-sizes : tie.Need-slice-aggregate-put-sizes
-slice-aggregate-put-sizes c = search needs
+slice-aggregate-put-dimensions : tie.Need-slice-aggregate-put-dimensions
+slice-aggregate-put-dimensions c = search needs
 
-put-sizes-requires : tie.Need-put-sizes-requires
-put-sizes-requires c κs = search needs
+put-dimensions-requires : tie.Need-put-dimensions-requires
+put-dimensions-requires c κs = search needs
 
 slice-aggregate-put-start : tie.Need-slice-aggregate-put-start
 slice-aggregate-put-start c = search needs
@@ -28,7 +28,7 @@ put-start-requires c κs = search needs
 
 returns : tie.Need-returns
 unfolding tab
-returns c = header-row _ _ _ _ _ refl (c .before .before .before .before .before .before .before .put-title .ensures) (c .before .before .before .before .put-sizes .ensures) (c .before .put-start .ensures)
+returns c = header-row _ _ _ _ _ refl (c .before .before .before .before .before .before .before .put-title .ensures) (c .before .before .before .before .put-dimensions .ensures) (c .before .put-start .ensures)
 
 pub header-bytes-spec : {M : Type 1} → statement M
 header-bytes-spec =
@@ -36,8 +36,8 @@ header-bytes-spec =
     (tie.spec
     slice-aggregate-put-title
     put-title-requires
-    slice-aggregate-put-sizes
-    put-sizes-requires
+    slice-aggregate-put-dimensions
+    put-dimensions-requires
     slice-aggregate-put-start
     put-start-requires
     returns)

@@ -3,7 +3,7 @@
 use Prim.Native.Nat.{_-_}
 use borrow.Author.Needs.{needs}
 use Rattle.files.specs.Laws.Calling.Fresh.{titled-is}
-use Rattle.file_rules.specs.Check.{signature}
+use Rattle.file_rules.specs.Check.{diskSignature}
 use Rattle.files.proofs.formatting.put_title.Statement.{statement}
 use Rattle.files.proofs.formatting.put_title.Tie as tie
 
@@ -26,7 +26,7 @@ same-length : tie.Need-same-length
 same-length c = search needs
 
 returns : tie.Need-returns
-unfolding signature
+unfolding diskSignature
 returns c = titled-is _ _ _ _ _ _ (c .before .before .before .before .before .before .before .before .before .before .before .before .before .before .before .before .before .before .before .pre) (c .before .before .before .before .before .before .before .before .before .before .before .before .before .before .copy-into .ensures) (c .before .before .before .before .before .before .before .before .before .before .fill .ensures) (c .before .before .before .before .before .before .copy-into2 .ensures) (c .before .before .put-high2 .ensures)
 
 pub put-title-spec : {M : Type 1} → statement M

@@ -8,25 +8,25 @@ use borrow.Author.Needs.{needs}
 use Rattle.sector_rules.specs.Geometry.{blocks, imageBytes}
 use Rattle.file_rules.specs.Disk.{diskOf, imageOf}
 use Rattle.file_rules.specs.Calls.{freshOwner}
-use Rattle.files.specs.Laws.Writing.Steps.{Packs}
-use Rattle.files.specs.Laws.Calling.Fresh.{mapped, mapped-none, mapped-more, fresh-packs}
+use Rattle.files.specs.Laws.Writing.Steps.{FitsRecord}
+use Rattle.files.specs.Laws.Calling.Fresh.{withRecords, records-none, records-more, fresh-fits}
 use Rattle.files.proofs.formatting.write_map.Statement.{statement}
 use Rattle.files.proofs.formatting.write_map.Tie as tie
 
 abbrev Inv-loop : tie.InvT-loop
-Inv-loop image₀ b₀ image b = (b ≤ blocks) × (length image ≡ imageBytes) × (image ≡ imageOf (mapped (diskOf image₀) freshOwner b))
+Inv-loop image₀ b₀ image b = (b ≤ blocks) × (length image ≡ imageBytes) × (image ≡ imageOf (withRecords (diskOf image₀) freshOwner b))
 
 abbrev μ-loop : tie.MeasureT-loop
 μ-loop image₀ b₀ image b = blocks - b
 
 loop-holds : tie.Need-loop-holds Inv-loop μ-loop
-loop-holds c = (omega arith, c .before .pre, mapped-none _ _ (c .before .pre))
+loop-holds c = (omega arith, c .before .pre, records-none _ _ (c .before .pre))
 
 fresh-record-requires : tie.Need-fresh-record-requires Inv-loop μ-loop
 fresh-record-requires c κs = search needs
 
 set-record-requires : tie.Need-set-record-requires Inv-loop μ-loop
-set-record-requires c κs = (c .before .before .before .loop .inv .1, omega arith, subst Packs (sym (c .fresh-record .ensures)) (fresh-packs _))
+set-record-requires c κs = (c .before .before .before .loop .inv .1, omega arith, subst FitsRecord (sym (c .fresh-record .ensures)) (fresh-fits _))
 
 add-b : tie.Need-add-b Inv-loop μ-loop
 add-b c = search needs
@@ -35,7 +35,7 @@ loop-less : tie.Need-loop-less Inv-loop μ-loop
 loop-less c = search needs
 
 loop-again : tie.Need-loop-again Inv-loop μ-loop
-loop-again c = (omega arith, c .before .before .set-record .kept .0 ∙ c .before .before .before .before .before .before .loop .inv .1, mapped-more _ _ _ _ _ _ (c .before .before .before .before .before .before .loop .inv .2) (c .before .before .set-record .ensures) (c .before .before .before .fresh-record .ensures))
+loop-again c = (omega arith, c .before .before .set-record .kept .0 ∙ c .before .before .before .before .before .before .loop .inv .1, records-more _ _ _ _ _ _ (c .before .before .before .before .before .before .loop .inv .2) (c .before .before .set-record .ensures) (c .before .before .before .fresh-record .ensures))
 
 same-length : tie.Need-same-length Inv-loop μ-loop
 same-length c = search needs

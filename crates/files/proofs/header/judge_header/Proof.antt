@@ -6,8 +6,8 @@ use Rattle.files.specs.Laws.Judging.Verdict.{refused-header, passed-head
 use Rattle.files.proofs.header.judge_header.Statement.{statement}
 use Rattle.files.proofs.header.judge_header.Tie as tie
 
-header-fault-requires : tie.Need-header-fault-requires
-header-fault-requires c κs = search needs
+disk-header-fault-requires : tie.Need-disk-header-fault-requires
+disk-header-fault-requires c κs = search needs
 
 enum-known-o : tie.Need-enum-known-o
 enum-known-o c = search needs
@@ -19,12 +19,12 @@ enum-told : tie.Need-enum-told
 enum-told c = search needs
 
 returns : tie.Need-returns
-returns c = rw (c .refused .ensures) (refused-header _ _ (sym (c .before .before .o .given .1) ∙ c .before .before .before .before .header-fault .ensures))
+returns c = rw (c .refused .ensures) (refused-header _ _ (sym (c .before .before .o .given .1) ∙ c .before .before .before .before .disk-header-fault .ensures))
 
 returns-2 : tie.Need-returns-2
-returns-2 c = passed-header _ (sym (c .enum-told .given .1) ∙ c .before .before .header-fault .ensures)
+returns-2 c = passed-header _ (sym (c .enum-told .given .1) ∙ c .before .before .disk-header-fault .ensures)
 
 pub judge-header-spec : {M : Type 1} → statement M
 judge-header-spec =
     tie.close
-    (tie.spec header-fault-requires enum-known-o refused-requires enum-told returns returns-2)
+    (tie.spec disk-header-fault-requires enum-known-o refused-requires enum-told returns returns-2)

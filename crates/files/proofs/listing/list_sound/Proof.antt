@@ -9,7 +9,7 @@ use Rattle.file_rules.specs.Sizes.{slotBytes}
 use Rattle.file_rules.specs.Directory.{held, dirEnd}
 use Rattle.file_rules.specs.Calls.{entries, listSound}
 use Rattle.files.specs.Laws.Loading.Parts.{from-none}
-use Rattle.files.specs.Laws.Loading.Slots.{located}
+use Rattle.files.specs.Laws.Loading.Slots.{located-directory}
 use Rattle.files.specs.Laws.Calling.Delivered.{entries-length, fits-answer, fits-buffer, misses-answer, misses-buffer}
 use borrow.Author.Needs.{needs}
 use native.Mathlib.Omega.{arith}
@@ -23,7 +23,7 @@ dir-end-requires : tie.Need-dir-end-requires
 dir-end-requires c κs = search needs
 
 count-held-requires : tie.Need-count-held-requires
-count-held-requires c κs = (c .before .before .before .before .before .before .pre .0, omega (arith, c .before .before .before .before .before .before .pre .1, c .before .dir-end .ensures .0), located _ _ _ (c .before .before .before .before .before .before .pre .2) (c .before .before .file-blocks .ensures))
+count-held-requires c κs = (c .before .before .before .before .before .before .pre .0, omega (arith, c .before .before .before .before .before .before .pre .1, c .before .dir-end .ensures .0), located-directory _ _ _ (c .before .before .before .before .before .before .pre .2) (c .before .before .file-blocks .ensures))
 
 mul-needed : tie.Need-mul-needed
 mul-needed c = search needs
@@ -36,7 +36,7 @@ unfolding listSound
 returns c = (c .refused .ensures ∙ misses-answer _ _ _ (ap (λ (x : ℕ). slotBytes * x) (c .before .before .count-held .ensures .0 ∙ ap (λ (x : ℕ). count x (held (diskOf (c .before .before .before .before .before .before .before .before .before .args .image .now)))) (c .before .before .before .before .dir-end .ensures .0)) ∙ entries-length (diskOf (c .before .before .before .before .before .before .before .before .before .args .image .now)) (dirEnd (diskOf (c .before .before .before .before .before .before .before .before .before .args .image .now)))) (c .before .if1 .taken), misses-buffer _ _ _ (ap (λ (x : ℕ). slotBytes * x) (c .before .before .count-held .ensures .0 ∙ ap (λ (x : ℕ). count x (held (diskOf (c .before .before .before .before .before .before .before .before .before .args .image .now)))) (c .before .before .before .before .dir-end .ensures .0)) ∙ entries-length (diskOf (c .before .before .before .before .before .before .before .before .before .args .image .now)) (dirEnd (diskOf (c .before .before .before .before .before .before .before .before .before .args .image .now)))) (c .before .if1 .taken))
 
 list-slots-requires : tie.Need-list-slots-requires
-list-slots-requires c κs = (c .before .before .before .before .before .before .before .before .before .before .pre .0, omega (arith, c .before .before .before .before .before .before .before .before .before .before .pre .1, c .before .before .before .before .before .dir-end .ensures .0), located _ _ _ (c .before .before .before .before .before .before .before .before .before .before .pre .2) (c .before .before .before .before .before .before .file-blocks .ensures), omega (arith, c .before .before .if1 .left, c .before .before .before .count-held .ensures .0, entries-length (diskOf (c .before .before .before .before .before .before .before .before .before .before .args .image .now)) (c .before .before .before .before .before .dir-end .result)))
+list-slots-requires c κs = (c .before .before .before .before .before .before .before .before .before .before .pre .0, omega (arith, c .before .before .before .before .before .before .before .before .before .before .pre .1, c .before .before .before .before .before .dir-end .ensures .0), located-directory _ _ _ (c .before .before .before .before .before .before .before .before .before .before .pre .2) (c .before .before .before .before .before .before .file-blocks .ensures), omega (arith, c .before .before .if1 .left, c .before .before .before .count-held .ensures .0, entries-length (diskOf (c .before .before .before .before .before .before .before .before .before .before .args .image .now)) (c .before .before .before .before .before .dir-end .result)))
 
 refused-requires-2 : tie.Need-refused-requires-2
 refused-requires-2 c κs = search needs

@@ -9,13 +9,13 @@ use Rattle.laws.specs.Below.{count}
 use Rattle.sector_rules.specs.Geometry.{blocks}
 use Rattle.file_rules.specs.declared.MapRecord.{MapRecord}
 use Rattle.file_rules.specs.Map.{isFree}
-use Rattle.files.specs.Laws.Loading.Loaded.{recordIn}
+use Rattle.files.specs.Laws.Loading.Loaded.{loadedRecord}
 use Rattle.files.specs.Laws.Loading.Loops.{counted-yes, counted-no}
 use Rattle.files.proofs.map.count_free.Statement.{statement}
 use Rattle.files.proofs.map.count_free.Tie as tie
 
 abbrev Inv-loop : tie.InvT-loop
-Inv-loop map n₀ b₀ n b = (b ≤ blocks) × (n ≤ b) × (n ≡ count b (λ (j : ℕ). isFree (recordIn map j)))
+Inv-loop map n₀ b₀ n b = (b ≤ blocks) × (n ≤ b) × (n ≡ count b (λ (j : ℕ). isFree (loadedRecord map j)))
 
 abbrev μ-loop : tie.MeasureT-loop
 μ-loop map n₀ b₀ n b = blocks - b
@@ -44,8 +44,8 @@ loop-again c = (
   omega arith,
   ⊎-elim (λ w. omega (arith, w .1)) (λ w. omega (arith, w .1)) (c .if1 .came),
   ⊎-elim
-      (λ w. w .1 ∙ counted-yes (λ (j : ℕ). isFree (recordIn (c .before .before .before .before .before .args .map .now) j)) _ _ (c .before .before .before .before .loop .inv .2) (sym (ap (λ (m : MapRecord). isFree (m .«record»)) (c .before .before .map-record .ensures)) ∙ sym (c .before .is-free .ensures) ∙ w .0 .taken))
-      (λ w. w .1 ∙ counted-no (λ (j : ℕ). isFree (recordIn (c .before .before .before .before .before .args .map .now) j)) _ _ (c .before .before .before .before .loop .inv .2) (sym (ap (λ (m : MapRecord). isFree (m .«record»)) (c .before .before .map-record .ensures)) ∙ sym (c .before .is-free .ensures) ∙ w .0 .left))
+      (λ w. w .1 ∙ counted-yes (λ (j : ℕ). isFree (loadedRecord (c .before .before .before .before .before .args .map .now) j)) _ _ (c .before .before .before .before .loop .inv .2) (sym (ap (λ (m : MapRecord). isFree (m .«record»)) (c .before .before .map-record .ensures)) ∙ sym (c .before .is-free .ensures) ∙ w .0 .taken))
+      (λ w. w .1 ∙ counted-no (λ (j : ℕ). isFree (loadedRecord (c .before .before .before .before .before .args .map .now) j)) _ _ (c .before .before .before .before .loop .inv .2) (sym (ap (λ (m : MapRecord). isFree (m .«record»)) (c .before .before .map-record .ensures)) ∙ sym (c .before .is-free .ensures) ∙ w .0 .left))
       (c .if1 .came),
 )
 

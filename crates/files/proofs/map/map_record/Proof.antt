@@ -1,7 +1,7 @@
 -- `map_record` meets its contract.
 -- Assumes nothing.
 use borrow.Author.Needs.{needs}
-use Rattle.files.specs.Laws.Loading.Loaded.{recordIn}
+use Rattle.files.specs.Laws.Loading.Loaded.{loadedRecord}
 use Rattle.files.proofs.map.map_record.Statement.{statement}
 use Rattle.files.proofs.map.map_record.Tie as tie
 
@@ -15,7 +15,7 @@ record-of-requires : tie.Need-record-of-requires
 record-of-requires c κs = search needs
 
 returns : tie.Need-returns
-unfolding recordIn
+unfolding loadedRecord
 returns c = rw (c .record-of .ensures)
 
 pub map-record-spec : {M : Type 1} → statement M

@@ -10,12 +10,12 @@ use Rattle.laws.specs.Laws.Lowest.{lowest-some, lowest-none}
 use Rattle.sector_rules.specs.Geometry.{blocks}
 use Rattle.file_rules.specs.declared.MapRecord.{MapRecord}
 use Rattle.file_rules.specs.Map.{isPart}
-use Rattle.files.specs.Laws.Loading.Loaded.{recordIn}
+use Rattle.files.specs.Laws.Loading.Loaded.{loadedRecord}
 use Rattle.files.proofs.map.part_block.Statement.{statement}
 use Rattle.files.proofs.map.part_block.Tie as tie
 
 abbrev Inv-loop : tie.InvT-loop
-Inv-loop map f s b₀ b = (b ≤ blocks) × ((j : ℕ) → j < b → isPart f s (recordIn map j) ≡ false)
+Inv-loop map f s b₀ b = (b ≤ blocks) × ((j : ℕ) → j < b → isPart f s (loadedRecord map j) ≡ false)
 
 abbrev μ-loop : tie.MeasureT-loop
 μ-loop map f s b₀ b = blocks - b

@@ -21,11 +21,11 @@ abbrev μ-loop : tie.MeasureT-loop
 loop-holds : tie.Need-loop-holds Inv-loop μ-loop
 loop-holds c = (omega arith, below-none _)
 
-held-so-requires : tie.Need-held-so-requires Inv-loop μ-loop
-held-so-requires c κs = search needs
+slot-has-name-requires : tie.Need-slot-has-name-requires Inv-loop μ-loop
+slot-has-name-requires c κs = search needs
 
 returns : tie.Need-returns Inv-loop μ-loop
-returns c = sym (all-false _ (c .before .before .before .before .before .before .args .k) (c .before .before .before .loop .j) (omega arith) (ap not (sym (c .before .held-so .ensures) ∙ c .if1 .taken)))
+returns c = sym (all-false _ (c .before .before .before .before .before .before .args .k) (c .before .before .before .loop .j) (omega arith) (ap not (sym (c .before .slot-has-name .ensures) ∙ c .if1 .taken)))
 
 add-j : tie.Need-add-j Inv-loop μ-loop
 add-j c = search needs
@@ -34,7 +34,7 @@ loop-less : tie.Need-loop-less Inv-loop μ-loop
 loop-less c = omega arith
 
 loop-again : tie.Need-loop-again Inv-loop μ-loop
-loop-again c = (omega arith, below-more _ _ (c .before .before .before .loop .inv .1) (ap not (sym (c .before .held-so .ensures) ∙ c .if1 .left)))
+loop-again c = (omega arith, below-more _ _ (c .before .before .before .loop .inv .1) (ap not (sym (c .before .slot-has-name .ensures) ∙ c .if1 .left)))
 
 returns-2 : tie.Need-returns-2 Inv-loop μ-loop
 returns-2 c = sym (all-is _ (c .before .before .before .before .args .k) (λ i h. c .before .loop .inv .1 i (omega arith)))
@@ -46,7 +46,7 @@ new-name-spec =
     Inv-loop
     μ-loop
     loop-holds
-    held-so-requires
+    slot-has-name-requires
     returns
     add-j
     loop-less

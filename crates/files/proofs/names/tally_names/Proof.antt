@@ -4,14 +4,14 @@ use mathlib.Core.Path.{_≡_}
 use Prim.Native.Nat.{suc, _-_, _≤_}
 use Rattle.file_rules.specs.Disk.{diskOf}
 use Rattle.files.specs.Laws.Loading.Tally.{Tallied, tally-more}
-use Rattle.files.specs.Laws.Loading.Marks.{markCount, slotMark}
+use Rattle.files.specs.Laws.Loading.NameHashes.{hashCount, slotHash}
 use borrow.Author.Needs.{needs}
 use native.Mathlib.Omega.{arith}
 use Rattle.files.proofs.names.tally_names.Statement.{statement}
 use Rattle.files.proofs.names.tally_names.Tie as tie
 
 abbrev Inv-loop : tie.InvT-loop
-Inv-loop image dir end names₀ k₀ names k = (k ≤ end) × Tallied names (suc markCount) (slotMark (diskOf image)) k
+Inv-loop image dir end names₀ k₀ names k = (k ≤ end) × Tallied names (suc hashCount) (slotHash (diskOf image)) k
 
 abbrev μ-loop : tie.MeasureT-loop
 μ-loop image dir end names₀ k₀ names k = end - k
@@ -19,8 +19,8 @@ abbrev μ-loop : tie.MeasureT-loop
 loop-holds : tie.Need-loop-holds Inv-loop μ-loop
 loop-holds c = (omega arith, c .before .pre .3)
 
-slot-mark-requires : tie.Need-slot-mark-requires Inv-loop μ-loop
-slot-mark-requires c κs = search needs
+slot-hash-requires : tie.Need-slot-hash-requires Inv-loop μ-loop
+slot-hash-requires c κs = search needs
 
 element-copy-out-more : tie.Need-element-copy-out-more Inv-loop μ-loop
 element-copy-out-more c = search needs
@@ -38,7 +38,7 @@ loop-less : tie.Need-loop-less Inv-loop μ-loop
 loop-less c = omega arith
 
 loop-again : tie.Need-loop-again Inv-loop μ-loop
-loop-again c = (omega arith, tally-more _ _ _ _ (c .before .before .before .before .loop .inv .1) _ (c .before .before .slot-mark .ensures .0) _ (c .before .before .slot-mark .ensures .1) (c .more .ensures))
+loop-again c = (omega arith, tally-more _ _ _ _ (c .before .before .before .before .loop .inv .1) _ (c .before .before .slot-hash .ensures .0) _ (c .before .before .slot-hash .ensures .1) (c .more .ensures))
 
 returns : tie.Need-returns Inv-loop μ-loop
 returns c = let e : c .before .loop .k ≡ c .before .before .before .args .end = omega arith in rw e at (c .before .loop .inv .1)
@@ -50,7 +50,7 @@ tally-names-spec =
     Inv-loop
     μ-loop
     loop-holds
-    slot-mark-requires
+    slot-hash-requires
     element-copy-out-more
     more-requires
     element-write-names

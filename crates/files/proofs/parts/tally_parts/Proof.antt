@@ -7,7 +7,7 @@ use Rattle.laws.specs.Laws.Cases.{by-order}
 use Rattle.sector_rules.specs.Geometry.{blocks}
 use Rattle.file_rules.specs.declared.MapRecord.{MapRecord}
 use Rattle.file_rules.specs.Map.{sequences, bears}
-use Rattle.files.specs.Laws.Loading.Loaded.{recordIn}
+use Rattle.files.specs.Laws.Loading.Loaded.{loadedRecord}
 use Rattle.files.specs.Laws.Loading.Tally.{Tallied, tally-more}
 use Rattle.files.specs.Laws.Loading.Parts.{partOf, part-borne}
 use Rattle.files.specs.Laws.Loading.Chains.{first-next, first-file, tally-next}
@@ -17,7 +17,7 @@ use Rattle.files.proofs.parts.tally_parts.Statement.{statement}
 use Rattle.files.proofs.parts.tally_parts.Tie as tie
 
 abbrev Inv-loop : tie.InvT-loop
-Inv-loop map first next f n tally₀ b₀ tally b = (b ≤ blocks) × Tallied tally (suc blocks) (λ (j : ℕ). partOf f n (recordIn map j)) b × (b < blocks → (f < sequences) × (bears f (recordIn map b) ≡ true))
+Inv-loop map first next f n tally₀ b₀ tally b = (b ≤ blocks) × Tallied tally (suc blocks) (λ (j : ℕ). partOf f n (loadedRecord map j)) b × (b < blocks → (f < sequences) × (bears f (loadedRecord map b) ≡ true))
 
 abbrev μ-loop : tie.MeasureT-loop
 μ-loop map first next f n tally₀ b₀ tally b = blocks - b

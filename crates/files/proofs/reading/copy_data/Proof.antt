@@ -10,7 +10,7 @@ use Rattle.laws.specs.Changes.{overlay}
 use Rattle.laws.specs.Laws.Overlay.{overlay-none, overlay-next, overlay-length}
 use Rattle.file_rules.specs.Disk.{diskOf}
 use Rattle.file_rules.specs.Map.{fileByte}
-use Rattle.files.specs.Laws.Loading.Loaded.{part-mapped}
+use Rattle.files.specs.Laws.Loading.Loaded.{part-loaded}
 use Rattle.files.specs.Laws.Calling.Delivered.{file-run}
 use Rattle.file_rules.specs.Sizes.{slotBytes}
 use Rattle.files.proofs.reading.copy_data.Statement.{statement}
@@ -55,7 +55,7 @@ loop-again c = (
   ap length (c .before .before .copy-part .ensures) ∙ overlay-length _ _ _ _ ∙ c .before .before .before .before .before .before .before .before .loop .inv .1,
   c .before .before .copy-part .ensures
       ∙ overlay-next _ _ _ _ (λ (j : ℕ). fileByte (diskOf (c .before .before .before .before .before .before .before .before .before .before .before .before .before .args .image .now)) (c .before .before .before .before .before .before .before .before .before .before .before .before .before .args .k) (slotBytes + j)) _ (c .before .before .before .before .before .before .before .before .loop .inv .2)
-      (λ j h. file-run (diskOf (c .before .before .before .before .before .before .before .before .before .before .before .before .before .args .image .now)) (c .before .before .before .before .before .before .before .before .before .before .before .before .before .args .k) (c .before .before .before .before .before .before .before .before .loop .i) j _ (c .before .before .before .before .before .nth-block .ensures ∙ part-mapped _ _ (c .before .before .before .before .before .before .before .before .before .before .before .before .before .pre .1) _ _) (omega arith)),
+      (λ j h. file-run (diskOf (c .before .before .before .before .before .before .before .before .before .before .before .before .before .args .image .now)) (c .before .before .before .before .before .before .before .before .before .before .before .before .before .args .k) (c .before .before .before .before .before .before .before .before .loop .i) j _ (c .before .before .before .before .before .nth-block .ensures ∙ part-loaded _ _ (c .before .before .before .before .before .before .before .before .before .before .before .before .before .pre .1) _ _) (omega arith)),
 )
 
 same-length : tie.Need-same-length Inv-loop μ-loop

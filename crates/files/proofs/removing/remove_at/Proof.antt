@@ -12,14 +12,14 @@ free-blocks-requires c κs = c .before .before .before .pre
 zero-slot-requires : tie.Need-zero-slot-requires
 zero-slot-requires c κs = c .before .before .before .before .free-blocks .ensures .1
 
-settle-requires : tie.Need-settle-requires
-settle-requires c κs = step-slot _ _ (c .before .before .before .before .before .before .before .before .before .free-blocks .ensures .1) _ _ _ (c .before .before .before .before .zero-slot .ensures)
+update-counts-requires : tie.Need-update-counts-requires
+update-counts-requires c κs = step-slot _ _ (c .before .before .before .before .before .before .before .before .before .free-blocks .ensures .1) _ _ _ (c .before .before .before .before .zero-slot .ensures)
 
 same-length : tie.Need-same-length
 same-length c = search needs
 
 returns : tie.Need-returns
-returns c = remove-written _ _ _ _ _ (c .before .before .before .before .before .before .before .before .before .before .before .before .free-blocks .ensures .0) (c .before .before .before .before .before .before .before .zero-slot .ensures) (c .before .before .settle .ensures)
+returns c = remove-written _ _ _ _ _ (c .before .before .before .before .before .before .before .before .before .before .before .before .free-blocks .ensures .0) (c .before .before .before .before .before .before .before .zero-slot .ensures) (c .before .before .update-counts .ensures)
 
 pub remove-at-spec : {M : Type 1} → statement M
-remove-at-spec = tie.close (tie.spec free-blocks-requires zero-slot-requires settle-requires same-length returns)
+remove-at-spec = tie.close (tie.spec free-blocks-requires zero-slot-requires update-counts-requires same-length returns)

@@ -4,9 +4,9 @@ use mathlib.Core.Path.{sym, _∙_}
 use borrow.Author.Tests.{not-false}
 use Rattle.laws.specs.Laws.Tests.{not-was}
 use Rattle.files.specs.Laws.Loading.Parts.{from-none}
-use Rattle.files.specs.Laws.Loading.Slots.{located}
+use Rattle.files.specs.Laws.Loading.Slots.{located-directory}
 use Rattle.files.specs.Laws.Judging.Ends.{end-within}
-use Rattle.files.specs.Laws.Calling.Judged.{gave-refused, gave-done, remove-name, remove-none, remove-done}
+use Rattle.files.specs.Laws.Calling.SoundDisk.{gave-refused, gave-done, remove-name, remove-none, remove-done}
 use borrow.Author.Needs.{needs}
 use Rattle.files.proofs.removing.remove_sound.Statement.{statement}
 use Rattle.files.proofs.removing.remove_sound.Tie as tie
@@ -24,7 +24,7 @@ file-blocks-requires : tie.Need-file-blocks-requires
 file-blocks-requires c κs = from-none _ _
 
 find-name-requires : tie.Need-find-name-requires
-find-name-requires c κs = (c .before .before .before .before .before .before .before .before .before .pre .0 .long, end-within _ (c .before .before .before .before .before .before .before .before .before .pre .1), located _ _ _ (c .before .before .before .before .before .before .before .before .before .pre .0 .mapped) (c .before .before .file-blocks .ensures))
+find-name-requires c κs = (c .before .before .before .before .before .before .before .before .before .pre .0 .long, end-within _ (c .before .before .before .before .before .before .before .before .before .pre .1), located-directory _ _ _ (c .before .before .before .before .before .before .before .before .before .pre .0 .loadedMap) (c .before .before .file-blocks .ensures))
 
 dir-end-requires : tie.Need-dir-end-requires
 dir-end-requires c κs = search needs

@@ -9,7 +9,7 @@ use Rattle.sector_rules.specs.Geometry.{blocks}
 use Rattle.file_rules.specs.declared.MapRecord.{MapRecord}
 use Rattle.file_rules.specs.Disk.{diskOf}
 use Rattle.file_rules.specs.Map.{recordAt, isFree}
-use Rattle.files.specs.Laws.Loading.Loaded.{recordIn, record-mapped}
+use Rattle.files.specs.Laws.Loading.Loaded.{loadedRecord, record-loaded}
 use Rattle.files.specs.Laws.Writing.Steps.{storedRow}
 use Rattle.files.specs.Laws.Writing.Given.{Walked, walked-none, walked-asked, walked-given, asked-below}
 use Rattle.files.specs.Laws.Writing.InStep.{InStep, not-first, rest-more}
@@ -19,13 +19,13 @@ use Rattle.files.proofs.steps.give_blocks.Statement.{statement}
 use Rattle.files.proofs.steps.give_blocks.Tie as tie
 
 abbrev Inv-loop : tie.InvT-loop
-Inv-loop image₀ map₀ f s n head content given₀ b₀ image map given b = (b ≤ blocks) × InStep map image × ((j : ℕ) → b ≤ j → j < blocks → recordIn map j ≡ recordAt (diskOf image₀) j) × Walked (diskOf image₀) f (storedRow head content) s n b given image
+Inv-loop image₀ map₀ f s n head content given₀ b₀ image map given b = (b ≤ blocks) × InStep map image × ((j : ℕ) → b ≤ j → j < blocks → loadedRecord map j ≡ recordAt (diskOf image₀) j) × Walked (diskOf image₀) f (storedRow head content) s n b given image
 
 abbrev μ-loop : tie.MeasureT-loop
 μ-loop image₀ map₀ f s n head content given₀ b₀ image map given b = blocks - b
 
 loop-holds : tie.Need-loop-holds Inv-loop μ-loop
-loop-holds c = (omega arith, c .before .before .before .pre .0, λ j h l. record-mapped _ _ (c .before .before .before .pre .0 .mapped) j l, walked-none _ _ _ _ _ _ refl (c .before .before .before .pre .0 .long))
+loop-holds c = (omega arith, c .before .before .before .pre .0, λ j h l. record-loaded _ _ (c .before .before .before .pre .0 .loadedMap) j l, walked-none _ _ _ _ _ _ refl (c .before .before .before .pre .0 .long))
 
 map-record-requires : tie.Need-map-record-requires Inv-loop μ-loop
 map-record-requires c κs = search needs

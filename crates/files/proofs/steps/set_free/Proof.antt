@@ -2,7 +2,7 @@
 -- Assumes nothing.
 use mathlib.Core.Path.{_∙_}
 use Rattle.file_rules.specs.Written.{setFree, setWord}
-use Rattle.files.specs.Laws.Loading.Loaded.{free-mapped}
+use Rattle.files.specs.Laws.Loading.Loaded.{free-loaded}
 use borrow.Author.Needs.{needs}
 use Rattle.files.proofs.steps.set_free.Statement.{statement}
 use Rattle.files.proofs.steps.set_free.Tie as tie
@@ -21,7 +21,7 @@ same-length c = search needs
 
 returns : tie.Need-returns
 unfolding setFree setWord
-returns c = rw (c .before .before .before .before .count-free .ensures .0 ∙ free-mapped _ _ (c .before .before .before .before .before .before .pre .mapped)) at (c .before .before .put-word2 .ensures)
+returns c = rw (c .before .before .before .before .count-free .ensures .0 ∙ free-loaded _ _ (c .before .before .before .before .before .before .pre .loadedMap)) at (c .before .before .put-word2 .ensures)
 
 pub set-free-spec : {M : Type 1} → statement M
 set-free-spec =

@@ -9,7 +9,7 @@ use borrow.Author.Count.{below-none}
 use Rattle.laws.specs.Laws.Tab.{eq-tab}
 use Rattle.sector_rules.specs.Geometry.{sectorBytes}
 use Rattle.files.specs.Laws.Writing.Steps.{storedRow}
-use Rattle.files.specs.Laws.Writing.Rows.{bytes-more}
+use Rattle.files.specs.Laws.Writing.Rows.{row-bytes-more}
 use Rattle.files.proofs.steps.stored_sector.Statement.{statement}
 use Rattle.files.proofs.steps.stored_sector.Tie as tie
 
@@ -38,7 +38,7 @@ loop-less : tie.Need-loop-less Inv-loop μ-loop
 loop-less c = search needs
 
 loop-again : tie.Need-loop-again Inv-loop μ-loop
-loop-again c = (omega arith, simp length-set (c .before .before .loop .inv .1), bytes-more (c .before .before .loop .row) (c .before .before .loop .k) _ (λ (j : ℕ). storedRow (c .before .before .before .before .before .args .head .now) (c .before .before .before .before .before .args .content .now) (c .before .before .before .before .before .args .i + j)) (omega arith) (c .before .before .loop .inv .2) (c .stored-byte .ensures))
+loop-again c = (omega arith, simp length-set (c .before .before .loop .inv .1), row-bytes-more (c .before .before .loop .row) (c .before .before .loop .k) _ (λ (j : ℕ). storedRow (c .before .before .before .before .before .args .head .now) (c .before .before .before .before .before .args .content .now) (c .before .before .before .before .before .args .i + j)) (omega arith) (c .before .before .loop .inv .2) (c .stored-byte .ensures))
 
 returns : tie.Need-returns Inv-loop μ-loop
 returns c = eq-tab _ _ _ (c .before .loop .inv .1) (λ j h. c .before .loop .inv .2 j (omega arith))

@@ -3,7 +3,7 @@
 use mathlib.Core.Path.{_∙_}
 use Rattle.file_rules.specs.Sizes.{slotBytes}
 use Rattle.file_rules.specs.Directory.{entryByte}
-use Rattle.files.specs.Laws.Loading.Loaded.{part-mapped}
+use Rattle.files.specs.Laws.Loading.Loaded.{part-loaded}
 use Rattle.files.specs.Laws.Writing.Given.{slot-written}
 use Rattle.files.specs.Laws.Writing.Stored.{patched-row}
 use borrow.Author.Needs.{needs}
@@ -29,7 +29,7 @@ same-length : tie.Need-same-length
 same-length c = search needs
 
 returns : tie.Need-returns
-returns c = slot-written _ _ _ _ _ (c .before .before .before .before .before .before .part-block .ensures .0 ∙ part-mapped _ _ (c .before .before .before .before .before .before .before .before .pre .mapped) _ _) (c .before .before .put-bytes .ensures ∙ patched-row _ _ _ _ slotBytes (entryByte (c .before .before .before .before .before .before .before .before .args .e)) (c .before .before .before .before .before .entry-bytes .ensures))
+returns c = slot-written _ _ _ _ _ (c .before .before .before .before .before .before .part-block .ensures .0 ∙ part-loaded _ _ (c .before .before .before .before .before .before .before .before .pre .loadedMap) _ _) (c .before .before .put-bytes .ensures ∙ patched-row _ _ _ _ slotBytes (entryByte (c .before .before .before .before .before .before .before .before .args .e)) (c .before .before .before .before .before .entry-bytes .ensures))
 
 pub write-entry-spec : {M : Type 1} → statement M
 write-entry-spec =

@@ -2,7 +2,7 @@
 -- Assumes nothing.
 use mathlib.Core.Path.{_∙_}
 use Rattle.file_rules.specs.Written.{zeros}
-use Rattle.files.specs.Laws.Loading.Loaded.{part-mapped}
+use Rattle.files.specs.Laws.Loading.Loaded.{part-loaded}
 use Rattle.files.specs.Laws.Writing.Given.{slot-written}
 use borrow.Author.Needs.{needs}
 use Rattle.files.proofs.steps.zero_slot.Statement.{statement}
@@ -22,7 +22,7 @@ same-length c = search needs
 
 returns : tie.Need-returns
 unfolding zeros
-returns c = slot-written _ _ _ _ _ (c .before .before .before .before .part-block .ensures .0 ∙ part-mapped _ _ (c .before .before .before .before .before .before .pre .mapped) _ _) (c .before .before .zero-bytes .ensures)
+returns c = slot-written _ _ _ _ _ (c .before .before .before .before .part-block .ensures .0 ∙ part-loaded _ _ (c .before .before .before .before .before .before .pre .loadedMap) _ _) (c .before .before .zero-bytes .ensures)
 
 pub zero-slot-spec : {M : Type 1} → statement M
 zero-slot-spec =

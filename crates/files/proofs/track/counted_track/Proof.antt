@@ -1,7 +1,7 @@
 -- `counted_track` meets its contract.
 -- Assumes nothing.
 use mathlib.Core.Path.{_∙_}
-use Rattle.files.specs.Laws.Loading.Loaded.{free-mapped}
+use Rattle.files.specs.Laws.Loading.Loaded.{free-loaded}
 use Rattle.files.specs.Laws.Judging.Track.{counted-is}
 use borrow.Author.Needs.{needs}
 use Rattle.files.proofs.track.counted_track.Statement.{statement}
@@ -23,7 +23,7 @@ sub-t7 : tie.Need-sub-t7
 sub-t7 c = search needs
 
 returns : tie.Need-returns
-returns c = counted-is _ _ _ _ _ (c .before .before .done .ensures) (c .before .before .before .count-free .ensures .0 ∙ free-mapped _ _ (c .before .before .before .before .before .pre)) (c .before .head-word .ensures .0) (c .head-word2 .ensures .0)
+returns c = counted-is _ _ _ _ _ (c .before .before .done .ensures) (c .before .before .before .count-free .ensures .0 ∙ free-loaded _ _ (c .before .before .before .before .before .pre)) (c .before .head-word .ensures .0) (c .head-word2 .ensures .0)
 
 pub counted-track-spec : {M : Type 1} → statement M
 counted-track-spec = tie.close (tie.spec count-free-requires done-requires head-word-requires head-word-requires-2 sub-t7 returns)

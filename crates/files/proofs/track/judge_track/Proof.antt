@@ -2,7 +2,7 @@
 -- Assumes nothing.
 use mathlib.Core.Path.{sym, ap, _∙_}
 use Rattle.files.specs.Laws.Judging.Verdict.{verdictOf}
-use Rattle.files.specs.Laws.Judging.Sound.{refusal-mapped}
+use Rattle.files.specs.Laws.Judging.Sound.{refusal-loaded}
 use Rattle.files.specs.Laws.Judging.Track.{track-header, track-map, track-free}
 use borrow.Author.Needs.{needs}
 use Rattle.files.proofs.track.judge_track.Statement.{statement}
@@ -33,10 +33,10 @@ judge-free-requires : tie.Need-judge-free-requires
 judge-free-requires c κs = search needs
 
 returns-2 : tie.Need-returns-2
-returns-2 c = track-map _ (sym (c .before .before .before .before .enum-told .given .1) ∙ c .before .before .before .before .before .before .judge-header .ensures) _ (sym (c .before .r2 .given .1) ∙ c .before .before .before .judge-map .ensures ∙ ap verdictOf (refusal-mapped _ _ (c .before .before .before .before .before .before .before .before .pre .1)))
+returns-2 c = track-map _ (sym (c .before .before .before .before .enum-told .given .1) ∙ c .before .before .before .before .before .before .judge-header .ensures) _ (sym (c .before .r2 .given .1) ∙ c .before .before .before .judge-map .ensures ∙ ap verdictOf (refusal-loaded _ _ (c .before .before .before .before .before .before .before .before .pre .1)))
 
 returns-3 : tie.Need-returns-3
-returns-3 c = track-free _ (sym (c .before .before .before .before .enum-told .given .1) ∙ c .before .before .before .before .before .before .judge-header .ensures) _ (c .judge-free .ensures) (sym (c .before .enum-told2 .given .1) ∙ c .before .before .before .judge-map .ensures ∙ ap verdictOf (refusal-mapped _ _ (c .before .before .before .before .before .before .before .before .pre .1)))
+returns-3 c = track-free _ (sym (c .before .before .before .before .enum-told .given .1) ∙ c .before .before .before .before .before .before .judge-header .ensures) _ (c .judge-free .ensures) (sym (c .before .enum-told2 .given .1) ∙ c .before .before .before .judge-map .ensures ∙ ap verdictOf (refusal-loaded _ _ (c .before .before .before .before .before .before .before .before .pre .1)))
 
 pub judge-track-spec : {M : Type 1} → statement M
 judge-track-spec = tie.close (tie.spec judge-header-requires enum-known-r returns enum-told judge-map-requires enum-known-r-2 enum-told-2 judge-free-requires returns-2 returns-3)

@@ -16,9 +16,9 @@ use Rattle.file_rules.specs.Calls.{opensBlock, growDir, endAfter, addAt, remove
 use Rattle.file_rules.specs.Directory.{entryByte, dirEnd}
 use Rattle.file_rules.specs.Disk.{Disk, diskOf, imageOf}
 use Rattle.file_rules.specs.Laws.Base.Disk.{image-disk}
-use Rattle.files.specs.Laws.Writing.Given.{giveLowest, near-lowest, near-slot, near-settled, stored-zeros}
-use Rattle.files.specs.Laws.Writing.Steps.{storedRow, stored-row, near-end}
-use Rattle.files.specs.Laws.Writing.Stored.{Near, near-step}
+use Rattle.files.specs.Laws.Writing.Given.{giveLowest, inside-lowest, inside-slot, inside-settled, stored-zeros}
+use Rattle.files.specs.Laws.Writing.Steps.{storedRow, stored-row, inside-end}
+use Rattle.files.specs.Laws.Writing.Stored.{EqualInside, inside-step}
 use Rattle.file_rules.specs.Sizes.{slotBytes, blockSlots}
 use Rattle.file_rules.specs.Written.{storedByte, blocksFor, zeros, setSlot, setFree, setEnd, stepUpdate, freeBlocks}
 
@@ -29,8 +29,8 @@ pub remove-written : (l₀ l₁ l₂ l₃ : List ℕ) (k : ℕ) → l₁ ≡ ima
 unfolding removeAt
 remove-written l₀ l₁ l₂ l₃ k e₁ e₂ e₃ =
     let q₂ : l₂ ≡ imageOf (setSlot (freeBlocks blocks (diskOf l₀) k) k zeros) =
-    near-step (λ (d : Disk). setSlot d k zeros) (λ d e n. near-slot d e n k zeros) l₁ l₂ (freeBlocks blocks (diskOf l₀) k) e₁ e₂ in
-    near-step (λ (d : Disk). stepUpdate (setFree d)) near-settled l₂ l₃ (setSlot (freeBlocks blocks (diskOf l₀) k) k zeros) q₂ e₃
+    inside-step (λ (d : Disk). setSlot d k zeros) (λ d e n. inside-slot d e n k zeros) l₁ l₂ (freeBlocks blocks (diskOf l₀) k) e₁ e₂ in
+    inside-step (λ (d : Disk). stepUpdate (setFree d)) inside-settled l₂ l₃ (setSlot (freeBlocks blocks (diskOf l₀) k) k zeros) q₂ e₃
 
 -- ---- add: the directory's block
 
@@ -63,13 +63,13 @@ module _ (k end : ℕ) where
   unfolding endAfter
   end-grown l m h q = q ∙ ap (λ (n : ℕ). imageOf (setEnd (diskOf l) n)) (add-one k) ∙ ap imageOf (sym (cond-true _ _ (eq-true h)))
 
-  near-after : (d e : Disk) → Near d e → Near (endAfter k end d) (endAfter k end e)
+  inside-after : (d e : Disk) → EqualInside d e → EqualInside (endAfter k end d) (endAfter k end e)
   unfolding endAfter
-  near-after d e near b o hb ho =
+  inside-after d e near b o hb ho =
       by-equal k end
       (λ z.
       ap (λ (x : Disk). x b o) (cond-true (setEnd d (suc k)) d (eq-true z))
-      ∙ near-end d e near (suc k) b o hb ho
+      ∙ inside-end d e near (suc k) b o hb ho
       ∙ sym (ap (λ (x : Disk). x b o) (cond-true (setEnd e (suc k)) e (eq-true z))))
       (λ z.
       ap (λ (x : Disk). x b o) (cond-false (setEnd d (suc k)) d (eq-false z))
@@ -109,9 +109,9 @@ module _ (l₀ : List ℕ) (k end : ℕ) (x : Entry) (content : List ℕ) where
       let m : ℕ = blocksFor (length content) in
       let p₂ : l₂ ≡ imageOf (giveLowest (diskOf l₁) k c 0 m blocks) =
       e₂ ∙ ap₂ (λ (g : ℕ → ℕ) (j : ℕ). imageOf (giveLowest (diskOf l₁) k g 0 j blocks)) (stored-row x head content eh) en in
-      let q₂ : l₂ ≡ imageOf d₂ = near-step (λ (d : Disk). giveLowest d k c 0 m blocks) (λ d e near. near-lowest d e near k c 0 m) l₁ l₂ d₁ e₁ p₂ in
-      let q₃ : l₃ ≡ imageOf d₃ = near-step (λ (d : Disk). setSlot d k (entryByte x)) (λ d e near. near-slot d e near k (entryByte x)) l₂ l₃ d₂ q₂ e₃ in
-      let q₄ : l₄ ≡ imageOf (endAfter k end d₃) = near-step (endAfter k end) (near-after k end) l₃ l₄ d₃ q₃ e₄ in
-      near-step (λ (d : Disk). stepUpdate (setFree d)) near-settled l₄ l₅ (endAfter k end d₃) q₄ e₅
+      let q₂ : l₂ ≡ imageOf d₂ = inside-step (λ (d : Disk). giveLowest d k c 0 m blocks) (λ d e near. inside-lowest d e near k c 0 m) l₁ l₂ d₁ e₁ p₂ in
+      let q₃ : l₃ ≡ imageOf d₃ = inside-step (λ (d : Disk). setSlot d k (entryByte x)) (λ d e near. inside-slot d e near k (entryByte x)) l₂ l₃ d₂ q₂ e₃ in
+      let q₄ : l₄ ≡ imageOf (endAfter k end d₃) = inside-step (endAfter k end) (inside-after k end) l₃ l₄ d₃ q₃ e₄ in
+      inside-step (λ (d : Disk). stepUpdate (setFree d)) inside-settled l₄ l₅ (endAfter k end d₃) q₄ e₅
       ∙ ap (λ (j : ℕ). imageOf (stepUpdate (setFree (endAfter k j d₃)))) eq
       ∙ ap imageOf add-steps

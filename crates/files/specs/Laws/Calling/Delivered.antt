@@ -24,7 +24,7 @@ use Rattle.file_rules.specs.Sizes.{blockBytes, slotBytes, slotCount}
 use Rattle.file_rules.specs.Disk.{Disk, diskOf}
 use Rattle.file_rules.specs.Map.{partBlock, fileByte}
 use Rattle.file_rules.specs.Directory.{nameRight, slotByte, slotEntry, held, dirEnd, findName}
-use Rattle.file_rules.specs.Calls.{Outcome, kept, deliver, entries, dataOf, readSound}
+use Rattle.file_rules.specs.Calls.{Outcome, bufferKept, deliver, entries, dataOf, readSound}
 use Rattle.files.specs.Laws.Loading.Slots.{Located, slotPlace, slot-row}
 
 -- ---- put, one list after the other
@@ -102,7 +102,7 @@ module _ (bytes buf : List ℕ) (n : ℕ) (e : n ≡ length bytes) where
   unfolding deliver
   fits h = cond-true _ _ (le-true {a = length bytes} {b = length buf} (omega arith))
 
-  misses : length buf < n → deliver bytes buf ≡ kept buf (reply 16 (length bytes) 0 0)
+  misses : length buf < n → deliver bytes buf ≡ bufferKept buf (reply 16 (length bytes) 0 0)
   unfolding deliver
   misses h = cond-false _ _ (le-false {a = length bytes} {b = length buf} (omega arith))
 
@@ -113,11 +113,11 @@ module _ (bytes buf : List ℕ) (n : ℕ) (e : n ≡ length bytes) where
   fits-buffer h = ap (λ (o : Outcome). o .buffer) (sym (fits h))
 
   pub misses-answer : length buf < n → reply 16 n 0 0 ≡ deliver bytes buf .answer
-  unfolding kept
+  unfolding bufferKept
   misses-answer h = ap (λ (x : ℕ). reply 16 x 0 0) e ∙ ap (λ (o : Outcome). o .answer) (sym (misses h))
 
   pub misses-buffer : length buf < n → buf ≡ deliver bytes buf .buffer
-  unfolding kept
+  unfolding bufferKept
   misses-buffer h = ap (λ (o : Outcome). o .buffer) (sym (misses h))
 
 -- ---- a file's bytes
@@ -146,12 +146,12 @@ module _ (d : Disk) (k : ℕ) where
 -- ---- read of a sound disk
 
 module _ (d : Disk) (name buf : List ℕ) where
-  pub read-misnamed : nameRight name ≡ false → readSound d name buf ≡ kept buf (refusal 12)
+  pub read-misnamed : nameRight name ≡ false → readSound d name buf ≡ bufferKept buf (refusal 12)
   unfolding readSound
   read-misnamed t = cond-false _ _ t
 
   module _ (t : nameRight name ≡ true) (k : ℕ) (e : k ≡ findName d name) (end : ℕ) (q : end ≡ dirEnd d) where
-    pub read-absent : end ≤ k → readSound d name buf ≡ kept buf (refusal 14)
+    pub read-absent : end ≤ k → readSound d name buf ≡ bufferKept buf (refusal 14)
     unfolding readSound
     read-absent h = rw (t, ← e, ← q, lt-false h)
 
@@ -161,8 +161,8 @@ module _ (d : Disk) (name buf : List ℕ) where
 
 -- ---- what a call that reads gave, by its refusal or by what it is equal to
 
-pub gave-kept : (buf : List ℕ) (o : Outcome) (r q : Reply) → o ≡ kept buf q → r ≡ q → (r ≡ o .answer) × (buf ≡ o .buffer)
-unfolding kept
+pub gave-kept : (buf : List ℕ) (o : Outcome) (r q : Reply) → o ≡ bufferKept buf q → r ≡ q → (r ≡ o .answer) × (buf ≡ o .buffer)
+unfolding bufferKept
 gave-kept buf o r q e h = (h ∙ sym (ap (λ (x : Outcome). x .answer) e), sym (ap (λ (x : Outcome). x .buffer) e))
 
 pub gave-same : (o o′ : Outcome) (r : Reply) (l : List ℕ) → o ≡ o′ → (r ≡ o′ .answer) × (l ≡ o′ .buffer) → (r ≡ o .answer) × (l ≡ o .buffer)

@@ -15,28 +15,28 @@ use Rattle.laws.specs.Laws.Cases.{by-order, by-equal}
 use Rattle.laws.specs.Laws.Tests.{le-false, eq-true, eq-false, cond-true, cond-false}
 use Rattle.laws.specs.Laws.Changes.{upd₂-same, upd₂-other, patch-in, patch-below}
 use Rattle.laws.specs.Laws.Overlay.{overlay-length, overlay-in, overlay-before, overlay-after, overlay-is, overlay-all}
-use Rattle.sector_rules.specs.Geometry.{tracks, sectors, blockSectors, turn, trackSectors, allSectors, blocks, imageBytes, sidePlace, backward}
+use Rattle.sector_rules.specs.Geometry.{tracks, sectors, blockSectors, trackOffset, trackSectors, allSectors, blocks, imageBytes, sidePlace, backward}
 use Rattle.sector_rules.specs.Replies.{refusal}
 use Rattle.file_rules.specs.declared.Record.{Record}
 use Rattle.file_rules.specs.declared.Record.the-variants.{Free, System, File}
 use Rattle.file_rules.specs.Arguments.{FormatArguments}
-use Rattle.file_rules.specs.Calls.{freshOwner, freshHeader, formatDisk, imageRight, unwritten, wrongLength, format}
-use Rattle.file_rules.specs.Check.{signature}
+use Rattle.file_rules.specs.Calls.{freshOwner, freshHeader, formatDisk, imageRight, imageKept, wrongLength, format}
+use Rattle.file_rules.specs.Check.{diskSignature}
 use Rattle.file_rules.specs.Disk.{Disk, diskOf, imageOf}
 use Rattle.file_rules.specs.Laws.Base.Disk.{image-cong, image-disk}
-use Rattle.files.specs.Laws.Writing.Given.{near-set}
-use Rattle.files.specs.Laws.Writing.Steps.{Packs, overlay-tab, put-row, near-patched}
-use Rattle.files.specs.Laws.Writing.Stored.{Near, near-step, patched, patched-row}
+use Rattle.files.specs.Laws.Writing.Given.{inside-set}
+use Rattle.files.specs.Laws.Writing.Steps.{FitsRecord, overlay-tab, put-row, inside-patched}
+use Rattle.files.specs.Laws.Writing.Stored.{EqualInside, inside-step, patched, patched-row}
 use Rattle.file_rules.specs.Laws.Base.Whole.{with-is}
 use Rattle.file_rules.specs.Map.{encode}
 use Rattle.file_rules.specs.Sizes.{slotBytes, mapStart, recordBytes, titleMost, freeSectors}
-use Rattle.file_rules.specs.Written.{fixedByte, headerByte, diskWith, setRecord}
+use Rattle.file_rules.specs.Written.{fixedByte, diskHeaderByte, diskWith, setRecord}
 
 -- ---- the header, field by field
 
 -- signature, name padded with spaces, number
 unfoldable pub titled : List ℕ → FormatArguments → List ℕ
-titled h args = overlay (overlay (put h 0 signature) 4 titleMost (λ (i : ℕ). getD (args .title) i 32)) 14 2 (highByte 2 (args .number))
+titled h args = overlay (overlay (put h 0 diskSignature) 4 titleMost (λ (i : ℕ). getD (args .title) i 32)) 14 2 (highByte 2 (args .number))
 
 -- the sizes of the disk kind and its turn
 unfoldable pub sized : List ℕ → List ℕ
@@ -48,7 +48,7 @@ sized h =
     28 2 (highByte 2 trackSectors))
     30 2 (highByte 2 tracks))
     32 2 (highByte 2 blockSectors))
-    38 2 (highByte 2 turn)
+    38 2 (highByte 2 trackOffset)
 
 -- the two tables; no update yet, free sectors, and a directory of one slot
 unfoldable pub started : List ℕ → List ℕ
@@ -62,9 +62,9 @@ started h =
 -- a header whole
 pub header-row : (h₀ h₁ h₂ h₃ : List ℕ) (args : FormatArguments) → h₀ ≡ tab (λ (i : ℕ). 0xFF) mapStart
     → h₁ ≡ titled h₀ args → h₂ ≡ sized h₁ → h₃ ≡ started h₂ → h₃ ≡ tab (freshHeader args) mapStart
-unfolding headerByte fixedByte titled sized started signature sidePlace backward
+unfolding diskHeaderByte fixedByte titled sized started diskSignature sidePlace backward
 header-row h₀ h₁ h₂ h₃ args e₀ e₁ e₂ e₃ =
-    let a₁ = put-row h₀ 0 signature 4 refl ∙ overlay-tab _ mapStart 0 4 _ _ e₀ in
+    let a₁ = put-row h₀ 0 diskSignature 4 refl ∙ overlay-tab _ mapStart 0 4 _ _ e₀ in
     let a₂ = overlay-tab _ mapStart 4 titleMost (λ (i : ℕ). getD (args .title) i 32) _ a₁ in
     let a₃ = e₁ ∙ overlay-tab _ mapStart 14 2 (highByte 2 (args .number)) _ a₂ in
     let b₁ = overlay-tab _ mapStart 22 2 (highByte 2 allSectors) _ a₃ in
@@ -73,7 +73,7 @@ header-row h₀ h₁ h₂ h₃ args e₀ e₁ e₂ e₃ =
     let b₄ = overlay-tab _ mapStart 28 2 (highByte 2 trackSectors) _ b₃ in
     let b₅ = overlay-tab _ mapStart 30 2 (highByte 2 tracks) _ b₄ in
     let b₆ = overlay-tab _ mapStart 32 2 (highByte 2 blockSectors) _ b₅ in
-    let b₇ = e₂ ∙ overlay-tab _ mapStart 38 2 (highByte 2 turn) _ b₆ in
+    let b₇ = e₂ ∙ overlay-tab _ mapStart 38 2 (highByte 2 trackOffset) _ b₆ in
     let c₁ = put-row h₂ 40 sidePlace trackSectors refl ∙ overlay-tab _ mapStart 40 trackSectors (λ (i : ℕ). getD sidePlace i 0) _ b₇ in
     let c₂ = put-row (put h₂ 40 sidePlace) 58 backward trackSectors refl ∙ overlay-tab _ mapStart 58 trackSectors (λ (i : ℕ). getD backward i 0) _ c₁ in
     let c₃ = overlay-tab _ mapStart 16 4 (highByte 4 0) _ c₂ in
@@ -119,7 +119,7 @@ module _ (h title : List ℕ) (short : length title ≤ titleMost) where
       (λ k l. overlay-after spaces 4 n g k (omega arith) ∙ overlay-after h 4 titleMost (λ (i : ℕ). 32) k l)
 
 pub titled-is : (h : List ℕ) (args : FormatArguments) (h₁ h₂ h₃ h₄ : List ℕ) → length (args .title) ≤ titleMost
-    → h₁ ≡ put h 0 signature → h₂ ≡ overlay h₁ 4 titleMost (λ (i : ℕ). 32) → h₃ ≡ put h₂ 4 (args .title) → h₄ ≡ overlay h₃ 14 2 (highByte 2 (args .number))
+    → h₁ ≡ put h 0 diskSignature → h₂ ≡ overlay h₁ 4 titleMost (λ (i : ℕ). 32) → h₃ ≡ put h₂ 4 (args .title) → h₄ ≡ overlay h₃ 14 2 (highByte 2 (args .number))
     → h₄ ≡ titled h args
 unfolding titled
 titled-is h args h₁ h₂ h₃ h₄ short e₁ e₂ e₃ e₄ =
@@ -134,11 +134,11 @@ pub sized-is : (h h₁ h₂ h₃ h₄ h₅ h₆ h₇ : List ℕ)
     → h₄ ≡ overlay h₃ 28 2 (highByte 2 trackSectors)
     → h₅ ≡ overlay h₄ 30 2 (highByte 2 tracks)
     → h₆ ≡ overlay h₅ 32 2 (highByte 2 blockSectors)
-    → h₇ ≡ overlay h₆ 38 2 (highByte 2 turn)
+    → h₇ ≡ overlay h₆ 38 2 (highByte 2 trackOffset)
     → h₇ ≡ sized h
 unfolding sized
 sized-is h h₁ h₂ h₃ h₄ h₅ h₆ h₇ e₁ e₂ e₃ e₄ e₅ e₆ e₇ =
-    e₇ ∙ ap (λ (l : List ℕ). overlay l 38 2 (highByte 2 turn)) (e₆ ∙ ap (λ (l : List ℕ). overlay l 32 2 (highByte 2 blockSectors)) (e₅ ∙ ap (λ (l : List ℕ). overlay l 30 2 (highByte 2 tracks)) (e₄ ∙ ap (λ (l : List ℕ). overlay l 28 2 (highByte 2 trackSectors)) (e₃ ∙ ap (λ (l : List ℕ). overlay l 26 2 (highByte 2 sectors)) (e₂ ∙ ap (λ (l : List ℕ). overlay l 24 2 (highByte 2 allSectors)) (e₁))))))
+    e₇ ∙ ap (λ (l : List ℕ). overlay l 38 2 (highByte 2 trackOffset)) (e₆ ∙ ap (λ (l : List ℕ). overlay l 32 2 (highByte 2 blockSectors)) (e₅ ∙ ap (λ (l : List ℕ). overlay l 30 2 (highByte 2 tracks)) (e₄ ∙ ap (λ (l : List ℕ). overlay l 28 2 (highByte 2 trackSectors)) (e₃ ∙ ap (λ (l : List ℕ). overlay l 26 2 (highByte 2 sectors)) (e₂ ∙ ap (λ (l : List ℕ). overlay l 24 2 (highByte 2 allSectors)) (e₁))))))
 
 pub started-is : (h h₁ h₂ h₃ h₄ h₅ h₆ : List ℕ)
     → h₁ ≡ put h 40 sidePlace
@@ -154,55 +154,55 @@ started-is h h₁ h₂ h₃ h₄ h₅ h₆ e₁ e₂ e₃ e₄ e₅ e₆ =
 
 -- ---- the map, record by record
 
-unfoldable pub mapped : Disk → (ℕ → Record) → ℕ → Disk
-mapped d owner zero = d
-mapped d owner (suc n) = setRecord (mapped d owner n) n (owner n)
+unfoldable pub withRecords : Disk → (ℕ → Record) → ℕ → Disk
+withRecords d owner zero = d
+withRecords d owner (suc n) = setRecord (withRecords d owner n) n (owner n)
 
-pub near-mapped : (d e : Disk) → Near d e → (owner : ℕ → Record) (n : ℕ) → Near (mapped d owner n) (mapped e owner n)
-unfolding mapped
-near-mapped d e near owner zero = near
-near-mapped d e near owner (suc n) = near-set (mapped d owner n) (mapped e owner n) (near-mapped d e near owner n) n (owner n)
+pub inside-mapped : (d e : Disk) → EqualInside d e → (owner : ℕ → Record) (n : ℕ) → EqualInside (withRecords d owner n) (withRecords e owner n)
+unfolding withRecords
+inside-mapped d e near owner zero = near
+inside-mapped d e near owner (suc n) = inside-set (withRecords d owner n) (withRecords e owner n) (inside-mapped d e near owner n) n (owner n)
 
-pub mapped-none : (l : List ℕ) (owner : ℕ → Record) → length l ≡ imageBytes → l ≡ imageOf (mapped (diskOf l) owner 0)
-unfolding mapped
-mapped-none l owner e = sym (image-disk l e)
+pub records-none : (l : List ℕ) (owner : ℕ → Record) → length l ≡ imageBytes → l ≡ imageOf (withRecords (diskOf l) owner 0)
+unfolding withRecords
+records-none l owner e = sym (image-disk l e)
 
-pub mapped-more : (d : Disk) (owner : ℕ → Record) (n : ℕ) (l m : List ℕ) (r : Record)
-    → l ≡ imageOf (mapped d owner n) → m ≡ imageOf (setRecord (diskOf l) n r) → r ≡ owner n → m ≡ imageOf (mapped d owner (n + 1))
-unfolding mapped
-mapped-more d owner n l m r e q w =
-    near-step (λ (x : Disk). setRecord x n r) (λ x y z. near-set x y z n r) l m (mapped d owner n) e q
-    ∙ ap (λ (x : Record). imageOf (setRecord (mapped d owner n) n x)) w
-    ∙ ap (λ (k : ℕ). imageOf (mapped d owner k)) (sym (add-one n))
+pub records-more : (d : Disk) (owner : ℕ → Record) (n : ℕ) (l m : List ℕ) (r : Record)
+    → l ≡ imageOf (withRecords d owner n) → m ≡ imageOf (setRecord (diskOf l) n r) → r ≡ owner n → m ≡ imageOf (withRecords d owner (n + 1))
+unfolding withRecords
+records-more d owner n l m r e q w =
+    inside-step (λ (x : Disk). setRecord x n r) (λ x y z. inside-set x y z n r) l m (withRecords d owner n) e q
+    ∙ ap (λ (x : Record). imageOf (setRecord (withRecords d owner n) n x)) w
+    ∙ ap (λ (k : ℕ). imageOf (withRecords d owner k)) (sym (add-one n))
 
 module _ (d : Disk) (owner : ℕ → Record) where
-  mapped-other : (n b o : ℕ) → b ≢ 0 → mapped d owner n b o ≡ d b o
-  unfolding mapped setRecord
-  mapped-other zero b o z = refl
-  mapped-other (suc n) b o z =
-      upd₂-other (mapped d owner n) 0 (patch (mapped d owner n 0) (mapStart + recordBytes * n) recordBytes (encode (owner n))) b o z ∙ mapped-other n b o z
+  records-other : (n b o : ℕ) → b ≢ 0 → withRecords d owner n b o ≡ d b o
+  unfolding withRecords setRecord
+  records-other zero b o z = refl
+  records-other (suc n) b o z =
+      upd₂-other (withRecords d owner n) 0 (patch (withRecords d owner n 0) (mapStart + recordBytes * n) recordBytes (encode (owner n))) b o z ∙ records-other n b o z
 
-  mapped-head : (n o : ℕ) → o < mapStart → mapped d owner n 0 o ≡ d 0 o
-  unfolding mapped setRecord
-  mapped-head zero o h = refl
-  mapped-head (suc n) o h =
-      upd₂-same (mapped d owner n) 0 (patch (mapped d owner n 0) (mapStart + recordBytes * n) recordBytes (encode (owner n))) 0 o refl
-      ∙ patch-below (mapped d owner n 0) (mapStart + recordBytes * n) recordBytes (encode (owner n)) o (omega arith)
-      ∙ mapped-head n o h
+  records-head : (n o : ℕ) → o < mapStart → withRecords d owner n 0 o ≡ d 0 o
+  unfolding withRecords setRecord
+  records-head zero o h = refl
+  records-head (suc n) o h =
+      upd₂-same (withRecords d owner n) 0 (patch (withRecords d owner n 0) (mapStart + recordBytes * n) recordBytes (encode (owner n))) 0 o refl
+      ∙ patch-below (withRecords d owner n 0) (mapStart + recordBytes * n) recordBytes (encode (owner n)) o (omega arith)
+      ∙ records-head n o h
 
-  mapped-at : (n b i : ℕ) → b < n → i < 3 → mapped d owner n 0 (mapStart + recordBytes * b + i) ≡ encode (owner b) i
-  unfolding mapped setRecord
-  mapped-at zero b i h k = absurd (not-suc-le-zero h)
-  mapped-at (suc n) b i h k =
-      upd₂-same (mapped d owner n) 0 (patch (mapped d owner n 0) (mapStart + recordBytes * n) recordBytes (encode (owner n))) 0 (mapStart + recordBytes * b + i) refl
+  records-at : (n b i : ℕ) → b < n → i < 3 → withRecords d owner n 0 (mapStart + recordBytes * b + i) ≡ encode (owner b) i
+  unfolding withRecords setRecord
+  records-at zero b i h k = absurd (not-suc-le-zero h)
+  records-at (suc n) b i h k =
+      upd₂-same (withRecords d owner n) 0 (patch (withRecords d owner n 0) (mapStart + recordBytes * n) recordBytes (encode (owner n))) 0 (mapStart + recordBytes * b + i) refl
       ∙ by-equal b n
       (λ e.
       let q : mapStart + recordBytes * b + i - (mapStart + recordBytes * n) ≡ i = omega arith in
-      patch-in (mapped d owner n 0) (mapStart + recordBytes * n) recordBytes (encode (owner n)) (mapStart + recordBytes * b + i) (omega arith) (omega arith)
+      patch-in (withRecords d owner n 0) (mapStart + recordBytes * n) recordBytes (encode (owner n)) (mapStart + recordBytes * b + i) (omega arith) (omega arith)
       ∙ ap₂ (λ (x j : ℕ). encode (owner x) j) (sym e) q)
       (λ e.
-      patch-below (mapped d owner n 0) (mapStart + recordBytes * n) recordBytes (encode (owner n)) (mapStart + recordBytes * b + i) (omega arith)
-      ∙ mapped-at n b i (omega arith) k)
+      patch-below (withRecords d owner n 0) (mapStart + recordBytes * n) recordBytes (encode (owner n)) (mapStart + recordBytes * b + i) (omega arith)
+      ∙ records-at n b i (omega arith) k)
 
 pub fresh-zero : (b : ℕ) → b ≡ 0 → System ≡ freshOwner b
 unfolding freshOwner
@@ -218,11 +218,11 @@ fresh-free zero p q = absurd (p refl)
 fresh-free (suc zero) p q = absurd (q refl)
 fresh-free (suc (suc b)) p q = refl
 
-pub fresh-packs : (b : ℕ) → Packs (freshOwner b)
+pub fresh-fits : (b : ℕ) → FitsRecord (freshOwner b)
 unfolding freshOwner
-fresh-packs zero = tt
-fresh-packs (suc zero) = (omega arith, omega arith)
-fresh-packs (suc (suc b)) = tt
+fresh-fits zero = tt
+fresh-fits (suc zero) = (omega arith, omega arith)
+fresh-fits (suc (suc b)) = tt
 
 -- ---- the whole disk
 
@@ -240,50 +240,50 @@ module _ (args : FormatArguments) where
   abbrev headed : Disk
   headed = patched nothing 0 0 mapStart H
 
-  fresh-near : Near (mapped headed freshOwner blocks) (formatDisk args)
+  fresh-inside : EqualInside (withRecords headed freshOwner blocks) (formatDisk args)
   unfolding formatDisk
-  fresh-near b o hb ho =
+  fresh-inside b o hb ho =
       let whole = with-is H freshOwner (λ (r : Record) (o : ℕ). 0) in
       by-equal b 0
-      (λ z. subst (λ (x : ℕ). mapped headed freshOwner blocks x o ≡ diskWith H freshOwner (λ (r : Record) (o : ℕ). 0) x o) (sym z)
+      (λ z. subst (λ (x : ℕ). withRecords headed freshOwner blocks x o ≡ diskWith H freshOwner (λ (r : Record) (o : ℕ). 0) x o) (sym z)
       (by-order o mapStart
       (λ h.
       let k : o - 0 ≡ o = omega arith in
-      mapped-head headed freshOwner blocks o h
+      records-head headed freshOwner blocks o h
       ∙ upd₂-same nothing 0 (patch (nothing 0) 0 mapStart H) 0 o refl
       ∙ patch-in (nothing 0) 0 mapStart H o (omega arith) (omega arith)
       ∙ ap H k
       ∙ sym (whole .head o h))
       (λ h.
       let e : mapStart + recordBytes * ((o - mapStart) / 3) + (o - mapStart) % 3 ≡ o = omega arith in
-      subst (λ (x : ℕ). mapped headed freshOwner blocks 0 x ≡ diskWith H freshOwner (λ (r : Record) (o : ℕ). 0) 0 x) e
-      (mapped-at headed freshOwner blocks ((o - mapStart) / 3) ((o - mapStart) % 3) (omega arith) (omega arith)
+      subst (λ (x : ℕ). withRecords headed freshOwner blocks 0 x ≡ diskWith H freshOwner (λ (r : Record) (o : ℕ). 0) 0 x) e
+      (records-at headed freshOwner blocks ((o - mapStart) / 3) ((o - mapStart) % 3) (omega arith) (omega arith)
       ∙ sym (whole .map ((o - mapStart) / 3) ((o - mapStart) % 3) (omega arith) (omega arith))))))
       (λ z.
-      mapped-other headed freshOwner blocks b o z
+      records-other headed freshOwner blocks b o z
       ∙ upd₂-other nothing 0 (patch (nothing 0) 0 mapStart H) b o z
       ∙ sym (whole .block b o (omega arith) hb ho))
 
   pub fresh-written : (l₀ l₁ l₂ l₃ h : List ℕ) → length l₀ ≡ imageBytes → l₁ ≡ overlay l₀ 0 imageBytes (λ (i : ℕ). 0)
       → h ≡ tab H mapStart
       → l₂ ≡ imageOf (patched (diskOf l₁) 0 0 (length h) (λ (i : ℕ). getD h i 0))
-      → l₃ ≡ imageOf (mapped (diskOf l₂) freshOwner blocks)
+      → l₃ ≡ imageOf (withRecords (diskOf l₂) freshOwner blocks)
       → l₃ ≡ imageOf (formatDisk args)
   fresh-written l₀ l₁ l₂ l₃ h e e₁ eh e₂ e₃ =
       let q₁ : l₁ ≡ imageOf nothing = e₁ ∙ overlay-all l₀ imageBytes (λ (i : ℕ). 0) e ∙ zero-image in
       let q₂ : l₂ ≡ imageOf headed =
-      near-step (λ (d : Disk). patched d 0 0 mapStart H) (λ d x n. near-patched d x n 0 0 mapStart H) l₁ l₂ nothing q₁
+      inside-step (λ (d : Disk). patched d 0 0 mapStart H) (λ d x n. inside-patched d x n 0 0 mapStart H) l₁ l₂ nothing q₁
       (e₂ ∙ patched-row (diskOf l₁) 0 0 h mapStart H eh) in
-      near-step (λ (d : Disk). mapped d freshOwner blocks) (λ d x n. near-mapped d x n freshOwner blocks) l₂ l₃ headed q₂ e₃
-      ∙ image-cong (mapped headed freshOwner blocks) (formatDisk args) fresh-near
+      inside-step (λ (d : Disk). withRecords d freshOwner blocks) (λ d x n. inside-mapped d x n freshOwner blocks) l₂ l₃ headed q₂ e₃
+      ∙ image-cong (withRecords headed freshOwner blocks) (formatDisk args) fresh-inside
 
 -- ---- the call
 
 module _ (image : List ℕ) (args : FormatArguments) where
-  pub format-length : length image ≢ imageBytes → format image args ≡ unwritten image wrongLength
+  pub format-length : length image ≢ imageBytes → format image args ≡ imageKept image wrongLength
   unfolding format imageRight
   format-length h = cond-false _ _ (eq-false h)
 
-  pub format-name : length image ≡ imageBytes → titleMost < length (args .title) → format image args ≡ unwritten image (refusal 12)
+  pub format-name : length image ≡ imageBytes → titleMost < length (args .title) → format image args ≡ imageKept image (refusal 12)
   unfolding format imageRight
   format-name e h = cond-true _ _ (eq-true e) ∙ cond-false _ _ (le-false h)

@@ -8,7 +8,7 @@ use Prim.Native.Nat.{ℕ, _≤_}
 use native.Mathlib.Omega.{arith}
 use borrow.Author.Tests.{not-false}
 use Rattle.laws.specs.Below.{all}
-use Rattle.laws.specs.Numbers.{up}
+use Rattle.laws.specs.Numbers.{quotientUp}
 use Rattle.laws.specs.Options.{orElse}
 use Rattle.laws.specs.Laws.Cases.{by-order}
 use Rattle.laws.specs.Laws.Tests.{lt-true, true≢false, cond-true, and-right}
@@ -24,7 +24,7 @@ use Rattle.file_rules.specs.declared.Record.the-variants.{Free, System, File, O
 use Rattle.file_rules.specs.Map.{recordAt, isSystem, within}
 use Rattle.file_rules.specs.Directory.{dirBytes, dirEnd}
 use Rattle.files.specs.Laws.Loading.Parts.{once-most}
-use Rattle.file_rules.specs.Check.{recordFault, mapFault, partsRight, fileRight, fileFault, refusal8, refusal9, refusal10, refusal11, judged}
+use Rattle.file_rules.specs.Check.{recordFault, mapFault, partsRight, fileRight, fileFault, refusal8, refusal9, refusal10, refusal11, diskRefusal}
 
 parts-most : (d : Disk) (f n : ℕ) → partsRight d f n ≡ true → n ≤ blocks
 unfolding partsRight
@@ -55,8 +55,8 @@ dir-right : (d : Disk) → slotCount ≤ fileFault d → partsRight d 0 (blocksO
 unfolding fileFault fileRight
 dir-right d h = not-false (fileRight d 0) (lowest-all (λ (f : ℕ). not (fileRight d f)) slotCount h 0 (omega arith))
 
-pub end-within : (d : Disk) → judged d ≡ none → dirEnd d ≤ slotCount
-unfolding judged dirEnd up
+pub end-within : (d : Disk) → diskRefusal d ≡ none → dirEnd d ≤ slotCount
+unfolding diskRefusal dirEnd quotientUp
 end-within d e =
     let a : orElse (refusal9 d) (orElse (refusal10 d) (refusal11 d)) ≡ none = or-none-right (refusal8 d) _ e in
     let b : orElse (refusal10 d) (refusal11 d) ≡ none = or-none-right (refusal9 d) _ a in
@@ -71,8 +71,8 @@ system-only System e = refl
 system-only (File f s) e = true≢false true refl e
 system-only Other e = true≢false true refl e
 
-pub first-system : (d : Disk) → judged d ≡ none → recordAt d 0 ≡ System
-unfolding judged refusal9 faultBelow mapFault
+pub first-system : (d : Disk) → diskRefusal d ≡ none → recordAt d 0 ≡ System
+unfolding diskRefusal refusal9 faultBelow mapFault
 first-system d e =
     let a : orElse (refusal9 d) (orElse (refusal10 d) (refusal11 d)) ≡ none = or-none-right (refusal8 d) _ e in
     let b : refusal9 d ≡ none = or-none-left (refusal9 d) (orElse (refusal10 d) (refusal11 d)) a in

@@ -29,53 +29,53 @@ use Rattle.file_rules.specs.Sizes.{slotBytes, slotCount, nameMost, blocksOf, fr
 use Rattle.file_rules.specs.Disk.{Disk, diskOf}
 use Rattle.file_rules.specs.Map.{freeCount, recordAt, bears, isPart, within}
 use Rattle.file_rules.specs.Directory.{nameEq, nameOf, entryOf, slotEntry, slotName, held, dirBytes, dirEnd}
-use Rattle.file_rules.specs.Check.{recordFault, partsRight, unborne, newName, entryRight, fileRight, fileFault, freeRight, refusal8, refusal9, refusal10, refusal11, judged}
-use Rattle.files.specs.Laws.Loading.Loaded.{recordIn, Mapped, record-mapped, fault-mapped}
-use Rattle.files.specs.Laws.Loading.Chains.{Chained, unborneIn}
+use Rattle.file_rules.specs.Check.{recordFault, partsRight, noRecordBears, newName, entryRight, fileRight, fileFault, freeRight, refusal8, refusal9, refusal10, refusal11, diskRefusal}
+use Rattle.files.specs.Laws.Loading.Loaded.{loadedRecord, MapLoaded, record-loaded, fault-loaded}
+use Rattle.files.specs.Laws.Loading.Chains.{Chained, noRecordBearsIn}
 use Rattle.files.specs.Laws.Loading.Slots.{Located}
-use Rattle.files.specs.Laws.Loading.Marks.{Named}
+use Rattle.files.specs.Laws.Loading.NameHashes.{NamesTallied}
 use Rattle.files.specs.Laws.Loading.Parts.{partsIn}
 use Rattle.files.specs.Laws.Loading.Loops.{all-cong}
 use Rattle.files.specs.Laws.Judging.Verdict.{verdictOf, verdict-or-some, verdict-or-none}
 
 -- ---- a file's parts
 
-module _ (map : List ℕ) (d : Disk) (m : Mapped map d) where
-  pub parts-mapped : (f n : ℕ) → partsIn map f n ≡ partsRight d f n
+module _ (map : List ℕ) (d : Disk) (m : MapLoaded map d) where
+  pub parts-loaded : (f n : ℕ) → partsIn map f n ≡ partsRight d f n
   unfolding partsIn partsRight
-  parts-mapped f n =
+  parts-loaded f n =
       ap₂ (λ (x y : Bool). x && y)
-      (all-cong (λ (b : ℕ). within f n (recordIn map b)) (λ (b : ℕ). within f n (recordAt d b)) blocks (λ b h. ap (within f n) (record-mapped map d m b h)))
+      (all-cong (λ (b : ℕ). within f n (loadedRecord map b)) (λ (b : ℕ). within f n (recordAt d b)) blocks (λ b h. ap (within f n) (record-loaded map d m b h)))
       (all-cong
-      (λ (s : ℕ). eqb (count blocks (λ (b : ℕ). isPart f s (recordIn map b))) 1)
+      (λ (s : ℕ). eqb (count blocks (λ (b : ℕ). isPart f s (loadedRecord map b))) 1)
       (λ (s : ℕ). eqb (count blocks (λ (b : ℕ). isPart f s (recordAt d b))) 1)
       n
       (λ s l. ap (λ (c : ℕ). eqb c 1)
-      (count-cong blocks (λ (b : ℕ). isPart f s (recordIn map b)) (λ (b : ℕ). isPart f s (recordAt d b)) (λ b h. ap (isPart f s) (record-mapped map d m b h)))))
+      (count-cong blocks (λ (b : ℕ). isPart f s (loadedRecord map b)) (λ (b : ℕ). isPart f s (recordAt d b)) (λ b h. ap (isPart f s) (record-loaded map d m b h)))))
 
-  pub unborne-mapped : (f : ℕ) → unborneIn map f ≡ unborne d f
-  unfolding unborneIn unborne
-  unborne-mapped f =
-      all-cong (λ (b : ℕ). not (bears f (recordIn map b))) (λ (b : ℕ). not (bears f (recordAt d b))) blocks
-      (λ b h. ap (λ (r : Record). not (bears f r)) (record-mapped map d m b h))
+  pub no-record-mapped : (f : ℕ) → noRecordBearsIn map f ≡ noRecordBears d f
+  unfolding noRecordBearsIn noRecordBears
+  no-record-mapped f =
+      all-cong (λ (b : ℕ). not (bears f (loadedRecord map b))) (λ (b : ℕ). not (bears f (recordAt d b))) blocks
+      (λ b h. ap (λ (r : Record). not (bears f r)) (record-loaded map d m b h))
 
 -- ---- what is read for the judgement of the files
 
 -- the image is whole, and the tables are those of its disk
 pub record Tables (image map dir first next names : List ℕ) : Type 0 where
   pub long : length image ≡ imageBytes
-  pub mapped : Mapped map (diskOf image)
-  pub located : Located dir (diskOf image)
-  pub chained : Chained first next map 0
-  pub named : Named names (diskOf image)
+  pub loadedMap : MapLoaded map (diskOf image)
+  pub loadedDirectory : Located dir (diskOf image)
+  pub loadedChains : Chained first next map 0
+  pub talliedNames : NamesTallied names (diskOf image)
 
 -- refusal 9 by a loaded map
 unfoldable pub mapRefusal : List ℕ → Option Reply
-mapRefusal map = refusalAt 9 (faultBelow blocks (lowest (λ (b : ℕ). recordFault b (recordIn map b)) blocks))
+mapRefusal map = refusalAt 9 (faultBelow blocks (lowest (λ (b : ℕ). recordFault b (loadedRecord map b)) blocks))
 
-pub refusal-mapped : (map : List ℕ) (d : Disk) → Mapped map d → mapRefusal map ≡ refusal9 d
+pub refusal-loaded : (map : List ℕ) (d : Disk) → MapLoaded map d → mapRefusal map ≡ refusal9 d
 unfolding mapRefusal refusal9
-refusal-mapped map d m = ap (λ (b : ℕ). refusalAt 9 (faultBelow blocks b)) (fault-mapped map d m)
+refusal-loaded map d m = ap (λ (b : ℕ). refusalAt 9 (faultBelow blocks b)) (fault-loaded map d m)
 
 -- ---- a held slot
 
@@ -85,22 +85,22 @@ unfolding entryOf
 name-room f = tab-length (λ (i : ℕ). f (16 + i)) nameMost
 
 pub sizes-name : (e : Entry) (f : ℕ → ℕ) → e ≡ entryOf f
-    → (leb slotBytes (e .length) && (leb 1 (e .named) && leb (e .named) nameMost)) ≡ true → e .named ≤ length (e .name)
+    → (leb slotBytes (e .length) && (leb 1 (e .namelen) && leb (e .namelen) nameMost)) ≡ true → e .namelen ≤ length (e .name)
 sizes-name e f q t =
     let n : length (e .name) ≡ nameMost = ap (λ (x : Entry). length (x .name)) q ∙ name-room f in
-    let h : e .named ≤ nameMost = true-le (and-right (leb 1 (e .named)) (leb (e .named) nameMost) (and-right (leb slotBytes (e .length)) _ t)) in
+    let h : e .namelen ≤ nameMost = true-le (and-right (leb 1 (e .namelen)) (leb (e .namelen) nameMost) (and-right (leb slotBytes (e .length)) _ t)) in
     omega arith
 
 module _ (d : Disk) (k : ℕ) (e : Entry) (q : e ≡ slotEntry d k) where
-  pub entry-name : take (e .named) (e .name) ≡ slotName d k
+  pub entry-name : take (e .namelen) (e .name) ≡ slotName d k
   unfolding slotName nameOf
-  entry-name = ap (λ (x : Entry). take (x .named) (x .name)) q
+  entry-name = ap (λ (x : Entry). take (x .namelen) (x .name)) q
 
   abbrev sizes : Bool
-  sizes = leb slotBytes (e .length) && (leb 1 (e .named) && leb (e .named) nameMost)
+  sizes = leb slotBytes (e .length) && (leb 1 (e .namelen) && leb (e .namelen) nameMost)
 
   abbrev names : Bool
-  names = all (λ (j : ℕ). not (held d j && nameEq (slotName d j) (take (e .named) (e .name)))) k
+  names = all (λ (j : ℕ). not (held d j && nameEq (slotName d j) (take (e .namelen) (e .name)))) k
 
   three : (a b c n p : Bool) → (a && (b && (c && (n && p)))) ≡ ((a && (b && c)) && (n && p))
   three true true c n p = refl
@@ -111,7 +111,7 @@ module _ (d : Disk) (k : ℕ) (e : Entry) (q : e ≡ slotEntry d k) where
   unfolding entryRight newName slotName nameOf
   entry-tests =
       rw q
-      (three (leb slotBytes (slotEntry d k .length)) (leb 1 (slotEntry d k .named)) (leb (slotEntry d k .named) nameMost) (newName d k)
+      (three (leb slotBytes (slotEntry d k .length)) (leb 1 (slotEntry d k .namelen)) (leb (slotEntry d k .namelen) nameMost) (newName d k)
       (partsRight d k (blocksOf (slotEntry d k .length))))
 
   pub entry-sizes-wrong : sizes ≡ false → false ≡ entryRight d k
@@ -133,23 +133,23 @@ module _ (d : Disk) where
   file-zero n e = ap (λ (x : ℕ). partsRight d 0 (blocksOf x)) e
 
   module _ (f : ℕ) (n : f ≢ 0) where
-    by-slot : fileRight d f ≡ cond (ltb f (dirEnd d) && held d f) (entryRight d f) (unborne d f)
+    by-slot : fileRight d f ≡ cond (ltb f (dirEnd d) && held d f) (entryRight d f) (noRecordBears d f)
     unfolding fileRight
-    by-slot = cond-false (partsRight d 0 (blocksOf (dirBytes d))) (cond (ltb f (dirEnd d) && held d f) (entryRight d f) (unborne d f)) (eq-false n)
+    by-slot = cond-false (partsRight d 0 (blocksOf (dirBytes d))) (cond (ltb f (dirEnd d) && held d f) (entryRight d f) (noRecordBears d f)) (eq-false n)
 
     pub file-listed : (ltb f (dirEnd d) && held d f) ≡ true → entryRight d f ≡ fileRight d f
-    file-listed t = sym (by-slot ∙ cond-true (entryRight d f) (unborne d f) t)
+    file-listed t = sym (by-slot ∙ cond-true (entryRight d f) (noRecordBears d f) t)
 
-    pub file-unlisted : (ltb f (dirEnd d) && held d f) ≡ false → unborne d f ≡ fileRight d f
-    file-unlisted t = sym (by-slot ∙ cond-false (entryRight d f) (unborne d f) t)
+    pub file-unlisted : (ltb f (dirEnd d) && held d f) ≡ false → noRecordBears d f ≡ fileRight d f
+    file-unlisted t = sym (by-slot ∙ cond-false (entryRight d f) (noRecordBears d f) t)
 
   pub fault-here : (f : ℕ) → f < slotCount → ((j : ℕ) → j < f → not (fileRight d j) ≡ false) → not (fileRight d f) ≡ true → f ≡ fileFault d
   unfolding fileFault
   fault-here f h l t = sym (lowest-some (λ (j : ℕ). not (fileRight d j)) slotCount f h l t)
 
-  pub fault-none : ((j : ℕ) → j < slotCount → not (fileRight d j) ≡ false) → slotCount ≡ fileFault d
+  pub file-fault-none : ((j : ℕ) → j < slotCount → not (fileRight d j) ≡ false) → slotCount ≡ fileFault d
   unfolding fileFault
-  fault-none l = sym (lowest-none (λ (j : ℕ). not (fileRight d j)) slotCount l)
+  file-fault-none l = sym (lowest-none (λ (j : ℕ). not (fileRight d j)) slotCount l)
 
 -- ---- the refusals
 
@@ -161,7 +161,7 @@ lowest-passed : (b n k : ℕ) → n ≤ b → Passed ≡ verdictOf (refusalAt k 
 unfolding verdictOf faultBelow
 lowest-passed b n k h = ap (λ (f : Fault). verdictOf (refusalAt k f)) (sym (cond-false (At b) Sound (lt-false h)))
 
-module _ (map : List ℕ) (b : ℕ) (e : b ≡ lowest (λ (j : ℕ). recordFault j (recordIn map j)) blocks) where
+module _ (map : List ℕ) (b : ℕ) (e : b ≡ lowest (λ (j : ℕ). recordFault j (loadedRecord map j)) blocks) where
   pub refused-map : b < blocks → Refused (reply 9 b 0 0) ≡ verdictOf (mapRefusal map)
   unfolding mapRefusal
   refused-map h = rw (← e) (lowest-refused b blocks 9 h)
@@ -195,20 +195,20 @@ module _ (d : Disk) (w c : ℕ) (ew : w ≡ at16 (d 0) 20) (ec : c ≡ freeCount
 -- ---- the judgements in order
 
 module _ (d : Disk) where
-  pub judged-header : (r : Reply) → Refused r ≡ verdictOf (refusal8 d) → Refused r ≡ verdictOf (judged d)
-  unfolding judged
-  judged-header r e = verdict-or-some (refusal8 d) _ r e
+  pub disk-refusal-header : (r : Reply) → Refused r ≡ verdictOf (refusal8 d) → Refused r ≡ verdictOf (diskRefusal d)
+  unfolding diskRefusal
+  disk-refusal-header r e = verdict-or-some (refusal8 d) _ r e
 
   module _ (a : Passed ≡ verdictOf (refusal8 d)) where
-    pub judged-map : (r : Reply) → Refused r ≡ verdictOf (refusal9 d) → Refused r ≡ verdictOf (judged d)
-    unfolding judged
-    judged-map r e = verdict-or-some (refusal9 d) _ r e ∙ sym (verdict-or-none (refusal8 d) _ a)
+    pub disk-refusal-map : (r : Reply) → Refused r ≡ verdictOf (refusal9 d) → Refused r ≡ verdictOf (diskRefusal d)
+    unfolding diskRefusal
+    disk-refusal-map r e = verdict-or-some (refusal9 d) _ r e ∙ sym (verdict-or-none (refusal8 d) _ a)
 
     module _ (b : Passed ≡ verdictOf (refusal9 d)) where
-      pub judged-files : (r : Reply) → Refused r ≡ verdictOf (refusal10 d) → Refused r ≡ verdictOf (judged d)
-      unfolding judged
-      judged-files r e = verdict-or-some (refusal10 d) _ r e ∙ sym (verdict-or-none (refusal9 d) _ b) ∙ sym (verdict-or-none (refusal8 d) _ a)
+      pub disk-refusal-files : (r : Reply) → Refused r ≡ verdictOf (refusal10 d) → Refused r ≡ verdictOf (diskRefusal d)
+      unfolding diskRefusal
+      disk-refusal-files r e = verdict-or-some (refusal10 d) _ r e ∙ sym (verdict-or-none (refusal9 d) _ b) ∙ sym (verdict-or-none (refusal8 d) _ a)
 
-      pub judged-free : (v : Verdict) → v ≡ verdictOf (refusal11 d) → Passed ≡ verdictOf (refusal10 d) → v ≡ verdictOf (judged d)
-      unfolding judged
-      judged-free v e c = e ∙ sym (verdict-or-none (refusal10 d) _ c) ∙ sym (verdict-or-none (refusal9 d) _ b) ∙ sym (verdict-or-none (refusal8 d) _ a)
+      pub disk-refusal-free : (v : Verdict) → v ≡ verdictOf (refusal11 d) → Passed ≡ verdictOf (refusal10 d) → v ≡ verdictOf (diskRefusal d)
+      unfolding diskRefusal
+      disk-refusal-free v e c = e ∙ sym (verdict-or-none (refusal10 d) _ c) ∙ sym (verdict-or-none (refusal9 d) _ b) ∙ sym (verdict-or-none (refusal8 d) _ a)

@@ -20,7 +20,7 @@ use Rattle.sector_rules.specs.Geometry.{blocks}
 use Rattle.file_rules.specs.declared.FirstTrack.{FirstTrack}
 use Rattle.files.specs.declared.Verdict.{Verdict}
 use Rattle.files.specs.declared.Verdict.the-variants.{Passed, Refused}
-use Rattle.file_rules.specs.Sizes.{trackBytes}
+use Rattle.file_rules.specs.Sizes.{firstTrackBytes}
 use Rattle.file_rules.specs.Disk.{Disk, diskOf}
 use Rattle.file_rules.specs.Map.{freeAt, freeCount}
 use Rattle.file_rules.specs.Check.{refusal8, refusal9, refusal11}
@@ -65,21 +65,21 @@ module _ (d : Disk) where
 -- ---- the call
 
 module _ (l : List ℕ) where
-  pub track-length : length l ≢ trackBytes → refusedTrack wrongLength ≡ firstTrack l
+  pub track-length : length l ≢ firstTrackBytes → refusedTrack wrongLength ≡ firstTrack l
   unfolding firstTrack
   track-length h = sym (cond-false (unless (judgedTrack (diskOf l)) refusedTrack (counted (diskOf l))) (refusedTrack wrongLength) (eq-false h))
 
-  module _ (long : length l ≡ trackBytes) where
-    judged-track : firstTrack l ≡ unless (judgedTrack (diskOf l)) refusedTrack (counted (diskOf l))
+  module _ (long : length l ≡ firstTrackBytes) where
+    disk-refusal-track : firstTrack l ≡ unless (judgedTrack (diskOf l)) refusedTrack (counted (diskOf l))
     unfolding firstTrack
-    judged-track = cond-true (unless (judgedTrack (diskOf l)) refusedTrack (counted (diskOf l))) (refusedTrack wrongLength) (eq-true long)
+    disk-refusal-track = cond-true (unless (judgedTrack (diskOf l)) refusedTrack (counted (diskOf l))) (refusedTrack wrongLength) (eq-true long)
 
     pub track-refused : (r : Reply) → Refused r ≡ verdictOf (judgedTrack (diskOf l)) → refusedTrack r ≡ firstTrack l
     unfolding unless
     track-refused r e =
-        sym (judged-track ∙ ap (λ (v : Option Reply). unless v refusedTrack (counted (diskOf l))) (verdict-some (judgedTrack (diskOf l)) r e))
+        sym (disk-refusal-track ∙ ap (λ (v : Option Reply). unless v refusedTrack (counted (diskOf l))) (verdict-some (judgedTrack (diskOf l)) r e))
 
     pub track-passed : Passed ≡ verdictOf (judgedTrack (diskOf l)) → counted (diskOf l) ≡ firstTrack l
     unfolding unless
     track-passed e =
-        sym (judged-track ∙ ap (λ (v : Option Reply). unless v refusedTrack (counted (diskOf l))) (verdict-none (judgedTrack (diskOf l)) e))
+        sym (disk-refusal-track ∙ ap (λ (v : Option Reply). unless v refusedTrack (counted (diskOf l))) (verdict-none (judgedTrack (diskOf l)) e))

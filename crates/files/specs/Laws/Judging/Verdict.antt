@@ -20,8 +20,8 @@ use Rattle.sector_rules.specs.Geometry.{sectorBytes, running, imageSector}
 use Rattle.sector_rules.specs.Laws.Base.Geometry.{image-first}
 use Rattle.files.specs.declared.Verdict.{Verdict}
 use Rattle.files.specs.declared.Verdict.the-variants.{Passed, Refused}
-use Rattle.file_rules.specs.Disk.{Disk, byteOf, diskOf}
-use Rattle.file_rules.specs.Check.{headerFault, refusal8}
+use Rattle.file_rules.specs.Disk.{Disk, bytePlace, diskOf}
+use Rattle.file_rules.specs.Check.{diskHeaderFault, refusal8}
 use Rattle.files.specs.Laws.Loading.Blocks.{disk-in}
 
 -- ---- a verdict
@@ -52,8 +52,8 @@ verdict-some (some x) r e = ap some (let z : x ≡ r = cc in z)
 
 -- ---- the header
 
-first-place : (o : ℕ) → o < sectorBytes → byteOf 0 o ≡ o
-unfolding byteOf
+first-place : (o : ℕ) → o < sectorBytes → bytePlace 0 o ≡ o
+unfolding bytePlace
 first-place o h =
     let e : running 0 (o / sectorBytes) ≡ 0 = omega arith in
     ap (λ (n : ℕ). imageSector n * sectorBytes + o % sectorBytes) e ∙ ap (λ (n : ℕ). n * sectorBytes + o % sectorBytes) image-first ∙ omega arith
@@ -76,10 +76,10 @@ bytes-fault f right l o xs h k e q = e ∙ ap (wrongAt o) (q ∙ bytes-stand l o
 
 -- ---- refusal 8
 
-pub refused-header : (d : Disk) (o : ℕ) → At o ≡ headerFault d → Refused (reply 8 o 0 0) ≡ verdictOf (refusal8 d)
+pub refused-header : (d : Disk) (o : ℕ) → At o ≡ diskHeaderFault d → Refused (reply 8 o 0 0) ≡ verdictOf (refusal8 d)
 unfolding refusal8 verdictOf
 refused-header d o e = ap (λ (f : Fault). verdictOf (refusalAt 8 f)) e
 
-pub passed-header : (d : Disk) → Sound ≡ headerFault d → Passed ≡ verdictOf (refusal8 d)
+pub passed-header : (d : Disk) → Sound ≡ diskHeaderFault d → Passed ≡ verdictOf (refusal8 d)
 unfolding refusal8 verdictOf
 passed-header d e = ap (λ (f : Fault). verdictOf (refusalAt 8 f)) e

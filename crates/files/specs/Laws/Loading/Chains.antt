@@ -18,9 +18,9 @@ use Rattle.sector_rules.specs.Geometry.{blocks}
 use Rattle.file_rules.specs.declared.Record.{Record}
 use Rattle.file_rules.specs.declared.Record.the-variants.{Free, System, File, Other}
 use Rattle.file_rules.specs.Map.{sequences, bears}
-use Rattle.files.specs.Laws.Loading.Loaded.{recordIn}
+use Rattle.files.specs.Laws.Loading.Loaded.{loadedRecord}
 use Rattle.files.specs.Laws.Loading.Records.{decode-none}
-use Rattle.files.specs.Laws.Loading.Parts.{partOf, part-unborne}
+use Rattle.files.specs.Laws.Loading.Parts.{partOf, part-no-record}
 use Rattle.files.specs.Laws.Loading.Tally.{Tallied, tally-skip}
 
 -- ---- the file that a record bears
@@ -60,18 +60,18 @@ bearer-far g s h =
 -- ---- the next block of a file
 
 -- b is the lowest block from k on whose record bears file f, `blocks` where there is none
-pub record Next (map : List ℕ) (f k b : ℕ) : Type 0 where
+pub record NextBlock (map : List ℕ) (f k b : ℕ) : Type 0 where
   pub most : b ≤ blocks
-  pub none-before : (j : ℕ) → k ≤ j → j < b → bears f (recordIn map j) ≡ false
+  pub none-before : (j : ℕ) → k ≤ j → j < b → bears f (loadedRecord map j) ≡ false
   pub from : b < blocks → k ≤ b
-  pub hit : b < blocks → bears f (recordIn map b) ≡ true
+  pub hit : b < blocks → bears f (loadedRecord map b) ≡ true
 
 -- the blocks from k on are chained: the first of each file, and after each block the next of its file
 pub record Chained (first next map : List ℕ) (k : ℕ) : Type 0 where
   pub files : length first ≡ suc sequences
   pub long : length next ≡ blocks
-  pub firsts : (f : ℕ) → f < sequences → Next map f k (getD first f 0)
-  pub nexts : (b : ℕ) → k ≤ b → b < blocks → (f : ℕ) → f < sequences → bears f (recordIn map b) ≡ true → Next map f (b + 1) (getD next b 0)
+  pub firsts : (f : ℕ) → f < sequences → NextBlock map f k (getD first f 0)
+  pub nexts : (b : ℕ) → k ≤ b → b < blocks → (f : ℕ) → f < sequences → bears f (loadedRecord map b) ≡ true → NextBlock map f (b + 1) (getD next b 0)
 
 pub chain-none : (n m : ℕ) → n ≡ suc sequences → m ≡ blocks → (map : List ℕ) → Chained (replicate n blocks) (replicate m blocks) map blocks
 chain-none n m en em map =
@@ -90,7 +90,7 @@ chain-none n m en em map =
     }
 
 -- block b, the one below k, is put before the chain of its file g
-module _ (first next map : List ℕ) (k j b : ℕ) (d : j ≡ b) (e : b + 1 ≡ k) (l : k ≤ blocks) (c : Chained first next map k) (g : ℕ) (w : Bearer g (recordIn map b)) where
+module _ (first next map : List ℕ) (k j b : ℕ) (d : j ≡ b) (e : b + 1 ≡ k) (l : k ≤ blocks) (c : Chained first next map k) (g : ℕ) (w : Bearer g (loadedRecord map b)) where
   pub chain-more : Chained (set first g b) (set next b (getD first g 0)) map j
   chain-more =
       record {
@@ -103,39 +103,39 @@ module _ (first next map : List ℕ) (k j b : ℕ) (d : j ≡ b) (e : b + 1 ≡ 
               most = omega arith;
               none-before = λ i p q. absurd (omega arith);
               from = λ p. omega arith;
-              hit = λ p. ap (λ (x : ℕ). bears f (recordIn map x)) here ∙ w .bears-it f h ∙ eq-true (sym z);
+              hit = λ p. ap (λ (x : ℕ). bears f (loadedRecord map x)) here ∙ w .bears-it f h ∙ eq-true (sym z);
             })
             (λ z.
             let there : getD (set first g b) f 0 ≡ getD first f 0 = getD-set-other first g f b 0 z in
-            let old : Next map f k (getD first f 0) = c .firsts f h in
+            let old : NextBlock map f k (getD first f 0) = c .firsts f h in
             record {
               most = omega (arith, old .most);
               none-before = λ i p q. by-equal i b
-                  (λ y. ap (λ (x : ℕ). bears f (recordIn map x)) y ∙ w .bears-it f h ∙ eq-false (λ x. z (sym x)))
+                  (λ y. ap (λ (x : ℕ). bears f (loadedRecord map x)) y ∙ w .bears-it f h ∙ eq-false (λ x. z (sym x)))
                   (λ y. old .none-before i (omega arith) (omega arith));
               from = λ p. omega (arith, old .from (omega arith));
-              hit = λ p. ap (λ (x : ℕ). bears f (recordIn map x)) there ∙ old .hit (omega arith);
+              hit = λ p. ap (λ (x : ℕ). bears f (loadedRecord map x)) there ∙ old .hit (omega arith);
             });
         nexts = λ i p q f h t. by-equal i b
             (λ z.
-            let same : g ≡ f = true-eq (sym (w .bears-it f h) ∙ ap (λ (x : ℕ). bears f (recordIn map x)) (sym z) ∙ t) in
+            let same : g ≡ f = true-eq (sym (w .bears-it f h) ∙ ap (λ (x : ℕ). bears f (loadedRecord map x)) (sym z) ∙ t) in
             let here : getD (set next b (getD first g 0)) i 0 ≡ getD first f 0 =
             ap (λ (x : ℕ). getD (set next b (getD first g 0)) x 0) z ∙ getD-set-same next b (getD first g 0) 0 (omega (arith, c .long)) ∙ ap (λ (x : ℕ). getD first x 0) same in
-            let old : Next map f k (getD first f 0) = c .firsts f h in
+            let old : NextBlock map f k (getD first f 0) = c .firsts f h in
             record {
               most = omega (arith, old .most);
               none-before = λ y p q. old .none-before y (omega arith) (omega arith);
               from = λ p. omega (arith, old .from (omega arith));
-              hit = λ p. ap (λ (x : ℕ). bears f (recordIn map x)) here ∙ old .hit (omega arith);
+              hit = λ p. ap (λ (x : ℕ). bears f (loadedRecord map x)) here ∙ old .hit (omega arith);
             })
             (λ z.
             let there : getD (set next b (getD first g 0)) i 0 ≡ getD next i 0 = getD-set-other next b i (getD first g 0) 0 z in
-            let old : Next map f (i + 1) (getD next i 0) = c .nexts i (omega arith) q f h t in
+            let old : NextBlock map f (i + 1) (getD next i 0) = c .nexts i (omega arith) q f h t in
             record {
               most = omega (arith, old .most);
               none-before = λ y p q. old .none-before y (omega arith) (omega arith);
               from = λ p. omega (arith, old .from (omega arith));
-              hit = λ p. ap (λ (x : ℕ). bears f (recordIn map x)) there ∙ old .hit (omega arith);
+              hit = λ p. ap (λ (x : ℕ). bears f (loadedRecord map x)) there ∙ old .hit (omega arith);
             });
       }
 
@@ -145,16 +145,16 @@ unfoldable pub firstOf : List ℕ → ℕ → ℕ
 firstOf first f = cond (ltb f sequences) (getD first f 0) blocks
 
 -- no record bears file f
-unfoldable pub unborneIn : List ℕ → ℕ → Bool
-unborneIn map f = all (λ (b : ℕ). not (bears f (recordIn map b))) blocks
+unfoldable pub noRecordBearsIn : List ℕ → ℕ → Bool
+noRecordBearsIn map f = all (λ (b : ℕ). not (bears f (loadedRecord map b))) blocks
 
 -- no number says a file from `sequences` on
-far-file : (map : List ℕ) (f b : ℕ) → sequences ≤ f → bears f (recordIn map b) ≡ false
-unfolding recordIn bears
+far-file : (map : List ℕ) (f b : ℕ) → sequences ≤ f → bears f (loadedRecord map b) ≡ false
+unfolding loadedRecord bears
 far-file map f b h = decode-none (getD map b 0) (bears f) refl refl refl (λ g s q. eq-false {a = g} {b = f} (λ e. omega arith))
 
 module _ (first next map : List ℕ) (f : ℕ) (c : Chained first next map 0) where
-  pub first-next : Next map f 0 (firstOf first f)
+  pub first-next : NextBlock map f 0 (firstOf first f)
   unfolding firstOf
   first-next =
       by-order f sequences
@@ -173,11 +173,11 @@ module _ (first next map : List ℕ) (f : ℕ) (c : Chained first next map 0) wh
   unfolding firstOf
   first-file q = by-order f sequences (λ h. h) (λ h. absurd (omega (arith, cond-false (getD first f 0) blocks (lt-false h))))
 
-  pub first-none : eqb (firstOf first f) blocks ≡ unborneIn map f
-  unfolding unborneIn
-  first-none =
-      let n : Next map f 0 (firstOf first f) = first-next in
-      let p : ℕ → Bool = λ (b : ℕ). not (bears f (recordIn map b)) in
+  pub chain-empty : eqb (firstOf first f) blocks ≡ noRecordBearsIn map f
+  unfolding noRecordBearsIn
+  chain-empty =
+      let n : NextBlock map f 0 (firstOf first f) = first-next in
+      let p : ℕ → Bool = λ (b : ℕ). not (bears f (loadedRecord map b)) in
       by-order (firstOf first f) blocks
       (λ h. eq-false {a = firstOf first f} {b = blocks} (λ z. omega arith) ∙ sym (all-false p blocks (firstOf first f) h (ap not (n .hit h))))
       (λ h. eq-true {a = firstOf first f} {b = blocks} (omega (arith, n .most)) ∙ sym (all-is p blocks (λ b l. ap not (n .none-before b (omega arith) (omega arith)))))
@@ -192,10 +192,10 @@ module _ (t : List ℕ) (size : ℕ) (key : ℕ → ℕ) (k : ℕ) (m : Tallied 
       (tally-skip t size key (k + i) (tally-past i (λ j p q. h j p (omega arith))) (key (k + i)) refl (h (k + i) (omega arith) (omega arith)))
 
 -- the records up to the next block of the file are none of its parts
-pub tally-next : (map : List ℕ) (f n k b : ℕ) (t : List ℕ) → n ≤ blocks → k ≤ blocks → Next map f k b
-    → Tallied t (suc blocks) (λ (j : ℕ). partOf f n (recordIn map j)) k → Tallied t (suc blocks) (λ (j : ℕ). partOf f n (recordIn map j)) b
+pub tally-next : (map : List ℕ) (f n k b : ℕ) (t : List ℕ) → n ≤ blocks → k ≤ blocks → NextBlock map f k b
+    → Tallied t (suc blocks) (λ (j : ℕ). partOf f n (loadedRecord map j)) k → Tallied t (suc blocks) (λ (j : ℕ). partOf f n (loadedRecord map j)) b
 tally-next map f n k b t h l x m =
-    let key : ℕ → ℕ = λ (j : ℕ). partOf f n (recordIn map j) in
+    let key : ℕ → ℕ = λ (j : ℕ). partOf f n (loadedRecord map j) in
     let far : k ≤ b = by-order b blocks (λ q. x .from q) (λ q. omega arith) in
     let e : k + (b - k) ≡ b = omega arith in
-    rw e at (tally-past t (suc blocks) key k m (b - k) (λ j p q. omega (arith, part-unborne f n h (recordIn map j) (x .none-before j p (omega arith)))))
+    rw e at (tally-past t (suc blocks) key k m (b - k) (λ j p q. omega (arith, part-no-record f n h (loadedRecord map j) (x .none-before j p (omega arith)))))

@@ -21,15 +21,15 @@ use Rattle.file_rules.specs.Check.{recordFault, mapFault}
 use Rattle.file_rules.specs.Sizes.{blockBytes, mapStart, recordBytes}
 
 -- the record of block b in a loaded map
-unfoldable pub recordIn : List ℕ → ℕ → Record
-recordIn map b = decode (getD map b 0)
+unfoldable pub loadedRecord : List ℕ → ℕ → Record
+loadedRecord map b = decode (getD map b 0)
 
 -- the same beside its block number, as the map is walked
 abbrev pub mapRecord : List ℕ → BlockNumber → MapRecord
-mapRecord map b = record { block = b; «record» = recordIn map (b .0) }
+mapRecord map b = record { block = b; «record» = loadedRecord map (b .0) }
 
 -- a loaded map is the disk's
-pub record Mapped (map : List ℕ) (d : Disk) : Type 0 where
+pub record MapLoaded (map : List ℕ) (d : Disk) : Type 0 where
   pub long : length map ≡ blocks
   pub numbers : (b : ℕ) → b < blocks → getD map b 0 ≡ numberAt d b
 
@@ -52,23 +52,23 @@ numbers-more map d k v l h e b i =
 
 -- ---- what is asked of a loaded map is asked of the disk's
 
-module _ (map : List ℕ) (d : Disk) (m : Mapped map d) where
-  pub record-mapped : (b : ℕ) → b < blocks → recordIn map b ≡ recordAt d b
-  unfolding recordIn recordAt
-  record-mapped b h = ap decode (m .numbers b h)
+module _ (map : List ℕ) (d : Disk) (m : MapLoaded map d) where
+  pub record-loaded : (b : ℕ) → b < blocks → loadedRecord map b ≡ recordAt d b
+  unfolding loadedRecord recordAt
+  record-loaded b h = ap decode (m .numbers b h)
 
-  pub fault-mapped : lowest (λ (b : ℕ). recordFault b (recordIn map b)) blocks ≡ mapFault d
+  pub fault-loaded : lowest (λ (b : ℕ). recordFault b (loadedRecord map b)) blocks ≡ mapFault d
   unfolding mapFault
-  fault-mapped =
-      lowest-cong (λ (b : ℕ). recordFault b (recordIn map b)) (λ (b : ℕ). recordFault b (recordAt d b)) blocks
-      (λ b h. ap (recordFault b) (record-mapped b h))
+  fault-loaded =
+      lowest-cong (λ (b : ℕ). recordFault b (loadedRecord map b)) (λ (b : ℕ). recordFault b (recordAt d b)) blocks
+      (λ b h. ap (recordFault b) (record-loaded b h))
 
-  pub free-mapped : count blocks (λ (b : ℕ). isFree (recordIn map b)) ≡ freeCount d
+  pub free-loaded : count blocks (λ (b : ℕ). isFree (loadedRecord map b)) ≡ freeCount d
   unfolding freeCount freeAt
-  free-mapped = count-cong blocks (λ (b : ℕ). isFree (recordIn map b)) (λ (b : ℕ). isFree (recordAt d b)) (λ b h. ap isFree (record-mapped b h))
+  free-loaded = count-cong blocks (λ (b : ℕ). isFree (loadedRecord map b)) (λ (b : ℕ). isFree (recordAt d b)) (λ b h. ap isFree (record-loaded b h))
 
-  pub part-mapped : (f s : ℕ) → lowest (λ (b : ℕ). isPart f s (recordIn map b)) blocks ≡ partBlock d f s
+  pub part-loaded : (f s : ℕ) → lowest (λ (b : ℕ). isPart f s (loadedRecord map b)) blocks ≡ partBlock d f s
   unfolding partBlock
-  part-mapped f s =
-      lowest-cong (λ (b : ℕ). isPart f s (recordIn map b)) (λ (b : ℕ). isPart f s (recordAt d b)) blocks
-      (λ b h. ap (isPart f s) (record-mapped b h))
+  part-loaded f s =
+      lowest-cong (λ (b : ℕ). isPart f s (loadedRecord map b)) (λ (b : ℕ). isPart f s (recordAt d b)) blocks
+      (λ b h. ap (isPart f s) (record-loaded b h))

@@ -20,7 +20,7 @@ use Rattle.sector_rules.specs.Geometry.{blocks}
 use Rattle.file_rules.specs.declared.Record.{Record}
 use Rattle.file_rules.specs.declared.Record.the-variants.{Free, System, File, Other}
 use Rattle.file_rules.specs.Map.{isPart, within, bears}
-use Rattle.files.specs.Laws.Loading.Loaded.{recordIn}
+use Rattle.files.specs.Laws.Loading.Loaded.{loadedRecord}
 use Rattle.files.specs.Laws.Loading.Loops.{all-cong}
 use Rattle.files.specs.Laws.Loading.Tally.{Tallied, tally-one, tally-zero}
 
@@ -109,12 +109,12 @@ module _ (f n : ℕ) (h : n ≤ blocks) where
       by-test (ltb s n) (λ q. rw (t, q) (omega (arith, true-lt {a = s} {b = n} q))) (λ q. rw (t, q) (omega arith))
   part-borne Other t = absurd (false≢true t)
 
-  pub part-unborne : (r : Record) → bears f r ≡ false → suc blocks ≡ partOf f n r
+  pub part-no-record : (r : Record) → bears f r ≡ false → suc blocks ≡ partOf f n r
   unfolding partOf bears
-  part-unborne Free t = refl
-  part-unborne System t = refl
-  part-unborne (File g s) t = rw t
-  part-unborne Other t = refl
+  part-no-record Free t = refl
+  part-no-record System t = refl
+  part-no-record (File g s) t = rw t
+  part-no-record Other t = refl
 
   no-part : (s : ℕ) → s < n → eqb (suc blocks) s ≡ false
   no-part s l = eq-false {a = suc blocks} {b = s} (λ e. omega arith)
@@ -154,41 +154,41 @@ module _ (f n : ℕ) (h : n ≤ blocks) where
 
 unfoldable pub partsIn : List ℕ → ℕ → ℕ → Bool
 partsIn map f n =
-    all (λ (b : ℕ). within f n (recordIn map b)) blocks
-    && all (λ (s : ℕ). eqb (count blocks (λ (b : ℕ). isPart f s (recordIn map b))) 1) n
+    all (λ (b : ℕ). within f n (loadedRecord map b)) blocks
+    && all (λ (s : ℕ). eqb (count blocks (λ (b : ℕ). isPart f s (loadedRecord map b))) 1) n
 
 module _ (map : List ℕ) (f n : ℕ) where
   pub parts-many : blocks < n → false ≡ partsIn map f n
   unfolding partsIn
   parts-many h =
-      let once : Bool = all (λ (s : ℕ). eqb (count blocks (λ (b : ℕ). isPart f s (recordIn map b))) 1) n in
-      by-test once (λ t. absurd (omega (arith, once-most (recordIn map) f n t)))
-      (λ t. sym (and-false-right (all (λ (b : ℕ). within f n (recordIn map b)) blocks) t))
+      let once : Bool = all (λ (s : ℕ). eqb (count blocks (λ (b : ℕ). isPart f s (loadedRecord map b))) 1) n in
+      by-test once (λ t. absurd (omega (arith, once-most (loadedRecord map) f n t)))
+      (λ t. sym (and-false-right (all (λ (b : ℕ). within f n (loadedRecord map b)) blocks) t))
 
-  module _ (h : n ≤ blocks) (t : List ℕ) (m : Tallied t (suc blocks) (λ (b : ℕ). partOf f n (recordIn map b)) blocks) where
-    later : eqb (getD t blocks 0) 0 ≡ all (λ (b : ℕ). within f n (recordIn map b)) blocks
+  module _ (h : n ≤ blocks) (t : List ℕ) (m : Tallied t (suc blocks) (λ (b : ℕ). partOf f n (loadedRecord map b)) blocks) where
+    later : eqb (getD t blocks 0) 0 ≡ all (λ (b : ℕ). within f n (loadedRecord map b)) blocks
     later =
-        tally-zero t (suc blocks) (λ (b : ℕ). partOf f n (recordIn map b)) blocks m blocks (omega arith)
-        ∙ all-cong (λ (b : ℕ). not (eqb (partOf f n (recordIn map b)) blocks)) (λ (b : ℕ). within f n (recordIn map b)) blocks
-        (λ b l. part-within f n h (recordIn map b))
+        tally-zero t (suc blocks) (λ (b : ℕ). partOf f n (loadedRecord map b)) blocks m blocks (omega arith)
+        ∙ all-cong (λ (b : ℕ). not (eqb (partOf f n (loadedRecord map b)) blocks)) (λ (b : ℕ). within f n (loadedRecord map b)) blocks
+        (λ b l. part-within f n h (loadedRecord map b))
 
-    once : all (λ (s : ℕ). eqb (getD t s 0) 1) n ≡ all (λ (s : ℕ). eqb (count blocks (λ (b : ℕ). isPart f s (recordIn map b))) 1) n
+    once : all (λ (s : ℕ). eqb (getD t s 0) 1) n ≡ all (λ (s : ℕ). eqb (count blocks (λ (b : ℕ). isPart f s (loadedRecord map b))) 1) n
     once =
-        all-cong (λ (s : ℕ). eqb (getD t s 0) 1) (λ (s : ℕ). eqb (count blocks (λ (b : ℕ). isPart f s (recordIn map b))) 1) n
+        all-cong (λ (s : ℕ). eqb (getD t s 0) 1) (λ (s : ℕ). eqb (count blocks (λ (b : ℕ). isPart f s (loadedRecord map b))) 1) n
         (λ s l.
-        tally-one t (suc blocks) (λ (b : ℕ). partOf f n (recordIn map b)) blocks m s (omega arith)
+        tally-one t (suc blocks) (λ (b : ℕ). partOf f n (loadedRecord map b)) blocks m s (omega arith)
         ∙ ap (λ (c : ℕ). eqb c 1)
-        (count-cong blocks (λ (b : ℕ). eqb (partOf f n (recordIn map b)) s) (λ (b : ℕ). isPart f s (recordIn map b)) (λ b q. part-is f n h s l (recordIn map b))))
+        (count-cong blocks (λ (b : ℕ). eqb (partOf f n (loadedRecord map b)) s) (λ (b : ℕ). isPart f s (loadedRecord map b)) (λ b q. part-is f n h s l (loadedRecord map b))))
 
     pub parts-later : (getD t blocks 0 ≡ 0 → ⊥) → false ≡ partsIn map f n
     unfolding partsIn
     parts-later q =
-        sym (and-false-left (all (λ (s : ℕ). eqb (count blocks (λ (b : ℕ). isPart f s (recordIn map b))) 1) n) (sym later ∙ eq-false q))
+        sym (and-false-left (all (λ (s : ℕ). eqb (count blocks (λ (b : ℕ). isPart f s (loadedRecord map b))) 1) n) (sym later ∙ eq-false q))
 
     pub parts-once : (r : Bool) → getD t blocks 0 ≡ 0 → r ≡ all (λ (s : ℕ). eqb (getD t s 0) 1) n → r ≡ partsIn map f n
     unfolding partsIn
     parts-once r q e =
-        e ∙ once ∙ sym (ap (λ (x : Bool). x && all (λ (s : ℕ). eqb (count blocks (λ (b : ℕ). isPart f s (recordIn map b))) 1) n) (sym later ∙ eq-true q))
+        e ∙ once ∙ sym (ap (λ (x : Bool). x && all (λ (s : ℕ). eqb (count blocks (λ (b : ℕ). isPart f s (loadedRecord map b))) 1) n) (sym later ∙ eq-true q))
 
 -- ---- the blocks of a file in sequence, scanned from the last block down
 
@@ -196,13 +196,13 @@ module _ (map : List ℕ) (f n : ℕ) where
 pub record PartsFrom (row map : List ℕ) (f k : ℕ) : Type 0 where
   pub long : length row ≡ blocks
   pub most : (s : ℕ) → s < blocks → getD row s 0 ≤ blocks
-  pub none-below : (s : ℕ) → s < blocks → (b : ℕ) → k ≤ b → b < getD row s 0 → isPart f s (recordIn map b) ≡ false
-  pub hit : (s : ℕ) → s < blocks → getD row s 0 < blocks → isPart f s (recordIn map (getD row s 0)) ≡ true
+  pub none-below : (s : ℕ) → s < blocks → (b : ℕ) → k ≤ b → b < getD row s 0 → isPart f s (loadedRecord map b) ≡ false
+  pub hit : (s : ℕ) → s < blocks → getD row s 0 < blocks → isPart f s (loadedRecord map (getD row s 0)) ≡ true
 
 -- all of them
 pub record PartsAt (row map : List ℕ) (f : ℕ) : Type 0 where
   pub long : length row ≡ blocks
-  pub parts : (s : ℕ) → s < blocks → getD row s 0 ≡ lowest (λ (b : ℕ). isPart f s (recordIn map b)) blocks
+  pub parts : (s : ℕ) → s < blocks → getD row s 0 ≡ lowest (λ (b : ℕ). isPart f s (loadedRecord map b)) blocks
 
 pub from-none : (map : List ℕ) (f : ℕ) → PartsFrom (replicate blocks blocks) map f blocks
 from-none map f =
@@ -218,20 +218,20 @@ from-none map f =
 
 module _ (row map : List ℕ) (f k j b : ℕ) (d : j ≡ b) (e : b + 1 ≡ k) (l : k ≤ blocks) (p : PartsFrom row map f k) where
   -- the record of b is part s
-  pub from-part : (s : ℕ) → s ≡ partOf f blocks (recordIn map b) → s < blocks → PartsFrom (set row s b) map f j
+  pub from-part : (s : ℕ) → s ≡ partOf f blocks (loadedRecord map b) → s < blocks → PartsFrom (set row s b) map f j
   from-part s q h =
       record {
         long = length-set row s b ∙ p .long;
         most = λ t g. by-equal t s (λ z. omega (arith, same t z)) (λ z. omega (arith, other t z, p .most t g));
         none-below = λ t g c u v. by-equal t s (λ z. absurd (omega (arith, same t z)))
             (λ z. by-equal c b
-            (λ y. ap (λ (x : ℕ). isPart f t (recordIn map x)) y ∙ sym (part-is f blocks (omega arith) t g (recordIn map b)) ∙ eq-false (λ w. z (sym w ∙ sym q)))
+            (λ y. ap (λ (x : ℕ). isPart f t (loadedRecord map x)) y ∙ sym (part-is f blocks (omega arith) t g (loadedRecord map b)) ∙ eq-false (λ w. z (sym w ∙ sym q)))
             (λ y. p .none-below t g c (omega arith) (omega (arith, other t z))));
         hit = λ t g u. by-equal t s
             (λ z.
-            ap (λ (x : ℕ). isPart f t (recordIn map x)) (same t z)
-            ∙ sym (part-is f blocks (omega arith) t g (recordIn map b)) ∙ eq-true (sym q ∙ sym z))
-            (λ z. ap (λ (x : ℕ). isPart f t (recordIn map x)) (other t z) ∙ p .hit t g (omega (arith, other t z)));
+            ap (λ (x : ℕ). isPart f t (loadedRecord map x)) (same t z)
+            ∙ sym (part-is f blocks (omega arith) t g (loadedRecord map b)) ∙ eq-true (sym q ∙ sym z))
+            (λ z. ap (λ (x : ℕ). isPart f t (loadedRecord map x)) (other t z) ∙ p .hit t g (omega (arith, other t z)));
       }
     where
       same : (t : ℕ) → t ≡ s → getD (set row s b) t 0 ≡ b
@@ -241,13 +241,13 @@ module _ (row map : List ℕ) (f k j b : ℕ) (d : j ≡ b) (e : b + 1 ≡ k) (l
       other t z = getD-set-other row s t b 0 z
 
   -- it is none of the file's
-  pub from-other : (s : ℕ) → s ≡ partOf f blocks (recordIn map b) → blocks ≤ s → PartsFrom row map f j
+  pub from-other : (s : ℕ) → s ≡ partOf f blocks (loadedRecord map b) → blocks ≤ s → PartsFrom row map f j
   from-other s q h =
       record {
         long = p .long;
         most = p .most;
         none-below = λ t g c u v. by-equal c b
-            (λ y. ap (λ (x : ℕ). isPart f t (recordIn map x)) y ∙ sym (part-is f blocks (omega arith) t g (recordIn map b)) ∙ eq-false {a = partOf f blocks (recordIn map b)} {b = t} (λ w. omega arith))
+            (λ y. ap (λ (x : ℕ). isPart f t (loadedRecord map x)) y ∙ sym (part-is f blocks (omega arith) t g (loadedRecord map b)) ∙ eq-false {a = partOf f blocks (loadedRecord map b)} {b = t} (λ w. omega arith))
             (λ y. p .none-below t g c (omega arith) v);
         hit = p .hit;
       }
@@ -258,8 +258,8 @@ from-all row map f p =
       long = p .long;
       parts = λ s h.
           by-order (getD row s 0) blocks
-          (λ l. sym (lowest-some (λ (b : ℕ). isPart f s (recordIn map b)) blocks (getD row s 0) l (λ b q. p .none-below s h b (omega arith) q) (p .hit s h l)))
+          (λ l. sym (lowest-some (λ (b : ℕ). isPart f s (loadedRecord map b)) blocks (getD row s 0) l (λ b q. p .none-below s h b (omega arith) q) (p .hit s h l)))
           (λ l.
           let e : getD row s 0 ≡ blocks = omega (arith, p .most s h) in
-          e ∙ sym (lowest-none (λ (b : ℕ). isPart f s (recordIn map b)) blocks (λ b q. p .none-below s h b (omega arith) (omega arith))));
+          e ∙ sym (lowest-none (λ (b : ℕ). isPart f s (loadedRecord map b)) blocks (λ b q. p .none-below s h b (omega arith) (omega arith))));
     }

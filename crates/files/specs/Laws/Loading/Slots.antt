@@ -21,11 +21,11 @@ use Rattle.laws.specs.Laws.Numbers.{high-row}
 use Rattle.sector_rules.specs.Geometry.{sectorBytes, blocks, imageBytes, running, imageSector}
 use Rattle.file_rules.specs.declared.Entry.{Entry}
 use Rattle.file_rules.specs.Sizes.{slotBytes, blockSlots, slotCount, nameMost}
-use Rattle.file_rules.specs.Disk.{Disk, byteOf, diskOf}
+use Rattle.file_rules.specs.Disk.{Disk, bytePlace, diskOf}
 use Rattle.file_rules.specs.Map.{partBlock}
 use Rattle.file_rules.specs.Directory.{nameEq, entryOf, nameOf, slotByte, slotEntry, slotName, held, dirEnd, findName, vacantSlot}
 use Rattle.files.specs.Laws.Loading.Blocks.{disk-in, disk-far}
-use Rattle.files.specs.Laws.Loading.Loaded.{Mapped, part-mapped}
+use Rattle.files.specs.Laws.Loading.Loaded.{MapLoaded, part-loaded}
 use Rattle.files.specs.Laws.Loading.Loops.{all-cong}
 use Rattle.files.specs.Laws.Loading.Parts.{PartsAt}
 
@@ -34,12 +34,12 @@ pub record Located (dir : List ℕ) (d : Disk) : Type 0 where
   pub long : length dir ≡ blocks
   pub parts : (s : ℕ) → s < blocks → getD dir s 0 ≡ partBlock d 0 s
 
-pub located : (dir map : List ℕ) (d : Disk) → Mapped map d → PartsAt dir map 0 → Located dir d
-located dir map d m l = record { long = l .long; parts = λ s h. l .parts s h ∙ part-mapped map d m 0 s }
+pub located-directory : (dir map : List ℕ) (d : Disk) → MapLoaded map d → PartsAt dir map 0 → Located dir d
+located-directory dir map d m l = record { long = l .long; parts = λ s h. l .parts s h ∙ part-loaded map d m 0 s }
 
 -- where slot k stands in the image; its end, where the slot has no block
 unfoldable pub slotPlace : List ℕ → ℕ → ℕ
-slotPlace dir k = cond (ltb (getD dir (k / blockSlots) 0) blocks) (byteOf (getD dir (k / blockSlots) 0) (k % blockSlots * slotBytes)) imageBytes
+slotPlace dir k = cond (ltb (getD dir (k / blockSlots) 0) blocks) (bytePlace (getD dir (k / blockSlots) 0) (k % blockSlots * slotBytes)) imageBytes
 
 pub parts-more : (dir : List ℕ) (f : ℕ → ℕ) (k v : ℕ) → k < length dir
     → ((s : ℕ) → s < k → getD dir s 0 ≡ f s) → v ≡ f k
@@ -52,8 +52,8 @@ parts-more dir f k v l h e s i =
 -- ---- a slot lies in one sector
 
 module _ (b o i : ℕ) (h : o % sectorBytes + i < sectorBytes) where
-  pub byte-along : byteOf b (o + i) ≡ byteOf b o + i
-  unfolding byteOf
+  pub byte-along : bytePlace b (o + i) ≡ bytePlace b o + i
+  unfolding bytePlace
   byte-along =
       let e : (o + i) / sectorBytes ≡ o / sectorBytes = omega arith in
       let g : (o + i) % sectorBytes ≡ o % sectorBytes + i = omega arith in
@@ -72,13 +72,13 @@ module _ (image dir : List ℕ) (k : ℕ) (long : length image ≡ imageBytes) (
       disk-in image block (k % blockSlots * slotBytes + i) q (omega arith)
       ∙ ap (λ (x : ℕ). getD image x 0)
       (byte-along block (k % blockSlots * slotBytes) i (omega arith)
-      ∙ ap (λ (x : ℕ). x + i) (sym (cond-true (byteOf block (k % blockSlots * slotBytes)) imageBytes (lt-true q))))
+      ∙ ap (λ (x : ℕ). x + i) (sym (cond-true (bytePlace block (k % blockSlots * slotBytes)) imageBytes (lt-true q))))
 
   outside : (i : ℕ) → blocks ≤ block → diskOf image block (k % blockSlots * slotBytes + i) ≡ elementAt image (slotPlace dir k) i
   unfolding slotPlace elementAt
   outside i q =
-      let e : cond (ltb block blocks) (byteOf block (k % blockSlots * slotBytes)) imageBytes ≡ imageBytes =
-      cond-false (byteOf block (k % blockSlots * slotBytes)) imageBytes (lt-false q) in
+      let e : cond (ltb block blocks) (bytePlace block (k % blockSlots * slotBytes)) imageBytes ≡ imageBytes =
+      cond-false (bytePlace block (k % blockSlots * slotBytes)) imageBytes (lt-false q) in
       disk-far image block (k % blockSlots * slotBytes + i) q
       ∙ sym (ap (λ (x : ℕ). getD image (x + i) 0) e ∙ getD-past image (imageBytes + i) (omega arith))
 
@@ -98,13 +98,13 @@ entry-cong f g e =
     rw (n, e 0 (omega arith), e 1 (omega arith), e 2 (omega arith), e 3 (omega arith), e 14 (omega arith), e 15 (omega arith), e 52 (omega arith), e 53 (omega arith), e 54 (omega arith), e 55 (omega arith))
 
 module _ (image dir : List ℕ) (k : ℕ) (long : length image ≡ imageBytes) (hk : k < slotCount) (l : Located dir (diskOf image)) where
-  pub entry-row : slotEntry (diskOf image) k ≡ entryOf (elementAt image (slotPlace dir k))
+  pub slot-entry-row : slotEntry (diskOf image) k ≡ entryOf (elementAt image (slotPlace dir k))
   unfolding slotEntry
-  entry-row = entry-cong (slotByte (diskOf image) k) (elementAt image (slotPlace dir k)) (slot-row image dir k long hk l)
+  slot-entry-row = entry-cong (slotByte (diskOf image) k) (elementAt image (slotPlace dir k)) (slot-row image dir k long hk l)
 
   pub name-row : slotName (diskOf image) k ≡ nameOf (entryOf (elementAt image (slotPlace dir k)))
   unfolding slotName
-  name-row = ap nameOf entry-row
+  name-row = ap nameOf slot-entry-row
 
   pub held-row : 0 < k → not (all (λ (i : ℕ). eqb (elementAt image (slotPlace dir k) i) 0) slotBytes) ≡ held (diskOf image) k
   unfolding held
@@ -184,7 +184,7 @@ and-swap-false a b e = sym (and-false-right a e)
 
 module _ (s : List ℕ) (at : ℕ) where
   pub entry-read : (n : List ℕ) (l m t : ℕ) → n ≡ tab (elementAt s (at + 16)) nameMost → l ≡ highFirst s at 4 → m ≡ highFirst s (at + 14) 2 → t ≡ highFirst s (at + 52) 4
-      → _≡_ {A = Entry} (record { name = n; length = l; named = m; date = t }) (entryOf (elementAt s at))
+      → _≡_ {A = Entry} (record { name = n; length = l; namelen = m; date = t }) (entryOf (elementAt s at))
   unfolding entryOf
   entry-read n l m t en el em et =
       let fl : highFirst s at 4 ≡ at32 (elementAt s at) 0 = ap (λ (x : ℕ). highFirst s x 4) (sym (add-zero at)) ∙ word4-row s at 0 in

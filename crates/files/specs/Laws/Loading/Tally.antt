@@ -71,11 +71,11 @@ none-passes p (suc n) =
 -- of the numbers below k, by their keys
 pub record Tallied (t : List ℕ) (size : ℕ) (key : ℕ → ℕ) (k : ℕ) : Type 0 where
   pub long : length t ≡ size
-  pub cells : (x : ℕ) → x < size → getD t x 0 ≡ cap (count k (λ (b : ℕ). eqb (key b) x))
+  pub counts : (x : ℕ) → x < size → getD t x 0 ≡ cap (count k (λ (b : ℕ). eqb (key b) x))
 
 pub tally-none : (n : ℕ) (key : ℕ → ℕ) → Tallied (replicate n 0) n key 0
 unfolding count cap
-tally-none n key = record { long = length-replicate n 0; cells = λ x h. getD-replicate n x 0 0 h }
+tally-none n key = record { long = length-replicate n 0; counts = λ x h. getD-replicate n x 0 0 h }
 
 module _ (t : List ℕ) (size : ℕ) (key : ℕ → ℕ) (k : ℕ) (m : Tallied t size key k) where
   other : (x : ℕ) → key k ≢ x → count (k + 1) (λ (b : ℕ). eqb (key b) x) ≡ count k (λ (b : ℕ). eqb (key b) x)
@@ -87,7 +87,7 @@ module _ (t : List ℕ) (size : ℕ) (key : ℕ → ℕ) (k : ℕ) (m : Tallied 
     tally-more v l w =
         record {
           long = length-set t x v ∙ m .long;
-          cells = λ y h.
+          counts = λ y h.
               by-equal y x
               (λ q.
               let p : ℕ → Bool = λ (b : ℕ). eqb (key b) y in
@@ -96,21 +96,21 @@ module _ (t : List ℕ) (size : ℕ) (key : ℕ → ℕ) (k : ℕ) (m : Tallied 
               ∙ getD-set-same t x v 0 (omega (arith, m .long))
               ∙ w
               ∙ ap (λ (z : ℕ). more (getD t z 0)) (sym q)
-              ∙ ap more (m .cells y h)
+              ∙ ap more (m .counts y h)
               ∙ more-cap (count k p)
               ∙ ap cap (sym c))
-              (λ q. getD-set-other t x y v 0 q ∙ m .cells y h ∙ ap cap (sym (other y (λ z. q (sym z ∙ sym e)))));
+              (λ q. getD-set-other t x y v 0 q ∙ m .counts y h ∙ ap cap (sym (other y (λ z. q (sym z ∙ sym e)))));
         }
 
     pub tally-skip : size ≤ x → Tallied t size key (k + 1)
-    tally-skip l = record { long = m .long; cells = λ y h. m .cells y h ∙ ap cap (sym (other y (λ z. omega (arith, e)))) }
+    tally-skip l = record { long = m .long; counts = λ y h. m .counts y h ∙ ap cap (sym (other y (λ z. omega (arith, e)))) }
 
   -- what a cell says of the numbers
   pub tally-one : (x : ℕ) → x < size → eqb (getD t x 0) 1 ≡ eqb (count k (λ (b : ℕ). eqb (key b) x)) 1
-  tally-one x h = ap (λ (y : ℕ). eqb y 1) (m .cells x h) ∙ cap-one (count k (λ (b : ℕ). eqb (key b) x))
+  tally-one x h = ap (λ (y : ℕ). eqb y 1) (m .counts x h) ∙ cap-one (count k (λ (b : ℕ). eqb (key b) x))
 
   pub tally-zero : (x : ℕ) → x < size → eqb (getD t x 0) 0 ≡ all (λ (b : ℕ). not (eqb (key b) x)) k
-  tally-zero x h = ap (λ (y : ℕ). eqb y 0) (m .cells x h) ∙ none-passes (λ (b : ℕ). eqb (key b) x) k
+  tally-zero x h = ap (λ (y : ℕ). eqb y 0) (m .counts x h) ∙ none-passes (λ (b : ℕ). eqb (key b) x) k
 
   -- two numbers of one key are more than one
   pub tally-two : (x i j : ℕ) → x < size → getD t x 0 < 2 → i < k → j < k → i ≢ j → key i ≡ x → key j ≡ x → ⊥
@@ -122,5 +122,5 @@ module _ (t : List ℕ) (size : ℕ) (key : ℕ → ℕ) (k : ℕ) (m : Tallied 
       count-drop k i p q hi (eq-true ei) (upd-same p i false i refl) (λ l b z. sym (upd-other p i false l z)) in
       let c : count k q ≡ suc (count k r) =
       count-drop k j q r hj (upd-other p i false j (λ z. d (sym z)) ∙ eq-true ej) (upd-same q j false j refl) (λ l b z. sym (upd-other q j false l z)) in
-      let e : cap (count k p) < 2 = rw (← m .cells x h) low in
+      let e : cap (count k p) < 2 = rw (← m .counts x h) low in
       omega (arith, cap-low (count k p) e)

@@ -20,46 +20,46 @@ use Rattle.file_rules.specs.declared.Record.{Record}
 use Rattle.file_rules.specs.declared.Record.the-variants.{Free, File}
 use Rattle.file_rules.specs.Disk.{Disk, diskOf, imageOf}
 use Rattle.file_rules.specs.Laws.Base.Disk.{image-disk, image-cong}
-use Rattle.files.specs.Laws.Writing.Steps.{near-patched, near-record, near-free, near-update, storedRow}
-use Rattle.files.specs.Laws.Writing.Stored.{Near, near-image, near-step, patched}
+use Rattle.files.specs.Laws.Writing.Steps.{inside-patched, inside-record, inside-free, inside-update, storedRow}
+use Rattle.files.specs.Laws.Writing.Stored.{EqualInside, inside-image, inside-step, patched}
 use Rattle.file_rules.specs.Map.{encode, recordAt, isFree, bears, isPart, freeAt, partBlock}
 use Rattle.file_rules.specs.Sizes.{slotBytes, blockSlots, mapStart, recordBytes}
 use Rattle.file_rules.specs.Written.{part, zeros, setBlock, setRecord, setSlot, setFree, stepUpdate, giveBlocks, freeBlock, freeBlocks}
 
 -- ---- the steps, of disks that agree
 
-module _ (d e : Disk) (near : Near d e) where
-  pub near-block : (b : ℕ) (g : ℕ → ℕ) → Near (setBlock d b g) (setBlock e b g)
+module _ (d e : Disk) (near : EqualInside d e) where
+  pub inside-block : (b : ℕ) (g : ℕ → ℕ) → EqualInside (setBlock d b g) (setBlock e b g)
   unfolding setBlock
-  near-block b g b′ i hb hi =
+  inside-block b g b′ i hb hi =
       by-equal b′ b (λ z. upd₂-same d b g b′ i z ∙ sym (upd₂-same e b g b′ i z)) (λ z. upd₂-other d b g b′ i z ∙ near b′ i hb hi ∙ sym (upd₂-other e b g b′ i z))
 
-  pub near-set : (b : ℕ) (r : Record) → Near (setRecord d b r) (setRecord e b r)
+  pub inside-set : (b : ℕ) (r : Record) → EqualInside (setRecord d b r) (setRecord e b r)
   unfolding setRecord
-  near-set b r = near-patched d e near 0 (mapStart + recordBytes * b) recordBytes (encode r)
+  inside-set b r = inside-patched d e near 0 (mapStart + recordBytes * b) recordBytes (encode r)
 
-  pub near-part : (f s : ℕ) → partBlock d f s ≡ partBlock e f s
+  pub inside-part : (f s : ℕ) → partBlock d f s ≡ partBlock e f s
   unfolding partBlock
-  near-part f s =
-      lowest-cong (λ (b : ℕ). isPart f s (recordAt d b)) (λ (b : ℕ). isPart f s (recordAt e b)) blocks (λ b h. ap (isPart f s) (near-record d e near b h))
+  inside-part f s =
+      lowest-cong (λ (b : ℕ). isPart f s (recordAt d b)) (λ (b : ℕ). isPart f s (recordAt e b)) blocks (λ b h. ap (isPart f s) (inside-record d e near b h))
 
-  pub near-slot : (k : ℕ) (g : ℕ → ℕ) → Near (setSlot d k g) (setSlot e k g)
+  pub inside-slot : (k : ℕ) (g : ℕ → ℕ) → EqualInside (setSlot d k g) (setSlot e k g)
   unfolding setSlot
-  near-slot k g b o hb ho =
-      near-patched d e near (partBlock d 0 (k / blockSlots)) (k % blockSlots * slotBytes) slotBytes g b o hb ho
-      ∙ ap (λ (p : ℕ). patched e p (k % blockSlots * slotBytes) slotBytes g b o) (near-part 0 (k / blockSlots))
+  inside-slot k g b o hb ho =
+      inside-patched d e near (partBlock d 0 (k / blockSlots)) (k % blockSlots * slotBytes) slotBytes g b o hb ho
+      ∙ ap (λ (p : ℕ). patched e p (k % blockSlots * slotBytes) slotBytes g b o) (inside-part 0 (k / blockSlots))
 
 -- a block is written and its record set
 abbrev pub given : Disk → ℕ → (ℕ → ℕ) → Record → Disk
 given d b g r = setRecord (setBlock d b g) b r
 
-pub near-given : (d e : Disk) → Near d e → (b : ℕ) (g : ℕ → ℕ) (r : Record) → Near (given d b g r) (given e b g r)
-near-given d e near b g r = near-set (setBlock d b g) (setBlock e b g) (near-block d e near b g) b r
+pub inside-given : (d e : Disk) → EqualInside d e → (b : ℕ) (g : ℕ → ℕ) (r : Record) → EqualInside (given d b g r) (given e b g r)
+inside-given d e near b g r = inside-set (setBlock d b g) (setBlock e b g) (inside-block d e near b g) b r
 
 pub given-written : (l₀ l₁ l₂ : List ℕ) (b : ℕ) (g : ℕ → ℕ) (r : Record)
     → l₁ ≡ imageOf (setBlock (diskOf l₀) b g) → l₂ ≡ imageOf (setRecord (diskOf l₁) b r) → l₂ ≡ imageOf (given (diskOf l₀) b g r)
 given-written l₀ l₁ l₂ b g r p q =
-    near-step (λ (d : Disk). setRecord d b r) (λ d e n. near-set d e n b r) l₁ l₂ (setBlock (diskOf l₀) b g) p q
+    inside-step (λ (d : Disk). setRecord d b r) (λ d e n. inside-set d e n b r) l₁ l₂ (setBlock (diskOf l₀) b g) p q
 
 -- ---- freed
 
@@ -72,15 +72,15 @@ pub freed-yes : (l₀ l₁ l₂ : List ℕ) (f b : ℕ) → bears f (recordAt (d
 unfolding freeBlock
 freed-yes l₀ l₁ l₂ f b t p q = given-written l₀ l₁ l₂ b zeros Free p q ∙ ap imageOf (sym (cond-true _ _ t))
 
-pub near-freed : (d e : Disk) → Near d e → (f b : ℕ) → b < blocks → Near (freeBlock d f b) (freeBlock e f b)
+pub inside-freed : (d e : Disk) → EqualInside d e → (f b : ℕ) → b < blocks → EqualInside (freeBlock d f b) (freeBlock e f b)
 unfolding freeBlock
-near-freed d e near f b h b′ o hb ho =
-    let same : bears f (recordAt d b) ≡ bears f (recordAt e b) = ap (bears f) (near-record d e near b h) in
+inside-freed d e near f b h b′ o hb ho =
+    let same : bears f (recordAt d b) ≡ bears f (recordAt e b) = ap (bears f) (inside-record d e near b h) in
     ap (λ (t : Bool). cond t (given d b zeros Free) d b′ o) same
     ∙ by-test (bears f (recordAt e b))
     (λ t.
     ap (λ (x : Disk). x b′ o) (cond-true (given d b zeros Free) d t)
-    ∙ near-given d e near b zeros Free b′ o hb ho
+    ∙ inside-given d e near b zeros Free b′ o hb ho
     ∙ sym (ap (λ (x : Disk). x b′ o) (cond-true (given e b zeros Free) e t)))
     (λ t.
     ap (λ (x : Disk). x b′ o) (cond-false (given d b zeros Free) d t)
@@ -94,7 +94,7 @@ freed-none l f e = sym (image-disk l e)
 pub freed-more : (d : Disk) (f b : ℕ) (l m : List ℕ) → b < blocks → l ≡ imageOf (freeBlocks b d f) → m ≡ imageOf (freeBlock (diskOf l) f b) → m ≡ imageOf (freeBlocks (b + 1) d f)
 unfolding freeBlocks
 freed-more d f b l m h e q =
-    q ∙ image-cong (freeBlock (diskOf l) f b) (freeBlock (freeBlocks b d f) f b) (near-freed (diskOf l) (freeBlocks b d f) (near-image l (freeBlocks b d f) e) f b h)
+    q ∙ image-cong (freeBlock (diskOf l) f b) (freeBlock (freeBlocks b d f) f b) (inside-freed (diskOf l) (freeBlocks b d f) (inside-image l (freeBlocks b d f) e) f b h)
     ∙ ap (λ (n : ℕ). imageOf (freeBlocks n d f)) (sym (add-one b))
 
 -- ---- the lowest that pass, one number more
@@ -162,21 +162,21 @@ module _ (p : ℕ → Bool) where
       ∙ ap (λ (x : ℕ). firstsFrom n (suc i) (suc k) p ++ (x ∷ [])) z
       ∙ ap (λ (l : List ℕ). l ++ ((i + suc n) ∷ [])) (sym (from-no n i k y)))
 
-  pub firsts-no : (b k : ℕ) → p b ≡ false → firsts (b + 1) k p ≡ firsts b k p
+  pub firsts-end-no : (b k : ℕ) → p b ≡ false → firsts (b + 1) k p ≡ firsts b k p
   unfolding firsts
-  firsts-no b k t = rw add-one (last-no b 0 k (ap p (zero-add b) ∙ t))
+  firsts-end-no b k t = rw add-one (last-no b 0 k (ap p (zero-add b) ∙ t))
 
   pub firsts-full : (b k : ℕ) → length (firsts b k p) ≡ k → firsts (b + 1) k p ≡ firsts b k p
   unfolding firsts
   firsts-full b k e = rw add-one (last-full b 0 k e)
 
-  pub firsts-yes : (b k : ℕ) → p b ≡ true → length (firsts b k p) < k → firsts (b + 1) k p ≡ firsts b k p ++ (b ∷ [])
+  pub firsts-end-yes : (b k : ℕ) → p b ≡ true → length (firsts b k p) < k → firsts (b + 1) k p ≡ firsts b k p ++ (b ∷ [])
   unfolding firsts
-  firsts-yes b k t h = rw add-one (last-yes b 0 k (ap p (zero-add b) ∙ t) h ∙ ap (λ (x : ℕ). firstsFrom b 0 k p ++ (x ∷ [])) (zero-add b))
+  firsts-end-yes b k t h = rw add-one (last-yes b 0 k (ap p (zero-add b) ∙ t) h ∙ ap (λ (x : ℕ). firstsFrom b 0 k p ++ (x ∷ [])) (zero-add b))
 
-  pub firsts-zero : (k : ℕ) → firsts 0 k p ≡ []
+  pub firsts-of-none : (k : ℕ) → firsts 0 k p ≡ []
   unfolding firsts
-  firsts-zero k = from-none 0 k
+  firsts-of-none k = from-none 0 k
 
 -- ---- given
 
@@ -193,21 +193,21 @@ give-snoc d f c s (x ∷ bs) b =
     give-snoc (given d x (part c s) (File f s)) f c (suc s) bs b
     ∙ ap (λ (t : ℕ). given (giveBlocks (given d x (part c s) (File f s)) f c (suc s) bs) b (part c t) (File f t)) (suc-add s (length bs) ∙ sym (add-suc s (length bs)))
 
-pub near-give : (f : ℕ) (c : ℕ → ℕ) (bs : List ℕ) (s : ℕ) (d e : Disk) → Near d e → Near (giveBlocks d f c s bs) (giveBlocks e f c s bs)
+pub inside-give : (f : ℕ) (c : ℕ → ℕ) (bs : List ℕ) (s : ℕ) (d e : Disk) → EqualInside d e → EqualInside (giveBlocks d f c s bs) (giveBlocks e f c s bs)
 unfolding giveBlocks
-near-give f c [] s d e near = near
-near-give f c (b ∷ bs) s d e near =
-    near-give f c bs (suc s) (given d b (part c s) (File f s)) (given e b (part c s) (File f s)) (near-given d e near b (part c s) (File f s))
+inside-give f c [] s d e near = near
+inside-give f c (b ∷ bs) s d e near =
+    inside-give f c bs (suc s) (given d b (part c s) (File f s)) (given e b (part c s) (File f s)) (inside-given d e near b (part c s) (File f s))
 
 -- the n lowest free blocks are given
 unfoldable pub giveLowest : Disk → ℕ → (ℕ → ℕ) → ℕ → ℕ → ℕ → Disk
 giveLowest d f c s n b = giveBlocks d f c s (firsts b n (freeAt d))
 
-pub near-lowest : (d e : Disk) → Near d e → (f : ℕ) (c : ℕ → ℕ) (s n : ℕ) → Near (giveLowest d f c s n blocks) (giveLowest e f c s n blocks)
+pub inside-lowest : (d e : Disk) → EqualInside d e → (f : ℕ) (c : ℕ → ℕ) (s n : ℕ) → EqualInside (giveLowest d f c s n blocks) (giveLowest e f c s n blocks)
 unfolding giveLowest freeAt
-near-lowest d e near f c s n b o hb ho =
-    ap (λ (bs : List ℕ). giveBlocks d f c s bs b o) (firsts-cong blocks n (freeAt d) (freeAt e) (λ j h. ap isFree (near-record d e near j h)))
-    ∙ near-give f c (firsts blocks n (freeAt e)) s d e near b o hb ho
+inside-lowest d e near f c s n b o hb ho =
+    ap (λ (bs : List ℕ). giveBlocks d f c s bs b o) (firsts-cong blocks n (freeAt d) (freeAt e) (λ j h. ap isFree (inside-record d e near j h)))
+    ∙ inside-give f c (firsts blocks n (freeAt e)) s d e near b o hb ho
 
 -- the walk: t blocks below b are given
 module _ (d : Disk) (f : ℕ) (c : ℕ → ℕ) (s n : ℕ) where
@@ -220,9 +220,9 @@ module _ (d : Disk) (f : ℕ) (c : ℕ → ℕ) (s n : ℕ) where
     pub walked-not : freeAt d b ≡ false → Walked (b + 1) t l
     unfolding giveLowest
     walked-not e = record {
-      some = w .some ∙ ap length (sym (firsts-no (freeAt d) b n e));
+      some = w .some ∙ ap length (sym (firsts-end-no (freeAt d) b n e));
       most = w .most;
-      image = w .image ∙ ap (λ (bs : List ℕ). imageOf (giveBlocks d f c s bs)) (sym (firsts-no (freeAt d) b n e));
+      image = w .image ∙ ap (λ (bs : List ℕ). imageOf (giveBlocks d f c s bs)) (sym (firsts-end-no (freeAt d) b n e));
     }
 
     pub walked-full : n ≤ t → Walked (b + 1) t l
@@ -239,7 +239,7 @@ module _ (d : Disk) (f : ℕ) (c : ℕ → ℕ) (s n : ℕ) where
     unfolding giveLowest
     walked-more m e h q =
         let bs : List ℕ = firsts b n (freeAt d) in
-        let r : firsts (b + 1) n (freeAt d) ≡ bs ++ (b ∷ []) = firsts-yes (freeAt d) b n e (omega (arith, w .some)) in
+        let r : firsts (b + 1) n (freeAt d) ≡ bs ++ (b ∷ []) = firsts-end-yes (freeAt d) b n e (omega (arith, w .some)) in
         let g : Disk = giveBlocks d f c s bs in
         record {
           some = ap (λ (k : ℕ). k + 1) (w .some) ∙ sym (ap length r ∙ length-snoc bs b);
@@ -247,7 +247,7 @@ module _ (d : Disk) (f : ℕ) (c : ℕ → ℕ) (s n : ℕ) where
           image =
               q
               ∙ image-cong (given (diskOf l) b (part c (s + t)) (File f (s + t))) (given g b (part c (s + t)) (File f (s + t)))
-              (near-given (diskOf l) g (near-image l g (w .image)) b (part c (s + t)) (File f (s + t)))
+              (inside-given (diskOf l) g (inside-image l g (w .image)) b (part c (s + t)) (File f (s + t)))
               ∙ ap (λ (k : ℕ). imageOf (given g b (part c (s + k)) (File f (s + k)))) (w .some)
               ∙ ap imageOf (sym (ap (giveBlocks d f c s) r ∙ give-snoc d f c s bs b));
         }
@@ -255,9 +255,9 @@ module _ (d : Disk) (f : ℕ) (c : ℕ → ℕ) (s n : ℕ) where
   pub walked-none : (l : List ℕ) → d ≡ diskOf l → length l ≡ imageBytes → Walked 0 0 l
   unfolding giveLowest giveBlocks
   walked-none l e h = record {
-    some = sym (ap length (firsts-zero (freeAt d) n));
+    some = sym (ap length (firsts-of-none (freeAt d) n));
     most = omega arith;
-    image = sym (image-disk l h) ∙ ap imageOf (sym e) ∙ ap (λ (bs : List ℕ). imageOf (giveBlocks d f c s bs)) (sym (firsts-zero (freeAt d) n));
+    image = sym (image-disk l h) ∙ ap imageOf (sym e) ∙ ap (λ (bs : List ℕ). imageOf (giveBlocks d f c s bs)) (sym (firsts-of-none (freeAt d) n));
   }
 
 -- what the walk asks of a block: whether there are not enough, and whether it is free
@@ -289,7 +289,7 @@ unfolding setSlot
 slot-written l m k b g e q = q ∙ ap (λ (x : ℕ). imageOf (patched (diskOf l) x (k % blockSlots * slotBytes) slotBytes g)) e
 
 pub settled-written : (l₀ l₁ l₂ : List ℕ) → l₁ ≡ imageOf (setFree (diskOf l₀)) → l₂ ≡ imageOf (stepUpdate (diskOf l₁)) → l₂ ≡ imageOf (stepUpdate (setFree (diskOf l₀)))
-settled-written l₀ l₁ l₂ p q = near-step stepUpdate near-update l₁ l₂ (setFree (diskOf l₀)) p q
+settled-written l₀ l₁ l₂ p q = inside-step stepUpdate inside-update l₁ l₂ (setFree (diskOf l₀)) p q
 
-pub near-settled : (d e : Disk) → Near d e → Near (stepUpdate (setFree d)) (stepUpdate (setFree e))
-near-settled d e near = near-update (setFree d) (setFree e) (near-free d e near)
+pub inside-settled : (d e : Disk) → EqualInside d e → EqualInside (stepUpdate (setFree d)) (stepUpdate (setFree e))
+inside-settled d e near = inside-update (setFree d) (setFree e) (inside-free d e near)

@@ -20,34 +20,34 @@ use Rattle.sector_rules.specs.Geometry.{blocks, imageBytes}
 use Rattle.file_rules.specs.declared.Record.{Record}
 use Rattle.file_rules.specs.declared.Record.the-variants.{Free, System, File, Other}
 use Rattle.file_rules.specs.Calls.{endAfter}
-use Rattle.file_rules.specs.Check.{judged}
+use Rattle.file_rules.specs.Check.{diskRefusal}
 use Rattle.file_rules.specs.Disk.{Disk, diskOf, imageOf}
 use Rattle.file_rules.specs.Laws.Base.Disk.{length-image}
 use Rattle.file_rules.specs.Map.{decode, numberOf, encode, numberAt, recordAt, isPart, partBlock}
 use Rattle.file_rules.specs.Sizes.{blockBytes, slotBytes, blockSlots, mapStart, recordBytes, wholeBlocks, bytesOver}
 use Rattle.file_rules.specs.Written.{setBlock, setRecord, setSlot, setWord, setEnd}
-use Rattle.files.specs.Laws.Loading.Loaded.{recordIn, Mapped, number-cong, record-mapped}
+use Rattle.files.specs.Laws.Loading.Loaded.{loadedRecord, MapLoaded, number-cong, record-loaded}
 use Rattle.files.specs.Laws.Judging.Ends.{first-system}
-use Rattle.files.specs.Laws.Writing.Steps.{Packs}
-use Rattle.files.specs.Laws.Writing.Stored.{near-image, patched}
+use Rattle.files.specs.Laws.Writing.Steps.{FitsRecord}
+use Rattle.files.specs.Laws.Writing.Stored.{inside-image, patched}
 
 -- the image is whole, the loaded map is that of its disk, and block 0 is the system's, as on every disk that passed 9
 pub record InStep (map image : List ℕ) : Type 0 where
   pub long : length image ≡ imageBytes
-  pub mapped : Mapped map (diskOf image)
-  pub system : recordIn map 0 ≡ System
+  pub loadedMap : MapLoaded map (diskOf image)
+  pub system : loadedRecord map 0 ≡ System
 
 -- a map that was just loaded from a disk that passed the judgement
-pub in-step : (map image : List ℕ) → length image ≡ imageBytes → Mapped map (diskOf image) → judged (diskOf image) ≡ none → InStep map image
+pub in-step : (map image : List ℕ) → length image ≡ imageBytes → MapLoaded map (diskOf image) → diskRefusal (diskOf image) ≡ none → InStep map image
 in-step map image long m passed =
-    record { long = long; mapped = m; system = record-mapped map (diskOf image) m 0 (omega arith) ∙ first-system (diskOf image) passed }
+    record { long = long; loadedMap = m; system = record-loaded map (diskOf image) m 0 (omega arith) ∙ first-system (diskOf image) passed }
 
-number-packs : (r : Record) → Packs r → numberOf r % 0x1000000 ≡ numberOf r
+number-fits : (r : Record) → FitsRecord r → numberOf r % 0x1000000 ≡ numberOf r
 unfolding numberOf
-number-packs Free v = refl
-number-packs System v = refl
-number-packs (File f s) v = omega (arith, v .0, v .1)
-number-packs Other v = refl
+number-fits Free v = refl
+number-fits System v = refl
+number-fits (File f s) v = omega (arith, v .0, v .1)
+number-fits Other v = refl
 
 -- ---- a record's number after it is written, and after another one is
 
@@ -55,7 +55,7 @@ module _ (d : Disk) (b : ℕ) (r : Record) where
   abbrev row : ℕ → ℕ
   row = patch (d 0) (mapStart + recordBytes * b) recordBytes (encode r)
 
-  number-set : Packs r → numberAt (setRecord d b r) b ≡ numberOf r
+  number-set : FitsRecord r → numberAt (setRecord d b r) b ≡ numberOf r
   unfolding numberAt setRecord encode
   number-set v =
       high-is (λ (i : ℕ). upd d 0 row 0 (mapStart + recordBytes * b + i)) recordBytes (numberOf r)
@@ -64,7 +64,7 @@ module _ (d : Disk) (b : ℕ) (r : Record) where
       upd₂-same d 0 row 0 (mapStart + recordBytes * b + i) refl
       ∙ patch-in (d 0) (mapStart + recordBytes * b) recordBytes (encode r) (mapStart + recordBytes * b + i) (omega arith) (omega arith)
       ∙ ap (encode r) e)
-      ∙ number-packs r v
+      ∙ number-fits r v
 
   number-other : (j : ℕ) → j ≢ b → numberAt (setRecord d b r) j ≡ numberAt d j
   unfolding numberAt setRecord
@@ -84,8 +84,8 @@ word-beside d o v h i a = upd₂-same d 0 (patch (d 0) o 2 (highByte 2 v)) 0 i r
 
 module _ (map l : List ℕ) (s : InStep map l) where
   -- block 0 passes no test that the system's record fails
-  pub not-first : (p : Record → Bool) → p System ≡ false → (b : ℕ) → p (recordIn map b) ≡ true → 0 < b
-  not-first p e b t = by-order 0 b (λ h. h) (λ h. let z : b ≡ 0 = omega arith in true≢false (p (recordIn map b)) t (ap (λ (x : ℕ). p (recordIn map x)) z ∙ ap p (s .system) ∙ e))
+  pub not-first : (p : Record → Bool) → p System ≡ false → (b : ℕ) → p (loadedRecord map b) ≡ true → 0 < b
+  not-first p e b t = by-order 0 b (λ h. h) (λ h. let z : b ≡ 0 = omega arith in true≢false (p (loadedRecord map b)) t (ap (λ (x : ℕ). p (loadedRecord map x)) z ∙ ap p (s .system) ∙ e))
 
   module _ (m : List ℕ) (e : Disk) (q : m ≡ imageOf e) where
     -- the map's bytes are as they were
@@ -93,9 +93,9 @@ module _ (map l : List ℕ) (s : InStep map l) where
     step-beside h =
         record {
           long = ap length q ∙ length-image e;
-          mapped = record {
-            long = s .mapped .long;
-            numbers = λ b k. s .mapped .numbers b k ∙ number-cong (diskOf l) (diskOf m) b k (λ o a c. sym (near-image m e q 0 o (omega arith) c ∙ h o a c));
+          loadedMap = record {
+            long = s .loadedMap .long;
+            numbers = λ b k. s .loadedMap .numbers b k ∙ number-cong (diskOf l) (diskOf m) b k (λ o a c. sym (inside-image m e q 0 o (omega arith) c ∙ h o a c));
           };
           system = s .system;
         }
@@ -122,24 +122,24 @@ module _ (map l : List ℕ) (s : InStep map l) where
       (λ i a c. word-beside (setWord d 34 (wholeBlocks k)) 36 (bytesOver k) (omega arith) i a ∙ word-beside d 34 (wholeBlocks k) (omega arith) i a)
 
   -- a record is written, in the image and in the loaded map
-  pub step-record : (m : List ℕ) (b : ℕ) (r : Record) → m ≡ imageOf (setRecord (diskOf l) b r) → 0 < b → b < blocks → Packs r → InStep (set map b (numberOf r)) m
-  unfolding recordIn
+  pub step-record : (m : List ℕ) (b : ℕ) (r : Record) → m ≡ imageOf (setRecord (diskOf l) b r) → 0 < b → b < blocks → FitsRecord r → InStep (set map b (numberOf r)) m
+  unfolding loadedRecord
   step-record m b r q h k v =
       let d : Disk = setRecord (diskOf l) b r in
       let read : (j : ℕ) → j < blocks → numberAt (diskOf m) j ≡ numberAt d j =
-      λ j i. number-cong (diskOf m) d j i (λ o a c. near-image m d q 0 o (omega arith) c) in
+      λ j i. number-cong (diskOf m) d j i (λ o a c. inside-image m d q 0 o (omega arith) c) in
       record {
         long = ap length q ∙ length-image d;
-        mapped = record {
-          long = length-set map b (numberOf r) ∙ s .mapped .long;
+        loadedMap = record {
+          long = length-set map b (numberOf r) ∙ s .loadedMap .long;
           numbers = λ j i. by-equal j b
               (λ z.
               ap (λ (x : ℕ). getD (set map b (numberOf r)) x 0) z
-              ∙ getD-set-same map b (numberOf r) 0 (omega (arith, s .mapped .long))
+              ∙ getD-set-same map b (numberOf r) 0 (omega (arith, s .loadedMap .long))
               ∙ sym (number-set (diskOf l) b r v)
               ∙ ap (numberAt d) (sym z)
               ∙ sym (read j i))
-              (λ z. getD-set-other map b j (numberOf r) 0 z ∙ s .mapped .numbers j i ∙ sym (number-other (diskOf l) b r j z) ∙ sym (read j i));
+              (λ z. getD-set-other map b j (numberOf r) 0 z ∙ s .loadedMap .numbers j i ∙ sym (number-other (diskOf l) b r j z) ∙ sym (read j i));
         };
         system = rw (getD-set-other map b 0 (numberOf r) 0 (λ z. omega arith)) (s .system);
       }
@@ -157,7 +157,7 @@ module _ (map l : List ℕ) (s : InStep map l) where
       step-row map l s m (partBlock (diskOf l) 0 (k / blockSlots)) (k % blockSlots * slotBytes) slotBytes g q
       (λ z.
       let t : part 0 ≡ true = ap part (sym z) ∙ lowest-hit part blocks (omega arith) in
-      let u : part 0 ≡ false = ap (isPart 0 (k / blockSlots)) (sym (record-mapped map (diskOf l) (s .mapped) 0 (omega arith)) ∙ s .system) ∙ system-part (k / blockSlots) in
+      let u : part 0 ≡ false = ap (isPart 0 (k / blockSlots)) (sym (record-loaded map (diskOf l) (s .loadedMap) 0 (omega arith)) ∙ s .system) ∙ system-part (k / blockSlots) in
       true≢false (part 0) t u)
 
   -- the directory grows by a slot, or keeps its end
@@ -169,7 +169,7 @@ module _ (map l : List ℕ) (s : InStep map l) where
       (λ z. step-beside map l s m (diskOf l) (q ∙ ap imageOf (cond-false _ _ (eq-false z))) (λ o a c. refl))
 
 -- the records from b on are as they were before the first was changed
-pub rest-more : (map : List ℕ) (d : Disk) (b v : ℕ) → ((j : ℕ) → b ≤ j → j < blocks → recordIn map j ≡ recordAt d j)
-    → (j : ℕ) → b + 1 ≤ j → j < blocks → recordIn (set map b v) j ≡ recordAt d j
-unfolding recordIn
+pub rest-more : (map : List ℕ) (d : Disk) (b v : ℕ) → ((j : ℕ) → b ≤ j → j < blocks → loadedRecord map j ≡ recordAt d j)
+    → (j : ℕ) → b + 1 ≤ j → j < blocks → loadedRecord (set map b v) j ≡ recordAt d j
+unfolding loadedRecord
 rest-more map d b v h j p q = ap decode (getD-set-other map b j v 0 (λ z. omega arith)) ∙ h j (omega arith) q

@@ -20,26 +20,26 @@ use Rattle.laws.specs.Laws.Overlay.{overlay-none, overlay-more, overlay-in, ove
 use Rattle.laws.specs.Laws.Overlay.{overlay-length, put-tab}
 use Rattle.sector_rules.specs.Geometry.{sectorBytes, blocks, imageBytes, running}
 use Rattle.sector_rules.specs.Laws.Base.Geometry.{image-lt}
-use Rattle.file_rules.specs.Disk.{Disk, byteOf, diskOf, imageOf}
+use Rattle.file_rules.specs.Disk.{Disk, bytePlace, diskOf, imageOf}
 use Rattle.files.specs.Laws.Loading.Blocks.{disk-in, disk-far}
 use Rattle.file_rules.specs.Laws.Base.Disk.{byte-lt}
 use Rattle.files.specs.Laws.Loading.Slots.{byte-along}
-use Rattle.files.specs.Laws.Writing.Steps.{storedRow, near-patched}
-use Rattle.files.specs.Laws.Writing.Stored.{near-step, set-inside, set-no-block, patched, patched-none, patched-more, patched-row}
+use Rattle.files.specs.Laws.Writing.Steps.{storedRow, inside-patched}
+use Rattle.files.specs.Laws.Writing.Stored.{inside-step, set-inside, set-no-block, patched, patched-none, patched-more, patched-row}
 use Rattle.file_rules.specs.Sizes.{blockBytes, slotBytes}
 
 -- where offset o of block b stands in the image; its end, where there is no such block
 unfoldable pub runPlace : ℕ → ℕ → ℕ
-runPlace b o = cond (ltb b blocks) (byteOf b o) imageBytes
+runPlace b o = cond (ltb b blocks) (bytePlace b o) imageBytes
 
 -- ---- one row read
 
 module _ (image : List ℕ) (b o n : ℕ) (long : length image ≡ imageBytes) (ho : o < blockBytes) (h : o % sectorBytes + n ≤ sectorBytes) where
-  pub row-within : b < blocks → byteOf b o + n ≤ imageBytes
-  unfolding byteOf
+  pub row-within : b < blocks → bytePlace b o + n ≤ imageBytes
+  unfolding bytePlace
   row-within hb = omega (arith, image-lt (running b (o / sectorBytes)) (omega arith))
 
-  pub row-read : b < blocks → (out : List ℕ) (c at e : ℕ) → at ≡ byteOf b o → e ≡ at + n
+  pub row-read : b < blocks → (out : List ℕ) (c at e : ℕ) → at ≡ bytePlace b o → e ≡ at + n
       → put out c (take (e - at) (drop at image)) ≡ overlay out c n (λ (j : ℕ). diskOf image b (o + j))
   unfolding window elementAt
   row-read hb out c at e q r =
@@ -86,18 +86,18 @@ overlay-on d c a n f g out e same =
 
 module _ (l : List ℕ) (b o : ℕ) (g : ℕ → ℕ) (long : length l ≡ imageBytes) where
   -- in a block
-  row-inside : b < blocks → o < blockBytes → (n : ℕ) → o % sectorBytes + n ≤ sectorBytes → overlay l (byteOf b o) n g ≡ imageOf (patched (diskOf l) b o n g)
-  row-inside hb ho zero h = sym (overlay-none l (byteOf b o) g) ∙ patched-none l b o g long
+  row-inside : b < blocks → o < blockBytes → (n : ℕ) → o % sectorBytes + n ≤ sectorBytes → overlay l (bytePlace b o) n g ≡ imageOf (patched (diskOf l) b o n g)
+  row-inside hb ho zero h = sym (overlay-none l (bytePlace b o) g) ∙ patched-none l b o g long
   row-inside hb ho (suc n) h =
-      let m : List ℕ = overlay l (byteOf b o) n g in
+      let m : List ℕ = overlay l (bytePlace b o) n g in
       let before : m ≡ imageOf (patched (diskOf l) b o n g) = row-inside hb ho n (omega arith) in
-      let along : byteOf b (o + n) ≡ byteOf b o + n = byte-along b o n (omega arith) in
-      let within : byteOf b (o + n) < imageBytes = byte-lt b (o + n) hb (omega arith) in
-      ap (λ (k : ℕ). overlay l (byteOf b o) k g) (sym (add-one n))
-      ∙ sym (overlay-more l (byteOf b o) n g m (g n) (omega arith) refl refl)
+      let along : bytePlace b (o + n) ≡ bytePlace b o + n = byte-along b o n (omega arith) in
+      let within : bytePlace b (o + n) < imageBytes = byte-lt b (o + n) hb (omega arith) in
+      ap (λ (k : ℕ). overlay l (bytePlace b o) k g) (sym (add-one n))
+      ∙ sym (overlay-more l (bytePlace b o) n g m (g n) (omega arith) refl refl)
       ∙ ap (λ (x : ℕ). set m x (g n)) (sym along)
-      ∙ patched-more (diskOf l) b o n g m (set m (byteOf b (o + n)) (g n)) (g n) before
-      (set-inside m b (o + n) (g n) (overlay-length l (byteOf b o) n g ∙ long) hb (omega arith)) refl
+      ∙ patched-more (diskOf l) b o n g m (set m (bytePlace b (o + n)) (g n)) (g n) before
+      (set-inside m b (o + n) (g n) (overlay-length l (bytePlace b o) n g ∙ long) hb (omega arith)) refl
       ∙ ap (λ (k : ℕ). imageOf (patched (diskOf l) b o k g)) (add-one n)
 
   -- in none
@@ -111,9 +111,9 @@ module _ (l : List ℕ) (b o : ℕ) (g : ℕ → ℕ) (long : length l ≡ image
   unfolding runPlace
   row-written n at e ho h =
       by-order b blocks
-      (λ hb. ap (λ (x : ℕ). overlay l x n g) (e ∙ cond-true (byteOf b o) imageBytes (lt-true hb)) ∙ row-inside hb ho n h)
+      (λ hb. ap (λ (x : ℕ). overlay l x n g) (e ∙ cond-true (bytePlace b o) imageBytes (lt-true hb)) ∙ row-inside hb ho n h)
       (λ hb.
-      ap (λ (x : ℕ). overlay l x n g) (e ∙ cond-false (byteOf b o) imageBytes (lt-false hb))
+      ap (λ (x : ℕ). overlay l x n g) (e ∙ cond-false (bytePlace b o) imageBytes (lt-false hb))
       ∙ sym (overlay-none l imageBytes g ∙ overlay-clip l imageBytes 0 n g (omega arith))
       ∙ row-nowhere hb n)
 
@@ -123,7 +123,7 @@ pub rows-next : (d : Disk) (b o n k : ℕ) (g h : ℕ → ℕ) (l m : List ℕ) 
     → ((i : ℕ) → i < k → h i ≡ g (n + i)) → m ≡ imageOf (patched d b o (n + k) g)
 rows-next d b o n k g h l m e q w =
     let p : ℕ → ℕ = patch (d b) o n g in
-    near-step (λ (x : Disk). patched x b (o + n) k h) (λ x y near. near-patched x y near b (o + n) k h) l m (patched d b o n g) e q
+    inside-step (λ (x : Disk). patched x b (o + n) k h) (λ x y near. inside-patched x y near b (o + n) k h) l m (patched d b o n g) e q
     ∙ ap imageOf (upd-twice d b p (patch (upd d b p b) (o + n) k h)
     ∙ ap (upd d b) (ap (λ (f : ℕ → ℕ). patch f (o + n) k h) (upd-same d b p b refl) ∙ patch-next (d b) o n k g h w))
 
@@ -153,9 +153,9 @@ rows-part d b o n src e l m before h k q =
 -- ---- the bytes of a file
 
 -- one more in a row
-pub bytes-more : (l : List ℕ) (k v : ℕ) (f : ℕ → ℕ) → k < length l → ((j : ℕ) → j < k → getD l j 0 ≡ f j) → v ≡ f k
+pub row-bytes-more : (l : List ℕ) (k v : ℕ) (f : ℕ → ℕ) → k < length l → ((j : ℕ) → j < k → getD l j 0 ≡ f j) → v ≡ f k
     → (j : ℕ) → j < k + 1 → getD (set l k v) j 0 ≡ f j
-bytes-more l k v f b h e j lt =
+row-bytes-more l k v f b h e j lt =
     by-equal j k
     (λ q. ap (λ (x : ℕ). getD (set l k v) x 0) q ∙ getD-set-same l k v 0 b ∙ e ∙ ap f (sym q))
     (λ q. getD-set-other l k j v 0 q ∙ h j (omega arith))

@@ -25,17 +25,17 @@ use Rattle.file_rules.specs.declared.Entry.{Entry}
 use Rattle.file_rules.specs.Directory.{entryByte}
 use Rattle.file_rules.specs.Disk.{Disk, diskOf, imageOf}
 use Rattle.files.specs.Laws.Loading.Loaded.{number-cong}
-use Rattle.files.specs.Laws.Writing.Stored.{Near, near-step, patched, patched-block}
+use Rattle.files.specs.Laws.Writing.Stored.{EqualInside, inside-step, patched, patched-block}
 use Rattle.file_rules.specs.Map.{decode, recordAt, isFree, freeAt, freeCount, sequences}
 use Rattle.file_rules.specs.Sizes.{blockBytes, slotBytes, nameMost, freeSectors, wholeBlocks, bytesOver}
 use Rattle.file_rules.specs.Written.{storedByte, part, zeros, setBlock, setWord, setFree, setEnd, stepUpdate}
 
 -- the record fits its three bytes
-abbrev pub Packs : Record → Type 0
-Packs Free = Unit {0}
-Packs System = Unit {0}
-Packs (File f s) = (f < sequences) × (s < sequences)
-Packs Other = Unit {0}
+abbrev pub FitsRecord : Record → Type 0
+FitsRecord Free = Unit {0}
+FitsRecord System = Unit {0}
+FitsRecord (File f s) = (f < sequences) × (s < sequences)
+FitsRecord Other = Unit {0}
 
 -- ---- a row that is written field by field
 
@@ -54,14 +54,14 @@ put-row l at vs n e = ap (λ (k : ℕ). overlay l at k (elementAt vs 0)) e ∙ o
 -- an entry's fields, written one after another into 64 zeros
 pub entry-row : (e : Entry) → length (e .name) ≡ nameMost → (r₀ r₁ r₂ r₃ r₄ : List ℕ) → r₀ ≡ tab (λ (i : ℕ). 0) slotBytes
     → r₁ ≡ overlay r₀ 0 4 (highByte 4 (e .length))
-    → r₂ ≡ overlay r₁ 14 2 (highByte 2 (e .named))
+    → r₂ ≡ overlay r₁ 14 2 (highByte 2 (e .namelen))
     → r₃ ≡ put r₂ 16 (e .name)
     → r₄ ≡ overlay r₃ 52 4 (highByte 4 (e .date))
     → r₄ ≡ tab (entryByte e) slotBytes
 unfolding entryByte
 entry-row e long r₀ r₁ r₂ r₃ r₄ e₀ e₁ e₂ e₃ e₄ =
     let t₁ = e₁ ∙ overlay-tab _ slotBytes 0 4 (highByte 4 (e .length)) r₀ e₀ in
-    let t₂ = e₂ ∙ overlay-tab _ slotBytes 14 2 (highByte 2 (e .named)) r₁ t₁ in
+    let t₂ = e₂ ∙ overlay-tab _ slotBytes 14 2 (highByte 2 (e .namelen)) r₁ t₁ in
     let t₃ = e₃ ∙ put-row r₂ 16 (e .name) nameMost long ∙ overlay-tab _ slotBytes 16 nameMost (λ (i : ℕ). getD (e .name) i 0) r₂ t₂ in
     e₄ ∙ overlay-tab _ slotBytes 52 4 (highByte 4 (e .date)) r₃ t₃
 
@@ -97,46 +97,46 @@ zeros-written d b = patched-block d b (λ (o : ℕ). 0) zeros (λ o h. refl)
 
 -- ---- the steps on block 0, of disks that agree
 
-module _ (d e : Disk) (near : Near d e) where
-  pub near-patched : (b o n : ℕ) (g : ℕ → ℕ) → Near (patched d b o n g) (patched e b o n g)
-  near-patched b o n g b′ i hb hi =
+module _ (d e : Disk) (near : EqualInside d e) where
+  pub inside-patched : (b o n : ℕ) (g : ℕ → ℕ) → EqualInside (patched d b o n g) (patched e b o n g)
+  inside-patched b o n g b′ i hb hi =
       by-equal b′ b
       (λ z.
       upd₂-same d b (patch (d b) o n g) b′ i z ∙ patch-cong (d b) (e b) o n g i (near b i (omega arith) hi) ∙ sym (upd₂-same e b (patch (e b) o n g) b′ i z))
       (λ z. upd₂-other d b (patch (d b) o n g) b′ i z ∙ near b′ i hb hi ∙ sym (upd₂-other e b (patch (e b) o n g) b′ i z))
 
-  pub near-record : (b : ℕ) → b < blocks → recordAt d b ≡ recordAt e b
+  pub inside-record : (b : ℕ) → b < blocks → recordAt d b ≡ recordAt e b
   unfolding recordAt
-  near-record b h = ap decode (number-cong d e b h (λ o a c. near 0 o (omega arith) c))
+  inside-record b h = ap decode (number-cong d e b h (λ o a c. near 0 o (omega arith) c))
 
-  pub near-word : (o v : ℕ) → Near (setWord d o v) (setWord e o v)
+  pub inside-word : (o v : ℕ) → EqualInside (setWord d o v) (setWord e o v)
   unfolding setWord
-  near-word o v = near-patched 0 o 2 (highByte 2 v)
+  inside-word o v = inside-patched 0 o 2 (highByte 2 v)
 
-  pub near-count : freeCount d ≡ freeCount e
+  pub inside-count : freeCount d ≡ freeCount e
   unfolding freeCount freeAt
-  near-count = count-cong blocks (freeAt d) (freeAt e) (λ b h. ap isFree (near-record b h))
+  inside-count = count-cong blocks (freeAt d) (freeAt e) (λ b h. ap isFree (inside-record b h))
 
-  pub near-free : Near (setFree d) (setFree e)
+  pub inside-free : EqualInside (setFree d) (setFree e)
   unfolding setFree
-  near-free b o hb ho = near-word 20 (freeSectors (freeCount d)) b o hb ho ∙ ap (λ (n : ℕ). setWord e 20 (freeSectors n) b o) near-count
+  inside-free b o hb ho = inside-word 20 (freeSectors (freeCount d)) b o hb ho ∙ ap (λ (n : ℕ). setWord e 20 (freeSectors n) b o) inside-count
 
-  pub near-update : Near (stepUpdate d) (stepUpdate e)
+  pub inside-update : EqualInside (stepUpdate d) (stepUpdate e)
   unfolding stepUpdate at32 bigEndian
-  near-update b o hb ho =
+  inside-update b o hb ho =
       let count : at32 (d 0) 16 ≡ at32 (e 0) 16 =
       rw (near 0 16 (omega arith) (omega arith), near 0 17 (omega arith) (omega arith), near 0 18 (omega arith) (omega arith), near 0 19 (omega arith) (omega arith)) in
-      near-patched 0 16 4 (highByte 4 (at32 (d 0) 16 + 1)) b o hb ho ∙ ap (λ (n : ℕ). upd e 0 (patch (e 0) 16 4 (highByte 4 (n + 1))) b o) count
+      inside-patched 0 16 4 (highByte 4 (at32 (d 0) 16 + 1)) b o hb ho ∙ ap (λ (n : ℕ). upd e 0 (patch (e 0) 16 4 (highByte 4 (n + 1))) b o) count
 
-pub near-end : (d e : Disk) → Near d e → (k : ℕ) → Near (setEnd d k) (setEnd e k)
+pub inside-end : (d e : Disk) → EqualInside d e → (k : ℕ) → EqualInside (setEnd d k) (setEnd e k)
 unfolding setEnd
-near-end d e near k =
-    near-word (setWord d 34 (wholeBlocks k)) (setWord e 34 (wholeBlocks k)) (near-word d e near 34 (wholeBlocks k)) 36 (bytesOver k)
+inside-end d e near k =
+    inside-word (setWord d 34 (wholeBlocks k)) (setWord e 34 (wholeBlocks k)) (inside-word d e near 34 (wholeBlocks k)) 36 (bytesOver k)
 
 -- two words, one after the other
 pub end-written : (l₀ l₁ l₂ : List ℕ) (k : ℕ) → l₁ ≡ imageOf (setWord (diskOf l₀) 34 (wholeBlocks k))
     → l₂ ≡ imageOf (setWord (diskOf l₁) 36 (bytesOver k)) → l₂ ≡ imageOf (setEnd (diskOf l₀) k)
 unfolding setEnd
 end-written l₀ l₁ l₂ k p q =
-    near-step (λ (d : Disk). setWord d 36 (bytesOver k)) (λ d e n. near-word d e n 36 (bytesOver k)) l₁ l₂
+    inside-step (λ (d : Disk). setWord d 36 (bytesOver k)) (λ d e n. inside-word d e n 36 (bytesOver k)) l₁ l₂
     (setWord (diskOf l₀) 34 (wholeBlocks k)) p q

@@ -13,35 +13,35 @@ use Rattle.laws.specs.Laws.Tests.{lt-true, cond-true, and-true}
 use Rattle.laws.specs.Laws.Tab.{tab-length, tab-in}
 use Rattle.laws.specs.Laws.Changes.{upd-same, upd-other, upd₂-same, upd₂-other, patch-in, patch-below, patch-above, by-place}
 use Rattle.sector_rules.specs.Geometry.{blocks, imageBytes}
-use Rattle.file_rules.specs.Disk.{Disk, byteOf, blockOf, offsetOf, diskOf, imageOf, setByte}
+use Rattle.file_rules.specs.Disk.{Disk, bytePlace, blockOf, offsetOf, diskOf, imageOf, setByte}
 use Rattle.file_rules.specs.Laws.Base.Disk.{byte-lt, block-byte, offset-byte, image-disk, image-cong, image-set}
 use Rattle.file_rules.specs.Sizes.{blockBytes}
 
 -- ---- disks that agree inside their blocks
 
-abbrev pub Near : Disk → Disk → Type 0
-Near d e = (b o : ℕ) → b < blocks → o < blockBytes → d b o ≡ e b o
+abbrev pub EqualInside : Disk → Disk → Type 0
+EqualInside d e = (b o : ℕ) → b < blocks → o < blockBytes → d b o ≡ e b o
 
-pub near-disk : (d : Disk) → Near (diskOf (imageOf d)) d
+pub inside-disk : (d : Disk) → EqualInside (diskOf (imageOf d)) d
 unfolding diskOf imageOf
-near-disk d b o hb ho =
+inside-disk d b o hb ho =
     cond-true _ _ (and-true (lt-true hb) (lt-true ho))
-    ∙ tab-in (λ (i : ℕ). d (blockOf i) (offsetOf i)) imageBytes (byteOf b o) (byte-lt b o hb ho)
+    ∙ tab-in (λ (i : ℕ). d (blockOf i) (offsetOf i)) imageBytes (bytePlace b o) (byte-lt b o hb ho)
     ∙ ap₂ d (block-byte b o hb ho) (offset-byte b o hb ho)
 
-pub near-image : (l : List ℕ) (d : Disk) → l ≡ imageOf d → Near (diskOf l) d
-near-image l d e b o hb ho = ap (λ (x : List ℕ). diskOf x b o) e ∙ near-disk d b o hb ho
+pub inside-image : (l : List ℕ) (d : Disk) → l ≡ imageOf d → EqualInside (diskOf l) d
+inside-image l d e b o hb ho = ap (λ (x : List ℕ). diskOf x b o) e ∙ inside-disk d b o hb ho
 
 -- a step that keeps the agreement may be taken on the image's disk
-pub near-step : (s : Disk → Disk) → ((d e : Disk) → Near d e → Near (s d) (s e)) → (l m : List ℕ) (d : Disk)
+pub inside-step : (s : Disk → Disk) → ((d e : Disk) → EqualInside d e → EqualInside (s d) (s e)) → (l m : List ℕ) (d : Disk)
     → l ≡ imageOf d → m ≡ imageOf (s (diskOf l)) → m ≡ imageOf (s d)
-near-step s keep l m d e q = q ∙ image-cong (s (diskOf l)) (s d) (keep (diskOf l) d (near-image l d e))
+inside-step s keep l m d e q = q ∙ image-cong (s (diskOf l)) (s d) (keep (diskOf l) d (inside-image l d e))
 
 -- ---- one byte
 
 module _ (l : List ℕ) (b o v : ℕ) (e : length l ≡ imageBytes) where
-  pub set-inside : b < blocks → o < blockBytes → set l (byteOf b o) v ≡ imageOf (setByte (diskOf l) b o v)
-  set-inside hb ho = ap (λ (x : List ℕ). set x (byteOf b o) v) (sym (image-disk l e)) ∙ image-set (diskOf l) b o v hb ho
+  pub set-inside : b < blocks → o < blockBytes → set l (bytePlace b o) v ≡ imageOf (setByte (diskOf l) b o v)
+  set-inside hb ho = ap (λ (x : List ℕ). set x (bytePlace b o) v) (sym (image-disk l e)) ∙ image-set (diskOf l) b o v hb ho
 
   pub set-no-block : blocks ≤ b → l ≡ imageOf (setByte (diskOf l) b o v)
   unfolding setByte
@@ -88,13 +88,13 @@ module _ (d : Disk) (b o n : ℕ) (g : ℕ → ℕ) (l m : List ℕ) (v : ℕ) w
       upd-same (diskOf l b) (o + n) v i y ∙ w ∙ ap g (sym k) ∙ sym (patch-in (d b) o (n + 1) g i (omega arith) (omega arith)))
       (λ y.
       upd-other (diskOf l b) (o + n) v i y
-      ∙ near-image l (patched d b o n g) e b i (omega arith) ho
+      ∙ inside-image l (patched d b o n g) e b i (omega arith) ho
       ∙ upd₂-same d b (patch (d b) o n g) b i refl
       ∙ patch-last (d b) o n g i y)
       ∙ sym (upd₂-same d b (patch (d b) o (n + 1) g) b′ i z))
       (λ z.
       upd₂-other (diskOf l) b (upd (diskOf l b) (o + n) v) b′ i z
-      ∙ near-image l (patched d b o n g) e b′ i hb ho
+      ∙ inside-image l (patched d b o n g) e b′ i hb ho
       ∙ upd₂-other d b (patch (d b) o n g) b′ i z
       ∙ sym (upd₂-other d b (patch (d b) o (n + 1) g) b′ i z)))
 

@@ -21,7 +21,7 @@ use Rattle.sector_rules.specs.declared.Reply.{Reply}
 use Rattle.sector_rules.specs.Replies.{done}
 use Rattle.sector_rules.specs.Geometry.{imageBytes}
 use Rattle.sector_rules.specs.Search.{dataMark}
-use Rattle.sector_rules.specs.Packed.{imageSide, firstUnit, trackUnits, writtenLength, hfeBytes, headerByte, tableByte, trackByte, hfeByte}
+use Rattle.sector_rules.specs.Packed.{imageSide, firstUnit, trackUnits, writtenLength, hfeBytes, hfeHeaderByte, hfeTableByte, hfeTrackByte, hfeByte}
 use Rattle.sector_rules.specs.Packed.{packReply, packHfe, span, fieldCrc, withCrc, headerRow, gapByte, sectorItem, sectorItems, sideItem}
 
 -- ---- spans
@@ -138,49 +138,49 @@ module _ (xs : List ℕ) where
 -- ---- the bytes of the image
 
 module _ (j : ℕ) where
-  table-in : j < 320 → tableByte j ≡ cond (ltb (j % 4) 2) (lowByte (firstUnit + trackUnits * (j / 4)) (j % 4)) (lowByte writtenLength (j % 4 - 2))
-  unfolding tableByte
+  table-in : j < 320 → hfeTableByte j ≡ cond (ltb (j % 4) 2) (lowByte (firstUnit + trackUnits * (j / 4)) (j % 4)) (lowByte writtenLength (j % 4 - 2))
+  unfolding hfeTableByte
   table-in h = rw (lt-ltb j 320 h)
 
   -- the low byte of a track's offset in the table
-  pub table-0 : j < 320 → j % 4 ≡ 0 → tableByte j ≡ (2 + 49 * (j / 4)) % 256
+  pub table-0 : j < 320 → j % 4 ≡ 0 → hfeTableByte j ≡ (2 + 49 * (j / 4)) % 256
   unfolding lowByte
   table-0 h e = table-in h ∙ rw (e, div-one (2 + 49 * (j / 4)))
 
   -- the high byte of a track's offset in the table
-  pub table-1 : j < 320 → j % 4 ≡ 1 → tableByte j ≡ (2 + 49 * (j / 4)) / 256 % 256
+  pub table-1 : j < 320 → j % 4 ≡ 1 → hfeTableByte j ≡ (2 + 49 * (j / 4)) / 256 % 256
   unfolding lowByte
   table-1 h e = table-in h ∙ rw e
 
   -- the low byte of a track's length in the table
-  pub table-2 : j < 320 → j % 4 ≡ 2 → tableByte j ≡ 168
+  pub table-2 : j < 320 → j % 4 ≡ 2 → hfeTableByte j ≡ 168
   unfolding lowByte
   table-2 h e = table-in h ∙ rw e
 
   -- the high byte of a track's length in the table
-  pub table-3 : j < 320 → j % 4 ≡ 3 → tableByte j ≡ 97
+  pub table-3 : j < 320 → j % 4 ≡ 3 → hfeTableByte j ≡ 97
   unfolding lowByte
   table-3 h e = table-in h ∙ rw e
 
 module _ (image : List ℕ) where
   -- a byte of a track's units, but for the unused ends, is a byte of one of its two sides
   pub track-in : (t o : ℕ) → 256 * (o / 512) + o % 256 < 12500
-      → trackByte image t o ≡ packed (writtenCell (imageSide image t (o % 512 / 256))) (256 * (o / 512) + o % 256)
-  unfolding trackByte
+      → hfeTrackByte image t o ≡ packed (writtenCell (imageSide image t (o % 512 / 256))) (256 * (o / 512) + o % 256)
+  unfolding hfeTrackByte
   track-in t o h = rw (lt-ltb (256 * (o / 512) + o % 256) 12500 h)
 
   -- the first 512 bytes of the written image are its header
-  pub hfe-header : (k : ℕ) → k < 512 → hfeByte image k ≡ headerByte k
+  pub hfe-header : (k : ℕ) → k < 512 → hfeByte image k ≡ hfeHeaderByte k
   unfolding hfeByte
   hfe-header k h = rw (lt-ltb k 512 h)
 
   -- the next 512 bytes are its track table
-  pub hfe-table : (k : ℕ) → 512 ≤ k → k < 1024 → hfeByte image k ≡ tableByte (k - 512)
+  pub hfe-table : (k : ℕ) → 512 ≤ k → k < 1024 → hfeByte image k ≡ hfeTableByte (k - 512)
   unfolding hfeByte
   hfe-table k l h = rw (le-ltb k 512 l, lt-ltb k 1024 h)
 
   -- the bytes after them are those of its tracks, 25,088 for each
-  pub hfe-track : (k : ℕ) → 512 ≤ k → 1024 ≤ k → hfeByte image k ≡ trackByte image ((k - 1024) / 25088) ((k - 1024) % 25088)
+  pub hfe-track : (k : ℕ) → 512 ≤ k → 1024 ≤ k → hfeByte image k ≡ hfeTrackByte image ((k - 1024) / 25088) ((k - 1024) % 25088)
   unfolding hfeByte
   hfe-track k l h = rw (le-ltb k 512 l, le-ltb k 1024 h)
 

@@ -18,22 +18,22 @@ use Rattle.sector_rules.specs.declared.Header.the-variants.{Is, Absent}
 use Rattle.sector_rules.specs.declared.Found.{Found}
 use Rattle.sector_rules.specs.declared.Found.the-variants.{One, Nothing, Several}
 use Rattle.sector_rules.specs.declared.Sector.{Sector}
-use Rattle.sector_rules.specs.declared.Sector.the-variants.{Delivered, Fieldless, Damaged}
+use Rattle.sector_rules.specs.declared.Sector.the-variants.{Delivered, NoField, Damaged}
 use Rattle.sector_rules.specs.declared.Fault.{Fault}
 use Rattle.sector_rules.specs.declared.Fault.the-variants.{At, Sound}
 use Rattle.sector_rules.specs.declared.Reply.{Reply}
 use Rattle.sector_rules.specs.Replies.{reply, done}
 use Rattle.sector_rules.specs.Geometry.{allSectors, imageBytes}
-use Rattle.sector_rules.specs.Hfe.{headerFault, tableFault, sideStream}
+use Rattle.sector_rules.specs.Hfe.{hfeHeaderFault, tableFault, sideStream}
 use Rattle.sector_rules.specs.Unpacked.{trackOf, sideOf, rOf, sectorAt, sectorReply, isBad, firstBad, sectorsReply, leastHfe, unpackReply}
-use Rattle.sector_rules.specs.Search.{crcHolds, headerMark, dataMark, headerCells, fieldCells, gapCells, isHeader, idOf, headerOf, belongs}
+use Rattle.sector_rules.specs.Search.{crcHolds, headerMark, dataMark, headerCells, fieldCells, gapCells, isHeader, idOf, headerOf, isHeaderOf}
 use Rattle.sector_rules.specs.Search.{headerAt, placesBelow, foundOf, findSector, first, fieldAt, fieldOf, sectorFound, sectorOf}
 use Rattle.sector_rules.specs.Laws.Base.Search.{moreFound, found-more}
 use Rattle.sector_rules.specs.Laws.Base.Unpacked.{placeOf, good-is, bad-number, short-reply, length-reply, header-reply, table-reply, sound-reply}
 
 -- ---- a field
 
-told : (a b : Bool) (p q : ℕ) → cond a (cond b (Delivered p) Damaged) Fieldless ≡ Delivered q → (a ≡ true) × (b ≡ true) × (p ≡ q)
+told : (a b : Bool) (p q : ℕ) → cond a (cond b (Delivered p) Damaged) NoField ≡ Delivered q → (a ≡ true) × (b ≡ true) × (p ≡ q)
 told true true p q e = (refl, refl, cc)
 told true false p q e = let z : _≡_ {A = ℕ} 0 1 = cc in absurd (omega arith)
 told false b p q e = let z : _≡_ {A = ℕ} 0 1 = cc in absurd (omega arith)
@@ -60,17 +60,17 @@ module _ (c : List ℕ) (j p : ℕ) (e : fieldAt c j ≡ Delivered p) where
 
 module _ (c : List ℕ) (t s r i : ℕ) where
   -- where a header of the sector stands, a header stands, and it belongs to the sector
-  pub header-split : headerAt c t s r i ≡ true → (isHeader (from c i) ≡ true) × (belongs t s r (Is (idOf (from c i))) ≡ true)
+  pub header-split : headerAt c t s r i ≡ true → (isHeader (from c i) ≡ true) × (isHeaderOf t s r (Is (idOf (from c i))) ≡ true)
   unfolding headerAt headerOf
   header-split e =
       by-test (isHeader (from c i))
-      (λ u. (u, ap (belongs t s r) (sym (cond-true (Is (idOf (from c i))) Absent u)) ∙ e))
-      (λ u. absurd (false≢true (ap (belongs t s r) (sym (cond-false (Is (idOf (from c i))) Absent u)) ∙ e)))
+      (λ u. (u, ap (isHeaderOf t s r) (sym (cond-true (Is (idOf (from c i))) Absent u)) ∙ e))
+      (λ u. absurd (false≢true (ap (isHeaderOf t s r) (sym (cond-false (Is (idOf (from c i))) Absent u)) ∙ e)))
 
   -- where a header stands that belongs to the sector, a header of the sector stands
-  pub header-join : isHeader (from c i) ≡ true → belongs t s r (Is (idOf (from c i))) ≡ true → headerAt c t s r i ≡ true
+  pub header-join : isHeader (from c i) ≡ true → isHeaderOf t s r (Is (idOf (from c i))) ≡ true → headerAt c t s r i ≡ true
   unfolding headerAt headerOf
-  header-join u e = ap (belongs t s r) (cond-true (Is (idOf (from c i))) Absent u) ∙ e
+  header-join u e = ap (isHeaderOf t s r) (cond-true (Is (idOf (from c i))) Absent u) ∙ e
 
 module _ (f : List ℕ) (e : isHeader f ≡ true) where
   -- a header begins with three sync bytes
@@ -90,9 +90,9 @@ module _ (f : List ℕ) (e : isHeader f ≡ true) where
       (and-left (leb headerCells (length f) && threeSync f && eqb (dataByte f 48) headerMark) (crcHolds f 8) e))
 
   -- the CRC of a header holds
-  pub header-crc : crcHolds f 8 ≡ true
+  pub told-header-crc : crcHolds f 8 ≡ true
   unfolding isHeader
-  header-crc = and-right (leb headerCells (length f) && threeSync f && eqb (dataByte f 48) headerMark) (crcHolds f 8) e
+  told-header-crc = and-right (leb headerCells (length f) && threeSync f && eqb (dataByte f 48) headerMark) (crcHolds f 8) e
 
 -- ---- the only place, and the first
 
@@ -136,7 +136,7 @@ module _ (p : ℕ → Bool) where
   -- the first place where the test holds gave the answer
   module _ (f : ℕ → Sector) where
     -- a field that was delivered by looking place by place stands at the first place where the test holds
-    pub first-told : (m i x : ℕ) → first p f Fieldless m i ≡ Delivered x
+    pub first-told : (m i x : ℕ) → first p f NoField m i ≡ Delivered x
         → (k : ℕ) × (k < m) × ((j : ℕ) → j < k → p (i + j) ≡ false) × (p (i + k) ≡ true) × (f (i + k) ≡ Delivered x)
     unfolding first
     first-told zero i x e = let z : _≡_ {A = ℕ} 0 1 = cc in absurd (omega arith)
@@ -147,11 +147,11 @@ module _ (p : ℕ → Bool) where
           omega arith,
           (λ j h. absurd (omega arith)),
           ap p (add-zero i) ∙ u,
-          ap f (add-zero i) ∙ sym (cond-true (f i) (first p f Fieldless m (suc i)) u) ∙ e,
+          ap f (add-zero i) ∙ sym (cond-true (f i) (first p f NoField m (suc i)) u) ∙ e,
         ))
         (λ u.
         let r : (k : ℕ) × (k < m) × ((j : ℕ) → j < k → p (suc i + j) ≡ false) × (p (suc i + k) ≡ true) × (f (suc i + k) ≡ Delivered x) =
-        first-told m (suc i) x (sym (cond-false (f i) (first p f Fieldless m (suc i)) u) ∙ e) in
+        first-told m (suc i) x (sym (cond-false (f i) (first p f NoField m (suc i)) u) ∙ e) in
         let z : i + suc (r .0) ≡ suc i + r .0 = omega arith in
         (suc (r .0), omega (arith, r .1), (λ j h. off (r .0) (r .2) u j h), ap p z ∙ r .3, ap f z ∙ r .4))
       where
@@ -218,17 +218,17 @@ module _ (h : List ℕ) where
         by-order (length h) leastHfe
         (λ l. absurd (not-zero (reply 1 1 0 0) (short-reply h n l) 0 refl))
         (λ l. by-equal n imageBytes
-        (λ q. header l q (headerFault h) refl)
+        (λ q. header l q (hfeHeaderFault h) refl)
         (λ q. absurd (not-zero (reply 1 2 0 0) (length-reply h n l q) 0 refl)))
       where
         not-zero : (r : Reply) → unpackReply h n ≡ r → (k : ℕ) → r .number ≡ suc k → ⊥
         not-zero r p k q = let z : r .number ≡ 0 = ap (λ (x : Reply). x .number) (sym p) ∙ e in omega arith
 
-        table : (l : leastHfe ≤ length h) (q : n ≡ imageBytes) → headerFault h ≡ Sound → (f : Fault) → tableFault h ≡ f → sectorsReply h .number ≡ 0
+        table : (l : leastHfe ≤ length h) (q : n ≡ imageBytes) → hfeHeaderFault h ≡ Sound → (f : Fault) → tableFault h ≡ f → sectorsReply h .number ≡ 0
         table l q g (At t) f = absurd (not-zero (reply 3 t 0 0) (table-reply h n l q g t f) 2 refl)
         table l q g Sound f = ap (λ (x : Reply). x .number) (sym (sound-reply h n l q g f)) ∙ e
 
-        header : (l : leastHfe ≤ length h) (q : n ≡ imageBytes) (f : Fault) → headerFault h ≡ f → sectorsReply h .number ≡ 0
+        header : (l : leastHfe ≤ length h) (q : n ≡ imageBytes) (f : Fault) → hfeHeaderFault h ≡ f → sectorsReply h .number ≡ 0
         header l q (At o) f = absurd (not-zero (reply 2 o 0 0) (header-reply h n l q o f) 1 refl)
         header l q Sound f = table l q f (tableFault h) refl
 

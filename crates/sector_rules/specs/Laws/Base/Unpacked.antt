@@ -12,11 +12,11 @@ use Rattle.laws.specs.Options.{orElse}
 use Rattle.sector_rules.specs.declared.Reply.{Reply}
 use Rattle.sector_rules.specs.declared.Fault.the-variants.{At, Sound}
 use Rattle.sector_rules.specs.declared.Sector.{Sector}
-use Rattle.sector_rules.specs.declared.Sector.the-variants.{Delivered, Missing, Repeated, Fieldless, Damaged}
+use Rattle.sector_rules.specs.declared.Sector.the-variants.{Delivered, Missing, Repeated, NoField, Damaged}
 use Rattle.sector_rules.specs.Replies.{reply, unless}
 use Rattle.sector_rules.specs.Faults.{refusalAt}
 use Rattle.sector_rules.specs.Geometry.{imageBytes}
-use Rattle.sector_rules.specs.Hfe.{headerFault, tableFault}
+use Rattle.sector_rules.specs.Hfe.{hfeHeaderFault, tableFault}
 use Rattle.sector_rules.specs.Unpacked.{leastHfe, unpackReply, unpackImage, isBad, sectorReply, sectorsReply, unpackedByte}
 
 -- the place of a sector's bytes
@@ -24,7 +24,7 @@ abbrev pub placeOf : Sector → ℕ
 placeOf (Delivered p) = p
 placeOf Missing = 0
 placeOf Repeated = 0
-placeOf Fieldless = 0
+placeOf NoField = 0
 placeOf Damaged = 0
 
 -- a sector that is not bad is delivered
@@ -32,7 +32,7 @@ pub good-is : (x : Sector) → isBad x ≡ false → x ≡ Delivered (placeOf x)
 good-is (Delivered p) e = refl
 good-is Missing e = absurd (false≢true (sym e))
 good-is Repeated e = absurd (false≢true (sym e))
-good-is Fieldless e = absurd (false≢true (sym e))
+good-is NoField e = absurd (false≢true (sym e))
 good-is Damaged e = absurd (false≢true (sym e))
 
 -- the reply for a bad sector is not 0
@@ -40,7 +40,7 @@ pub bad-number : (m : ℕ) (x : Sector) → isBad x ≡ true → eqb (sectorRepl
 bad-number m (Delivered p) e = absurd (false≢true e)
 bad-number m Missing e = refl
 bad-number m Repeated e = refl
-bad-number m Fieldless e = refl
+bad-number m NoField e = refl
 bad-number m Damaged e = refl
 
 -- ---- the replies of unpacking, in order
@@ -58,16 +58,16 @@ module _ (h : List ℕ) (n : ℕ) where
     length-reply e = rw (le-ltb (length h) leastHfe l, ne-eqb n imageBytes e)
 
     module _ (e : n ≡ imageBytes) where
-      later-reply : unpackReply h n ≡ unless (orElse (refusalAt 2 (headerFault h)) (refusalAt 3 (tableFault h))) (λ (r : Reply). r) (sectorsReply h)
+      later-reply : unpackReply h n ≡ unless (orElse (refusalAt 2 (hfeHeaderFault h)) (refusalAt 3 (tableFault h))) (λ (r : Reply). r) (sectorsReply h)
       unfolding unpackReply
       later-reply = rw (le-ltb (length h) leastHfe l, eq-eqb n imageBytes e)
 
       -- an HFE image with a wrong header is refused with 2 and the offset
-      pub header-reply : (o : ℕ) → headerFault h ≡ At o → unpackReply h n ≡ reply 2 o 0 0
+      pub header-reply : (o : ℕ) → hfeHeaderFault h ≡ At o → unpackReply h n ≡ reply 2 o 0 0
       unfolding unless orElse
       header-reply o f = later-reply ∙ rw f
 
-      module _ (f : headerFault h ≡ Sound) where
+      module _ (f : hfeHeaderFault h ≡ Sound) where
         -- an HFE image with a wrong table entry is refused with 3 and the track
         pub table-reply : (t : ℕ) → tableFault h ≡ At t → unpackReply h n ≡ reply 3 t 0 0
         unfolding unless orElse

@@ -13,7 +13,7 @@ use Rattle.laws.specs.Laws.Cases.{by-order, by-equal, by-test}
 use Rattle.laws.specs.Laws.Tests.{true-eq, false-eq, eq-true, eq-false, true-lt, cond-true, cond-false}
 use Rattle.laws.specs.Laws.All.{all-at}
 use Rattle.cells.specs.Mfm.{bitOf, clock}
-use Rattle.cells.specs.Written.{byteOf, leftOut, writtenCell}
+use Rattle.cells.specs.Written.{itemByte, leftOut, writtenCell}
 use Rattle.cells.specs.declared.Item.{Item}
 use Rattle.cells.specs.Laws.Clocks.{clock-between, clock-missing, clock-after, clock-before}
 use Rattle.cells.specs.Laws.Written.{data-cell}
@@ -31,7 +31,7 @@ knownMask o = cond (eqb o 16) 0x80 (cond (eqb o 17) 0xFE (cond (eqb o 18) 0xF0 (
 
 -- data bit n of the sector: 0, 1, or 2 where it is not known
 unfoldable pub knownBit : ℕ → ℕ
-knownBit n = cond (eqb (bitOf (knownMask (n / 8)) (n % 8)) 1) (bitOf (byteOf (sectorItem 0 0 0 [] (n / 8))) (n % 8)) 2
+knownBit n = cond (eqb (bitOf (knownMask (n / 8)) (n % 8)) 1) (bitOf (itemByte (sectorItem 0 0 0 [] (n / 8))) (n % 8)) 2
 
 -- the clock cell between two data bits
 unfoldable pub knownClock : ℕ → ℕ → ℕ
@@ -72,7 +72,7 @@ no-bit j e = let z : 0 / 2 ^ (7 - j) % 2 ≡ 0 = rw zero-div refl in omega arith
 
 module _ (t s r : ℕ) (d : List ℕ) where
   header-byte : t < 128 → s < 2 → r < 16 → (o j : ℕ) → 15 ≤ o → o < 22 → j < 8 → bitOf (knownMask o) j ≡ 1
-      → bitOf (byteOf (sectorItem t s r d o)) j ≡ bitOf (byteOf (sectorItem 0 0 0 [] o)) j
+      → bitOf (itemByte (sectorItem t s r d o)) j ≡ bitOf (itemByte (sectorItem 0 0 0 [] o)) j
   unfolding knownMask sectorItem span withCrc
   header-byte ht hs hr o j l h hj =
       by-equal o 15 (λ e. rw e (λ m. refl))
@@ -84,7 +84,7 @@ module _ (t s r : ℕ) (d : List ℕ) where
       (λ n₆. let e : o ≡ 21 = omega arith in rw e (λ m. absurd (no-bit j m))))))))
 
   known-byte : t < 128 → s < 2 → r < 16 → (o j : ℕ) → o < 60 → j < 8 → bitOf (knownMask o) j ≡ 1
-      → bitOf (byteOf (sectorItem t s r d o)) j ≡ bitOf (byteOf (sectorItem 0 0 0 [] o)) j
+      → bitOf (itemByte (sectorItem t s r d o)) j ≡ bitOf (itemByte (sectorItem 0 0 0 [] o)) j
   unfolding sectorItem span withCrc
   known-byte ht hs hr o j h hj m =
       by-order o 12 (λ l. ap bit (sector-lead t s r d o l ∙ sym (sector-lead 0 0 0 [] o l)))
@@ -96,7 +96,7 @@ module _ (t s r : ℕ) (d : List ℕ) where
       (λ l₆. let e : o ≡ 59 = omega arith in rw e refl))))))
     where
       bit : Item → ℕ
-      bit a = bitOf (byteOf a) j
+      bit a = bitOf (itemByte a) j
 
   known-left : (o : ℕ) → o < 60 → leftOut (sectorItem t s r d o) ≡ leftOut (sectorItem 0 0 0 [] o)
   known-left o h =
@@ -119,10 +119,10 @@ module _ (t s : ℕ) (ht : t < 128) (hs : s < 2) (d : ℕ → List ℕ) (x : ℕ
       by-test (eqb (bitOf (knownMask (n / 8)) (n % 8)) 1)
       (λ u.
       ap (writtenCell (sideItem t s d)) m ∙ data-cell (sideItem t s d) q (n % 8) (omega arith)
-      ∙ ap (λ (a : Item). bitOf (byteOf a) (n % 8)) (item-at t s d x (n / 8) hx (omega arith))
+      ∙ ap (λ (a : Item). bitOf (itemByte a) (n % 8)) (item-at t s d x (n / 8) hx (omega arith))
       ∙ known-byte t s (x + 1) (d (x + 1)) ht hs (omega arith) (n / 8) (n % 8) (omega arith) (omega arith) (true-eq u)
-      ∙ sym (cond-true (bitOf (byteOf (sectorItem 0 0 0 [] (n / 8))) (n % 8)) 2 u) ∙ e)
-      (λ u. let z : 2 ≡ v = sym (cond-false (bitOf (byteOf (sectorItem 0 0 0 [] (n / 8))) (n % 8)) 2 u) ∙ e in absurd (omega arith))
+      ∙ sym (cond-true (bitOf (itemByte (sectorItem 0 0 0 [] (n / 8))) (n % 8)) 2 u) ∙ e)
+      (λ u. let z : 2 ≡ v = sym (cond-false (bitOf (itemByte (sectorItem 0 0 0 [] (n / 8))) (n % 8)) 2 u) ∙ e in absurd (omega arith))
 
   -- a clock cell is left out where the known one is
   left-same : (k : ℕ) → k < 960 → leftOut (sideItem t s d ((sectorStart x + k) / 16)) ≡ leftOut (sectorItem 0 0 0 [] (k / 16))

@@ -17,7 +17,7 @@ use Rattle.cells.specs.Laws.Sync.{three-cell}
 use Rattle.sector_rules.specs.declared.Id.{Id}
 use Rattle.sector_rules.specs.declared.Header.the-variants.{Is}
 use Rattle.sector_rules.specs.declared.Sector.the-variants.{Delivered}
-use Rattle.sector_rules.specs.Search.{isHeader, idOf, belongs, fieldAt, sizeCode}
+use Rattle.sector_rules.specs.Search.{isHeader, idOf, isHeaderOf, fieldAt, sizeCode}
 use Rattle.sector_rules.specs.Damage.{Binary}
 use Rattle.sector_rules.specs.Laws.Base.Told.{field-mark, header-syncs, header-mark}
 
@@ -66,7 +66,7 @@ fields-read c d bc bd j y p q tc td ec ed e r =
     (λ k l h. let x : k ≡ 3 = omega arith in rw x (field-mark c j p ec ∙ sym (field-mark d y q ed))) e r
 
 -- a header that belongs to the sector has the track, the side, R and 2
-pub belongs-id : (t s r : ℕ) (i : Id) → belongs t s r (Is i) ≡ true → i ≡ record { c = t; h = s; r = r; n = 2 }
+pub belongs-id : (t s r : ℕ) (i : Id) → isHeaderOf t s r (Is i) ≡ true → i ≡ record { c = t; h = s; r = r; n = 2 }
 belongs-id t s r i e =
     let a₁ = and-left (eqb (i .c) t && eqb (i .h) s && eqb (i .n) sizeCode) (eqb (i .r) r) e in
     let a₂ = and-left (eqb (i .c) t && eqb (i .h) s) (eqb (i .n) sizeCode) a₁ in

@@ -34,7 +34,7 @@ use Rattle.sector_rules.specs.Laws.Burst.Clash.{clash, Apart, header-apa
 use Rattle.sector_rules.specs.Laws.Damage.FieldDamage.{fields-same, side-binary, bytes-each}
 use Rattle.sector_rules.specs.Laws.Damage.SideDamage.{packed-side}
 use Rattle.sector_rules.specs.Laws.Burst.Known.{sectorStart, knownCell}
-use Rattle.sector_rules.specs.Laws.Trip.SideTrip.{writtenSide, runs, only, place, there}
+use Rattle.sector_rules.specs.Laws.Trip.SideTrip.{writtenSide, side-triple, only, place, there}
 use Rattle.sector_rules.specs.Laws.Base.Told.{field-place, field-mark, header-split, sector-told, header-told, gap-told}
 
 -- places that are a multiple of 16 apart
@@ -300,7 +300,7 @@ module _ (t s : ℕ) (ht : t < 128) (hs : s < 2) (dd : ℕ → List ℕ) (d : Li
   unfolding writtenSide
   run-place x k u lo hi =
       let a = triple-only (sideItem t s dd) 6250 k u in
-      let b = runs t s dd (k / 16) (a .1) in
+      let b = side-triple t s dd (k / 16) (a .1) in
       ⊎-elim (λ m. by-order (b .0) x (λ l. absurd (omega arith)) (λ l. by-order x (b .0) (λ n. absurd (omega arith)) (λ n. absurd (omega arith))))
       (λ m. by-order (b .0) x (λ l. absurd (omega arith)) (λ l. by-order x (b .0) (λ n. absurd (omega arith)) (λ n. omega arith)))
       (b .2)

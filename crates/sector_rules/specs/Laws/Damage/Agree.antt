@@ -15,7 +15,7 @@ use Rattle.cells.specs.Laws.Stream.{from-length}
 use Rattle.cells.specs.Laws.Sync.{sync-from}
 use Rattle.sector_rules.specs.declared.Id.{Id}
 use Rattle.sector_rules.specs.declared.Header.the-variants.{Is, Absent}
-use Rattle.sector_rules.specs.Search.{crcHolds, headerMark, headerCells, isHeader, idOf, headerOf, belongs, headerAt}
+use Rattle.sector_rules.specs.Search.{crcHolds, headerMark, headerCells, isHeader, idOf, headerOf, isHeaderOf, headerAt}
 
 module _ (c d : List ℕ) (long : length c ≡ length d) (a b : ℕ) (e : (k : ℕ) → a ≤ k → k < b → getD c k 0 ≡ getD d k 0) where
   byte-agree : (k : ℕ) → a ≤ k → k + 16 ≤ b → dataByte c k ≡ dataByte d k
@@ -71,4 +71,4 @@ module _ (c d : List ℕ) (long : length c ≡ length d) (a b : ℕ) (e : (k : �
   -- a header of the sector whose cells lie there stands on both sides or on none
   pub header-agree : (t s r i : ℕ) → a ≤ i → i + 160 ≤ b → headerAt c t s r i ≡ headerAt d t s r i
   unfolding headerAt headerOf
-  header-agree t s r i l h = ap₂ (λ (x : Bool) (y : Id). belongs t s r (cond x (Is y) Absent)) (is-agree i l h) (id-agree i l h)
+  header-agree t s r i l h = ap₂ (λ (x : Bool) (y : Id). isHeaderOf t s r (cond x (Is y) Absent)) (is-agree i l h) (id-agree i l h)

@@ -21,15 +21,15 @@ use Rattle.cells.specs.Laws.Crc.{follows-cong}
 use Rattle.cells.specs.Laws.Number.{byte-from}
 use Rattle.cells.specs.Laws.Stream.{from-length, from-bit, stream-bit}
 use Rattle.sector_rules.specs.declared.Found.the-variants.{One}
-use Rattle.sector_rules.specs.declared.Sector.the-variants.{Delivered, Fieldless, Damaged}
+use Rattle.sector_rules.specs.declared.Sector.the-variants.{Delivered, NoField, Damaged}
 use Rattle.sector_rules.specs.Geometry.{allSectors, imageBytes}
 use Rattle.sector_rules.specs.Search.{crcHolds, dataMark, headerCells, fieldCells, gapCells, isHeader, idOf, headerAt}
-use Rattle.sector_rules.specs.Search.{findSector, fieldAt, fieldOf, sectorOf, sectorByte, bytesOf}
+use Rattle.sector_rules.specs.Search.{findSector, fieldAt, fieldOf, sectorOf, sectorByte, deliveredBytes}
 use Rattle.sector_rules.specs.Hfe.{trackPart, trackLength, sideStream}
 use Rattle.sector_rules.specs.Unpacked.{trackOf, sideOf, rOf, sectorAt, sectorBytesAt, unpackReply, unpackedByte, unpackImage}
 use Rattle.sector_rules.specs.Damage.{Binary, headerBits, fieldBits, FieldDamage, SameField, sideWith, ImageFieldDamage}
 use Rattle.sector_rules.specs.Laws.Base.Search.{first-is}
-use Rattle.sector_rules.specs.Laws.Base.Told.{field-told, field-place, field-holds, header-crc, sector-told, header-told, gap-told, each-place}
+use Rattle.sector_rules.specs.Laws.Base.Told.{field-told, field-place, field-holds, told-header-crc, sector-told, header-told, gap-told, each-place}
 use Rattle.sector_rules.specs.Laws.Damage.Agree.{three-agree, header-agree}
 
 -- the test of a header's or a field's CRC, as the cell layer has it
@@ -54,7 +54,7 @@ sector-byte c j k =
 module _ (c d : List ℕ) (bc : Binary c) (bd : Binary d) (j : ℕ) (differ : Detectable (dataBit (from c j)) (dataBit (from d j)) fieldBits) where
   -- two fields whose CRC holds have the same data bits, and the same bytes
   field-same : crcHolds (from c j) 516 ≡ true → crcHolds (from d j) 516 ≡ true → SameField c d j
-  unfolding bytesOf
+  unfolding deliveredBytes
   field-same hc hd =
       record {
         bits =
@@ -74,7 +74,7 @@ module _ (c d : List ℕ) (bc : Binary c) (bd : Binary d) (j : ℕ) (differ : De
 
   -- a field of which a data bit is wrong is refused: as damaged where the mark is still there, else as absent
   pub field-refused : (p k : ℕ) → fieldAt c j ≡ Delivered p → length c ≡ length d → k < fieldBits → (dataBit (from c j) k ≡ dataBit (from d j) k → ⊥)
-      → fieldAt d j ≡ cond (eqb (dataByte (from d j) 48) dataMark) Damaged Fieldless
+      → fieldAt d j ≡ cond (eqb (dataByte (from d j) 48) dataMark) Damaged NoField
   unfolding fieldAt
   field-refused p k ec long h wrong =
       let fits : leb fieldCells (length (from d j)) ≡ true =
@@ -91,15 +91,15 @@ pub header-same : (c d : List ℕ) → Binary c → Binary d → (i : ℕ) → D
     → ((k : ℕ) → k < headerBits → dataBit (from c i) k ≡ dataBit (from d i) k) × (idOf (from c i) ≡ idOf (from d i))
 unfolding idOf
 header-same c d bc bd i differ hc hd = (
-  cells-bits (from c i) (from d i) (from-bit c i bc) (from-bit d i bd) 8 (holds-follows (from c i) 8 (header-crc (from c i) hc))
-      (holds-follows (from d i) 8 (header-crc (from d i) hd)) differ,
+  cells-bits (from c i) (from d i) (from-bit c i bc) (from-bit d i bd) 8 (holds-follows (from c i) 8 (told-header-crc (from c i) hc))
+      (holds-follows (from d i) 8 (told-header-crc (from d i) hd)) differ,
   λ k. record { c = same 4 (omega arith) k; h = same 5 (omega arith) k; r = same 6 (omega arith) k; n = same 7 (omega arith) k },
 )
   where
     same : (q : ℕ) → q < 10 → dataByte (from c i) (16 * q) ≡ dataByte (from d i) (16 * q)
     same q h =
-        cells-caught (from c i) (from d i) (from-bit c i bc) (from-bit d i bd) 8 (holds-follows (from c i) 8 (header-crc (from c i) hc))
-        (holds-follows (from d i) 8 (header-crc (from d i) hd)) differ q h
+        cells-caught (from c i) (from d i) (from-bit c i bc) (from-bit d i bd) 8 (holds-follows (from c i) 8 (told-header-crc (from c i) hc))
+        (holds-follows (from d i) 8 (told-header-crc (from d i) hd)) differ q h
 
 -- ---- one sector, two sides
 
@@ -110,7 +110,7 @@ module _ (c d : List ℕ) (long : length c ≡ length d) (i k : ℕ)
       → threeSync (from c (i + headerCells + k)) ≡ true → fieldOf d i ≡ fieldAt d (i + headerCells + k)
   unfolding fieldOf
   field-there h off on =
-      first-is (λ (j : ℕ). threeSync (from d j)) (fieldAt d) Fieldless (gapCells + 1) (i + headerCells) k h
+      first-is (λ (j : ℕ). threeSync (from d j)) (fieldAt d) NoField (gapCells + 1) (i + headerCells) k h
       (λ j l. sym (agree (i + headerCells + j) (omega arith) (omega arith)) ∙ off j l)
       (sym (agree (i + headerCells + k) (omega arith) (omega arith)) ∙ on)
     where
@@ -153,7 +153,7 @@ bytes-by : (h g : List ℕ) (m j q : ℕ) → sectorAt h m ≡ Delivered (j + 64
     → (q ≡ j + 64) × SameField (sideWith h m) (sideWith g m) j → sectorBytesAt h m ≡ sectorBytesAt g m
 unfolding sectorBytesAt
 bytes-by h g m j q eh eg same =
-    ap (bytesOf (sideWith h m)) eh ∙ same .1 .bytes ∙ ap (bytesOf (sideWith g m)) (sym (eg ∙ ap Delivered (same .0)))
+    ap (deliveredBytes (sideWith h m)) eh ∙ same .1 .bytes ∙ ap (deliveredBytes (sideWith g m)) (sym (eg ∙ ap Delivered (same .0)))
 
 -- images whose sides give the same at each sector have the same bytes at each image sector
 pub bytes-each : (h g : List ℕ)

@@ -21,7 +21,7 @@ use Rattle.sector_rules.specs.Packed.{hfeBytes, packHfe, sectorData, sid
 use Rattle.sector_rules.specs.Replies.{done}
 use Rattle.sector_rules.specs.Damage.{Binary, SameField, SideDamage, ImageSideDamage, RunsApart}
 use Rattle.sector_rules.specs.Laws.Base.Packed.{pack-done, hfe-after}
-use Rattle.sector_rules.specs.Laws.Trip.SideTrip.{writtenSide, runs, place, there}
+use Rattle.sector_rules.specs.Laws.Trip.SideTrip.{writtenSide, side-triple, place, there}
 use Rattle.sector_rules.specs.Laws.Trip.RoundTrip.{packedImage, stream-back}
 use Rattle.sector_rules.specs.Laws.Base.Told.{field-place, field-mark, header-split, header-join, header-syncs}
 use Rattle.sector_rules.specs.Laws.Base.Told.{header-mark, sector-told, header-told, gap-told}
@@ -87,8 +87,8 @@ written-apart t s ht hs d k j on off l h =
     (λ u.
     let a = triple-only (sideItem t s d) 6250 k on in
     let b = triple-only (sideItem t s d) 6250 j u in
-    let x = runs t s d (k / 16) (a .1) in
-    let y = runs t s d (j / 16) (b .1) in
+    let x = side-triple t s d (k / 16) (a .1) in
+    let y = side-triple t s d (j / 16) (b .1) in
     ⊎-elim
     (λ m.
     let e : 16 * (146 + 658 * x .0 + 12) ≡ k = omega arith in

@@ -14,19 +14,19 @@ use Rattle.laws.specs.Laws.Cases.{by-test}
 use Rattle.laws.specs.Laws.Tab.{eq-tab}
 use Rattle.cells.specs.Stream.{from, dataByte, dataBytes}
 use Rattle.cells.specs.Sync.{syncAt, threeSync}
-use Rattle.cells.specs.Written.{byteOf}
+use Rattle.cells.specs.Written.{itemByte}
 use Rattle.cells.specs.declared.Item.the-variants.{Plain, Sync}
 use Rattle.cells.specs.Theorems.{triple-only}
 use Rattle.cells.specs.Laws.Stream.{from-zero}
 use Rattle.cells.specs.Laws.Number.{bytes-list}
 use Rattle.sector_rules.specs.declared.Found.the-variants.{One}
-use Rattle.sector_rules.specs.declared.Sector.the-variants.{Delivered, Fieldless}
+use Rattle.sector_rules.specs.declared.Sector.the-variants.{Delivered, NoField}
 use Rattle.sector_rules.specs.Search.{crcHolds, dataMark, headerCells, gapCells, headerAt, placesBelow, foundOf}
-use Rattle.sector_rules.specs.Search.{findSector, fieldAt, fieldOf, sectorFound, sectorOf, sectorByte, bytesOf}
+use Rattle.sector_rules.specs.Search.{findSector, fieldAt, fieldOf, sectorFound, sectorOf, sectorByte, deliveredBytes}
 use Rattle.sector_rules.specs.Packed.{fieldCrc, withCrc, sectorItem, sideItem}
 use Rattle.sector_rules.specs.Laws.Base.Search.{crc-two, first-is}
 use Rattle.sector_rules.specs.Laws.Base.Packed.{sector-field, sector-mark, fieldCrc-lt, crc-before, crc-high, crc-low}
-use Rattle.sector_rules.specs.Laws.Trip.SideTrip.{writtenSide, runs, byte-at-item, sync-at-item, room, only, place, there}
+use Rattle.sector_rules.specs.Laws.Trip.SideTrip.{writtenSide, side-triple, byte-at-item, sync-at-item, room, only, place, there}
 
 -- ---- a test that holds at one place only
 
@@ -86,7 +86,7 @@ module _ (t s : ℕ) (d : ℕ → List ℕ) (k : ℕ) (hk : k < 9) (len : length
       let z : 59 + j - 59 ≡ j = omega arith in
       let x : sectorItem t s (k + 1) (d (k + 1)) (59 + j) ≡ Plain (getD (withCrc (dataMark ∷ d (k + 1))) j 0) =
       sector-field t s (k + 1) (d (k + 1)) (59 + j) (omega arith) (omega arith) ∙ rw z in
-      byte-at-item t s d k (59 + j) hk (omega arith) (rw x hb) p i e ∙ ap byteOf x
+      byte-at-item t s d k (59 + j) hk (omega arith) (rw x hb) p i e ∙ ap itemByte x
 
   row-small : (j : ℕ) → getD xs j 0 < 256
   unfolding xs
@@ -115,7 +115,7 @@ module _ (t s : ℕ) (d : ℕ → List ℕ) (k : ℕ) (hk : k < 9) (len : length
       by-test (threeSync (from (writtenSide t s d) (16 * (146 + 658 * k + 12) + 160 + j)))
       (λ e.
       let y = triple-only (sideItem t s d) 6250 (16 * (146 + 658 * k + 12) + 160 + j) e in
-      let z = runs t s d _ (y .1) in
+      let z = side-triple t s d _ (y .1) in
       absurd (⊎-elim (λ l. omega arith) (λ l. omega arith) (z .2)))
       (λ e. e)
 
@@ -128,7 +128,7 @@ module _ (t s : ℕ) (d : ℕ → List ℕ) (k : ℕ) (hk : k < 9) (len : length
 
       a1 : (j i : ℕ) → j < 3 → i ≡ 16 * j → dataByte (from (writtenSide t s d) (16 * (146 + 658 * k + 56))) i ≡ 0xA1
       a1 j i h e =
-          let x : byteOf (sectorItem t s (k + 1) (d (k + 1)) (56 + j)) ≡ 0xA1 = ap byteOf (marks j h) in
+          let x : itemByte (sectorItem t s (k + 1) (d (k + 1)) (56 + j)) ≡ 0xA1 = ap itemByte (marks j h) in
           byte-at-item t s d k (56 + j) hk (omega arith) (rw x (lit< tt)) (16 * (146 + 658 * k + 56)) i (omega arith) ∙ x
 
       byte : (j : ℕ) → j < length (0xA1 ∷ (0xA1 ∷ (0xA1 ∷ xs))) → dataByte f (0 + 16 * j) ≡ getD (0xA1 ∷ (0xA1 ∷ (0xA1 ∷ xs))) j 0
@@ -157,7 +157,7 @@ module _ (t s : ℕ) (d : ℕ → List ℕ) (k : ℕ) (hk : k < 9) (len : length
       let m : dataByte (from (writtenSide t s d) (16 * (146 + 658 * k + 56))) 48 ≡ dataMark =
       row-byte 0 (lit< tt) (16 * (146 + 658 * k + 56)) 48 (omega arith) in
       let r : 16 * (146 + 658 * k + 56) + 64 ≡ 16 * (146 + 658 * k + 60) = omega arith in
-      first-is (λ (j : ℕ). threeSync (from (writtenSide t s d) j)) (fieldAt (writtenSide t s d)) Fieldless (gapCells + 1)
+      first-is (λ (j : ℕ). threeSync (from (writtenSide t s d) j)) (fieldAt (writtenSide t s d)) NoField (gapCells + 1)
       (16 * (146 + 658 * k + 12) + headerCells) 544 (lit< tt) gap
       (rw e three-here)
       ∙ rw (e, le-leb _ _ l, eq-eqb _ _ m, field-holds, r)
@@ -178,6 +178,6 @@ module _ (t s : ℕ) (ht : t < 256) (hs : s < 256) (d : ℕ → List ℕ) (k : �
   sector-back = rw (found t s ht hs d k hk) (field-back t s d k hk len small)
 
   -- the bytes of each sector of a written side are those that were written
-  pub bytes-back : bytesOf (writtenSide t s d) (sectorOf (writtenSide t s d) t s (k + 1)) ≡ d (k + 1)
-  unfolding bytesOf c
+  pub bytes-back : deliveredBytes (writtenSide t s d) (sectorOf (writtenSide t s d) t s (k + 1)) ≡ d (k + 1)
+  unfolding deliveredBytes c
   bytes-back = rw sector-back (data-back t s d k hk len small)

@@ -12,7 +12,7 @@ use lib.Seq.{ext-getD, getD-take, getD-drop}
 use borrow.Author.Tests.{le-leb}
 use Rattle.laws.specs.Lists.{tab, window, standsAt}
 use Rattle.laws.specs.Below.{all}
-use Rattle.laws.specs.Numbers.{up, lowFirst, lowByte}
+use Rattle.laws.specs.Numbers.{quotientUp, lowFirst, lowByte}
 use Rattle.laws.specs.Laws.Cases.{by-order}
 use Rattle.laws.specs.Laws.All.{all-eq}
 use Rattle.laws.specs.Laws.Lowest.{lowest-none}
@@ -26,10 +26,10 @@ use Rattle.cells.specs.Laws.Written.{written-length, writtenCell-bit}
 use Rattle.sector_rules.specs.declared.Fault.the-variants.{Sound}
 use Rattle.sector_rules.specs.Replies.{done}
 use Rattle.sector_rules.specs.Geometry.{sectorBytes, allSectors, imageBytes}
-use Rattle.sector_rules.specs.Hfe.{signature, formatFault, flagFault, headerFault, entryPlace, trackStart}
-use Rattle.sector_rules.specs.Hfe.{trackLength, trackBytes, trackGood, tableFault, trackPart, sideStream}
+use Rattle.sector_rules.specs.Hfe.{hfeSignature, formatFault, flagFault, hfeHeaderFault, entryPlace, trackStart}
+use Rattle.sector_rules.specs.Hfe.{trackLength, trackUnitBytes, trackGood, tableFault, trackPart, sideStream}
 use Rattle.sector_rules.specs.Unpacked.{leastHfe, trackOf, sideOf, rOf, isBad, sectorAt, sectorBytesAt, firstBad, sectorsReply, unpackReply, unpackedByte}
-use Rattle.sector_rules.specs.Packed.{hfeBytes, headerRest, headerByte, tableByte, trackByte, hfeByte}
+use Rattle.sector_rules.specs.Packed.{hfeBytes, hfeHeaderRest, hfeHeaderByte, hfeTableByte, hfeTrackByte, hfeByte}
 use Rattle.sector_rules.specs.Packed.{packHfe, imageSectorOf, sectorData, imageSide, sideItem}
 use Rattle.sector_rules.specs.RoundTrip.{RoundTrip}
 use Rattle.sector_rules.specs.Laws.Base.Faults.{fault-none}
@@ -38,12 +38,12 @@ use Rattle.sector_rules.specs.Laws.Base.Unpacked.{sound-reply, image-aft
 use Rattle.sector_rules.specs.Laws.Trip.SideTrip.{writtenSide}
 use Rattle.sector_rules.specs.Laws.Trip.FieldTrip.{sector-back, bytes-back}
 
-sign-all : all (λ (k : ℕ). eqb (headerByte k) (getD signature k 0)) 8 ≡ true
-unfolding all headerByte signature headerRest lowByte
+sign-all : all (λ (k : ℕ). eqb (hfeHeaderByte k) (getD hfeSignature k 0)) 8 ≡ true
+unfolding all hfeHeaderByte hfeSignature hfeHeaderRest lowByte
 sign-all = refl
 
-sign-row : (k : ℕ) → k < 8 → headerByte k ≡ getD signature k 0
-sign-row = all-eq headerByte (λ (k : ℕ). getD signature k 0) 8 sign-all
+sign-row : (k : ℕ) → k < 8 → hfeHeaderByte k ≡ getD hfeSignature k 0
+sign-row = all-eq hfeHeaderByte (λ (k : ℕ). getD hfeSignature k 0) 8 sign-all
 
 module _ (image : List ℕ) where
   -- the written image
@@ -60,22 +60,22 @@ module _ (image : List ℕ) where
 
   -- ---- the header
 
-  front : (k : ℕ) → k < 512 → getD packedImage k 0 ≡ headerByte k
+  front : (k : ℕ) → k < 512 → getD packedImage k 0 ≡ hfeHeaderByte k
   front k h = byte k (omega arith) ∙ hfe-header image k h
 
-  signed : standsAt packedImage 0 signature ≡ true
-  unfolding signature
-  signed = stands-all packedImage 0 signature (rw size (omega arith)) each
+  signed : standsAt packedImage 0 hfeSignature ≡ true
+  unfolding hfeSignature
+  signed = stands-all packedImage 0 hfeSignature (rw size (omega arith)) each
     where
-      each : (k : ℕ) → k < 8 → getD packedImage (0 + k) 0 ≡ getD signature k 0
+      each : (k : ℕ) → k < 8 → getD packedImage (0 + k) 0 ≡ getD hfeSignature k 0
       each k h = rw zero-add (front k (omega arith) ∙ sign-row k h)
 
   table-unit : lowFirst packedImage 18 2 ≡ 1
-  unfolding lowFirst headerByte signature headerRest lowByte
+  unfolding lowFirst hfeHeaderByte hfeSignature hfeHeaderRest lowByte
   table-unit = rw (front 18 (lit< tt), front 19 (lit< tt))
 
-  header-sound : headerFault packedImage ≡ Sound
-  unfolding headerFault formatFault flagFault lowFirst headerByte signature headerRest lowByte
+  header-sound : hfeHeaderFault packedImage ≡ Sound
+  unfolding hfeHeaderFault formatFault flagFault lowFirst hfeHeaderByte hfeSignature hfeHeaderRest lowByte
   header-sound =
       rw (
         signed,
@@ -98,7 +98,7 @@ module _ (image : List ℕ) where
     unfolding entryPlace
     entry = rw table-unit
 
-    in-table : (j : ℕ) → j < 4 → getD packedImage (512 + 4 * t + j) 0 ≡ tableByte (4 * t + j)
+    in-table : (j : ℕ) → j < 4 → getD packedImage (512 + 4 * t + j) 0 ≡ hfeTableByte (4 * t + j)
     in-table j h =
         let e : 512 + 4 * t + j - 512 ≡ 4 * t + j = omega arith in
         byte (512 + 4 * t + j) (omega arith) ∙ hfe-table image (512 + 4 * t + j) (omega arith) (omega arith) ∙ rw e
@@ -126,8 +126,8 @@ module _ (image : List ℕ) where
     unfolding trackLength
     track-long = rw (entry, long)
 
-    track-size : trackBytes packedImage t ≡ 25088
-    unfolding trackBytes up
+    track-size : trackUnitBytes packedImage t ≡ 25088
+    unfolding trackUnitBytes quotientUp
     track-size = rw track-long
 
     good : trackGood packedImage t ≡ true
@@ -161,7 +161,7 @@ module _ (image : List ℕ) where
         ∙ rw (a, r) (in-side o b h (omega arith) (omega arith)))
       where
         in-side : (o b : ℕ) → b < 12500 → o % 512 / 256 ≡ s → 256 * (o / 512) + o % 256 ≡ b
-            → trackByte image t o ≡ packed (writtenCell (imageSide image t s)) b
+            → hfeTrackByte image t o ≡ packed (writtenCell (imageSide image t s)) b
         in-side o c l e f = track-in image t o (rw f l) ∙ rw (e, f)
 
     cell-back : (i : ℕ) → i < 100000

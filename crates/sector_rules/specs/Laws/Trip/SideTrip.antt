@@ -14,7 +14,7 @@ use Rattle.laws.specs.Numbers.{highByte}
 use Rattle.laws.specs.Laws.Tests.{and-right}
 use Rattle.cells.specs.Stream.{from, dataByte, dataBytes}
 use Rattle.cells.specs.Sync.{syncAt, threeSync}
-use Rattle.cells.specs.Written.{byteOf, written, Triple}
+use Rattle.cells.specs.Written.{itemByte, written, Triple}
 use Rattle.cells.specs.declared.Item.{Item}
 use Rattle.cells.specs.declared.Item.the-variants.{Plain, Sync, Index}
 use Rattle.cells.specs.Theorems.{triple-only}
@@ -83,9 +83,9 @@ module _ (t s : ℕ) (d : ℕ → List ℕ) where
       (span-sync 5922 _ _ _ (a₅ .1))
 
   -- three sync marks in a row stand at a header or at a data field alone
-  pub runs : (q : ℕ) → Triple (sideItem t s d) q
+  pub side-triple : (q : ℕ) → Triple (sideItem t s d) q
       → (k : ℕ) × (k < 9) × ((q ≡ 146 + 658 * k + 12) ⊎ (q ≡ 146 + 658 * k + 56))
-  runs q tr =
+  side-triple q tr =
       let a = side-runs q (tr .first) in
       let b = side-runs (q + 2) (tr .third) in (
         (q - 146) / 658,
@@ -104,13 +104,13 @@ module _ (t s : ℕ) (d : ℕ → List ℕ) where
       side-sector t s d (146 + 658 * k + o) (omega arith) (omega arith) ∙ rw (a, b)
 
   -- the byte of item o of a sector is read at its cells
-  pub byte-at-item : (k o : ℕ) → k < 9 → o < 658 → byteOf (sectorItem t s (k + 1) (d (k + 1)) o) < 256
-      → (p j : ℕ) → p + j ≡ 16 * (146 + 658 * k + o) → dataByte (from (writtenSide t s d) p) j ≡ byteOf (sectorItem t s (k + 1) (d (k + 1)) o)
+  pub byte-at-item : (k o : ℕ) → k < 9 → o < 658 → itemByte (sectorItem t s (k + 1) (d (k + 1)) o) < 256
+      → (p j : ℕ) → p + j ≡ 16 * (146 + 658 * k + o) → dataByte (from (writtenSide t s d) p) j ≡ itemByte (sectorItem t s (k + 1) (d (k + 1)) o)
   unfolding writtenSide
   byte-at-item k o hk ho hb p j e =
       let x : sideItem t s d (146 + 658 * k + o) ≡ sectorItem t s (k + 1) (d (k + 1)) o = item-at k o hk ho in
       byte-from (written (sideItem t s d) 6250) p j ∙ ap (dataByte (written (sideItem t s d) 6250)) e
-      ∙ byte-at (sideItem t s d) 6250 (146 + 658 * k + o) (omega arith) (rw x hb) ∙ ap byteOf x
+      ∙ byte-at (sideItem t s d) 6250 (146 + 658 * k + o) (omega arith) (rw x hb) ∙ ap itemByte x
 
   -- a sync mark that is item o of a sector is found at its cells
   pub sync-at-item : (k o : ℕ) → k < 9 → o < 658 → sectorItem t s (k + 1) (d (k + 1)) o ≡ Sync
@@ -144,7 +144,7 @@ module _ (t s : ℕ) (d : ℕ → List ℕ) where
   only r i e =
       let x = header-true (writtenSide t s d) t s r i e in
       let y = triple-only (sideItem t s d) 6250 i (x .0) in
-      let z = runs t s d (i / 16) (y .1) in
+      let z = side-triple t s d (i / 16) (y .1) in
       ⊎-elim
       (λ l.
       let w : z .0 + 1 ≡ r = sym (byte-at-item t s d (z .0) 18 (z .1) (lit< tt) (omega arith) i 96 (omega arith)) ∙ x .2 in
@@ -167,7 +167,7 @@ module _ (t s : ℕ) (ht : t < 256) (hs : s < 256) (d : ℕ → List ℕ) (k : �
   item : ℕ → Item
   item = sectorItem t s (k + 1) (d (k + 1))
 
-  at : (j : ℕ) → j < 646 → byteOf (item (12 + j)) < 256 → dataByte f (16 * j) ≡ byteOf (item (12 + j))
+  at : (j : ℕ) → j < 646 → itemByte (item (12 + j)) < 256 → dataByte f (16 * j) ≡ itemByte (item (12 + j))
   unfolding f place item
   at j hj hb = byte-at-item t s d k (12 + j) hk (omega arith) hb (16 * (146 + 658 * k + 12)) (16 * j) (omega arith)
 

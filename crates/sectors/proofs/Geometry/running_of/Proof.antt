@@ -3,7 +3,7 @@
 use Prim.Native.Nat.{_+_, _-_, _*_, _/_, _%_}
 use native.Mathlib.Omega.{arith}
 use borrow.Author.Needs.{needs}
-use Rattle.sector_rules.specs.Geometry.{sectors, trackSectors, turn, runningSector, backward}
+use Rattle.sector_rules.specs.Geometry.{sectors, trackSectors, trackOffset, runningSector, backward}
 use Rattle.sectors.specs.Laws.Reading.Tables.{backward-bound}
 use Rattle.sectors.proofs.Geometry.running_of.Statement.{statement}
 use Rattle.sectors.proofs.Geometry.running_of.Tie as tie
@@ -28,14 +28,14 @@ array-read-left c = search needs
 
 cast-left : tie.Need-cast-left
 unfolding backward
-cast-left c = omega (arith, backward-bound (sectors * (c .before .before .before .args .m .0 % trackSectors / sectors) + (c .before .before .before .args .m .0 % sectors + (sectors - turn) * (c .before .before .before .args .m .0 / trackSectors)) % sectors) (omega arith))
+cast-left c = omega (arith, backward-bound (sectors * (c .before .before .before .args .m .0 % trackSectors / sectors) + (c .before .before .before .args .m .0 % sectors + (sectors - trackOffset) * (c .before .before .before .args .m .0 / trackSectors)) % sectors) (omega arith))
 
 mul-t8 : tie.Need-mul-t8
 mul-t8 c = search needs
 
 add-t7 : tie.Need-add-t7
 unfolding backward
-add-t7 c = omega (arith, backward-bound (sectors * (c .before .before .before .args .m .0 % trackSectors / sectors) + (c .before .before .before .args .m .0 % sectors + (sectors - turn) * (c .before .before .before .args .m .0 / trackSectors)) % sectors) (omega arith))
+add-t7 c = omega (arith, backward-bound (sectors * (c .before .before .before .args .m .0 % trackSectors / sectors) + (c .before .before .before .args .m .0 % sectors + (sectors - trackOffset) * (c .before .before .before .args .m .0 / trackSectors)) % sectors) (omega arith))
 
 returns : tie.Need-returns
 unfolding runningSector backward

@@ -8,8 +8,8 @@ use Rattle.sectors.proofs.hfe.track_good.Tie as tie
 track-start-requires : tie.Need-track-start-requires
 track-start-requires c κs = search needs
 
-track-bytes-requires : tie.Need-track-bytes-requires
-track-bytes-requires c κs = search needs
+track-unit-bytes-requires : tie.Need-track-unit-bytes-requires
+track-unit-bytes-requires c κs = search needs
 
 add-end : tie.Need-add-end
 add-end c = search needs
@@ -32,7 +32,7 @@ track-good-spec =
     tie.close
     (tie.spec
     track-start-requires
-    track-bytes-requires
+    track-unit-bytes-requires
     add-end
     track-length-requires
     entry-place-requires

@@ -5,21 +5,21 @@ use Prim.Native.Nat.{_+_, _-_, _≤_}
 use native.Mathlib.Omega.{arith}
 use lib.ListN.{length}
 use borrow.Author.Needs.{needs}
-use Rattle.sector_rules.specs.Hfe.{trackPart, trackStart, trackBytes}
+use Rattle.sector_rules.specs.Hfe.{trackPart, trackStart, trackUnitBytes}
 use Rattle.sectors.specs.Laws.Reading.Tables.{table-good, track-within}
 use Rattle.sectors.proofs.hfe.track_part.Statement.{statement}
 use Rattle.sectors.proofs.hfe.track_part.Tie as tie
 
-within : (c : tie.After-track-bytes)
-    → trackStart (c .before .before .before .args .hfe .now) (c .before .before .before .args .t) + trackBytes (c .before .before .before .args .hfe .now) (c .before .before .before .args .t)
+within : (c : tie.After-track-unit-bytes)
+    → trackStart (c .before .before .before .args .hfe .now) (c .before .before .before .args .t) + trackUnitBytes (c .before .before .before .args .hfe .now) (c .before .before .before .args .t)
     ≤ length (c .before .before .before .args .hfe .now)
 within c = track-within _ _ (table-good _ (c .before .before .before .pre .1) _ (c .before .before .before .pre .0))
 
 track-start-requires : tie.Need-track-start-requires
 track-start-requires c κs = search needs
 
-track-bytes-requires : tie.Need-track-bytes-requires
-track-bytes-requires c κs = search needs
+track-unit-bytes-requires : tie.Need-track-unit-bytes-requires
+track-unit-bytes-requires c κs = search needs
 
 add-end : tie.Need-add-end
 add-end c = search needs
@@ -35,15 +35,15 @@ part-result-end c = omega (arith, within c)
 
 returns : tie.Need-returns
 unfolding trackPart
-returns c = let e : c .before .before .track-start .result + c .before .track-bytes .result - c .before .before .track-start .result ≡ c .before .track-bytes .result = omega arith in
-    rw (e, ← c .before .before .track-start .ensures .0, ← c .before .track-bytes .ensures .0)
+returns c = let e : c .before .before .track-start .result + c .before .track-unit-bytes .result - c .before .before .track-start .result ≡ c .before .track-unit-bytes .result = omega arith in
+    rw (e, ← c .before .before .track-start .ensures .0, ← c .before .track-unit-bytes .ensures .0)
 
 pub track-part-spec : {M : Type 1} → statement M
 track-part-spec =
     tie.close
     (tie.spec
     track-start-requires
-    track-bytes-requires
+    track-unit-bytes-requires
     add-end
     sub-result
     part-result-start

@@ -2,8 +2,8 @@
 -- Assumes nothing.
 use mathlib.Core.Path.{_∙_}
 use Rattle.laws.specs.Numbers.{lowByte}
-use Rattle.sector_rules.specs.Hfe.{signature}
-use Rattle.sector_rules.specs.Packed.{headerRest}
+use Rattle.sector_rules.specs.Hfe.{hfeSignature}
+use Rattle.sector_rules.specs.Packed.{hfeHeaderRest}
 use Rattle.sectors.specs.Laws.Packing.Runs.{header-written}
 use borrow.Author.Needs.{needs}
 use Rattle.sectors.proofs.packing.write_header.Statement.{statement}
@@ -31,7 +31,7 @@ same-length : tie.Need-same-length
 same-length c = search needs
 
 returns : tie.Need-returns
-unfolding signature headerRest lowByte
+unfolding hfeSignature hfeHeaderRest lowByte
 returns c = c .before .before .fill .ensures ∙ header-written _ _ _ (c .before .before .before .before .before .before .before .before .before .before .before .copy-into .ensures) (c .before .before .before .before .before .before .copy-into2 .ensures)
 
 pub write-header-spec : {M : Type 1} → statement M

@@ -8,12 +8,12 @@ use borrow.Author.Needs.{needs}
 use Rattle.laws.specs.Changes.{overlay}
 use Rattle.laws.specs.Laws.Overlay.{overlay-none, overlay-more}
 use Rattle.sector_rules.specs.Hfe.{unitBytes}
-use Rattle.sector_rules.specs.Packed.{tableByte, hfeBytes}
+use Rattle.sector_rules.specs.Packed.{hfeTableByte, hfeBytes}
 use Rattle.sectors.proofs.packing.write_table.Statement.{statement}
 use Rattle.sectors.proofs.packing.write_table.Tie as tie
 
 abbrev Inv-loop : tie.InvT-loop
-Inv-loop hfe₀ j₀ hfe j = (j ≤ unitBytes) × (length hfe ≡ hfeBytes) × (hfe ≡ overlay hfe₀ unitBytes j tableByte)
+Inv-loop hfe₀ j₀ hfe j = (j ≤ unitBytes) × (length hfe ≡ hfeBytes) × (hfe ≡ overlay hfe₀ unitBytes j hfeTableByte)
 
 abbrev μ-loop : tie.MeasureT-loop
 μ-loop hfe₀ j₀ hfe j = unitBytes - j

@@ -8,7 +8,7 @@ use Rattle.cells.specs.Stream.{stream, from}
 use Rattle.cells.specs.Sync.{threeSync}
 use Rattle.cells.specs.Laws.Stream.{rest-length}
 use Rattle.cells.specs.Laws.Sync.{three-past}
-use Rattle.sector_rules.specs.declared.Sector.the-variants.{Fieldless}
+use Rattle.sector_rules.specs.declared.Sector.the-variants.{NoField}
 use Rattle.sector_rules.specs.Search.{first, fieldAt, fieldOf}
 use Rattle.sectors.specs.Laws.Reading.Search.{first-here, first-later, first-none}
 use Rattle.sectors.proofs.search.field_of.Statement.{statement}
@@ -16,7 +16,7 @@ use Rattle.sectors.proofs.search.field_of.Tie as tie
 
 abbrev Inv-loop : tie.InvT-loop
 Inv-loop part side i k₀ k = (k ≤ 689) × (i < 2 ^ 32)
-    × (fieldOf (stream part side) i ≡ first (λ (j : ℕ). threeSync (from (stream part side) j)) (fieldAt (stream part side)) Fieldless (689 - k) (i + 160 + k))
+    × (fieldOf (stream part side) i ≡ first (λ (j : ℕ). threeSync (from (stream part side) j)) (fieldAt (stream part side)) NoField (689 - k) (i + 160 + k))
 
 abbrev μ-loop : tie.MeasureT-loop
 μ-loop part side i k₀ k = 689 - k

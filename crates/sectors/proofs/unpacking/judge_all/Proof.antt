@@ -6,7 +6,7 @@ use native.Mathlib.Omega.{arith}
 use lib.ListN.{length}
 use borrow.Author.Needs.{needs}
 use Rattle.sector_rules.specs.Geometry.{tracks, sides, sectors, allSectors}
-use Rattle.sectors.specs.Laws.Unpacking.Judged.{Noted, noted-none, all-good}
+use Rattle.sectors.specs.Laws.Unpacking.SectorsJudged.{Noted, noted-none, all-good}
 use Rattle.sectors.proofs.unpacking.judge_all.Statement.{statement}
 use Rattle.sectors.proofs.unpacking.judge_all.Tie as tie
 

@@ -6,7 +6,7 @@ use native.Mathlib.Omega.{arith}
 use lib.ListN.{length, length-set}
 use borrow.Author.Needs.{needs}
 use Rattle.sector_rules.specs.Geometry.{sectors, allSectors}
-use Rattle.sectors.specs.Laws.Unpacking.Judged.{Noted, noted-more, judged-stop, judged-good}
+use Rattle.sectors.specs.Laws.Unpacking.SectorsJudged.{Noted, noted-more, judged-stop, judged-good}
 use Rattle.sectors.proofs.unpacking.judge_side.Statement.{statement}
 use Rattle.sectors.proofs.unpacking.judge_side.Tie as tie
 

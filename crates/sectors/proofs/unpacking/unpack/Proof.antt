@@ -18,8 +18,8 @@ refused-requires-2 c κs = search needs
 returns-2 : tie.Need-returns-2
 returns-2 c = let e = length-reply _ _ (c .before .before .if1 .left) (c .before .if2 .taken) in (c .refused2 .ensures ∙ sym e, sym (image-after _ _ _ e))
 
-header-fault-requires : tie.Need-header-fault-requires
-header-fault-requires c κs = search needs
+hfe-header-fault-requires : tie.Need-hfe-header-fault-requires
+hfe-header-fault-requires c κs = search needs
 
 enum-known-o : tie.Need-enum-known-o
 enum-known-o c = search needs
@@ -28,7 +28,7 @@ refused-requires-3 : tie.Need-refused-requires-3
 refused-requires-3 c κs = search needs
 
 returns-3 : tie.Need-returns-3
-returns-3 c = let e = header-reply _ _ (c .before .before .before .before .before .before .if1 .left) (c .before .before .before .before .before .if2 .left) _ (sym (c .before .before .before .before .header-fault .ensures) ∙ c .before .before .o .given .1) in
+returns-3 c = let e = header-reply _ _ (c .before .before .before .before .before .before .if1 .left) (c .before .before .before .before .before .if2 .left) _ (sym (c .before .before .before .before .hfe-header-fault .ensures) ∙ c .before .before .o .given .1) in
     (c .refused3 .ensures ∙ sym e, sym (image-after _ _ _ e))
 
 enum-told : tie.Need-enum-told
@@ -50,14 +50,14 @@ unpack-sectors-requires : tie.Need-unpack-sectors-requires
 unpack-sectors-requires c κs = (sym (c .before .before .before .table-fault .ensures) ∙ c .before .enum-told2 .given .1, c .before .before .before .before .before .before .before .if2 .left)
 
 returns-4 : tie.Need-returns-4
-returns-4 c = let e = table-reply _ _ (c .before .before .before .before .before .before .before .before .before .if1 .left) (c .before .before .before .before .before .before .before .before .if2 .left) (sym (c .before .before .before .before .before .before .before .header-fault .ensures) ∙ c .before .before .before .before .before .enum-told .given .1) _ (sym (c .before .before .before .before .table-fault .ensures) ∙ c .before .before .t .given .1) in
+returns-4 c = let e = table-reply _ _ (c .before .before .before .before .before .before .before .before .before .if1 .left) (c .before .before .before .before .before .before .before .before .if2 .left) (sym (c .before .before .before .before .before .before .before .hfe-header-fault .ensures) ∙ c .before .before .before .before .before .enum-told .given .1) _ (sym (c .before .before .before .before .table-fault .ensures) ∙ c .before .before .t .given .1) in
     (c .refused4 .ensures ∙ sym e, sym (image-after _ _ _ e))
 
 same-length : tie.Need-same-length
 same-length c = search needs
 
 returns-5 : tie.Need-returns-5
-returns-5 c = let e = sound-reply _ _ (c .before .before .before .before .before .before .before .before .before .before .before .if1 .left) (c .before .before .before .before .before .before .before .before .before .before .if2 .left) (sym (c .before .before .before .before .before .before .before .before .before .header-fault .ensures) ∙ c .before .before .before .before .before .before .before .enum-told .given .1) (sym (c .before .before .before .before .before .before .table-fault .ensures) ∙ c .before .before .before .before .enum-told2 .given .1) in
+returns-5 c = let e = sound-reply _ _ (c .before .before .before .before .before .before .before .before .before .before .before .if1 .left) (c .before .before .before .before .before .before .before .before .before .before .if2 .left) (sym (c .before .before .before .before .before .before .before .before .before .hfe-header-fault .ensures) ∙ c .before .before .before .before .before .before .before .enum-told .given .1) (sym (c .before .before .before .before .before .before .table-fault .ensures) ∙ c .before .before .before .before .enum-told2 .given .1) in
     (c .before .before .unpack-sectors .ensures .answer ∙ sym e, c .before .before .unpack-sectors .ensures .after ∙ sym (image-after _ _ _ e))
 
 pub unpack-spec : {M : Type 1} → statement M
@@ -68,7 +68,7 @@ unpack-spec =
     returns
     refused-requires-2
     returns-2
-    header-fault-requires
+    hfe-header-fault-requires
     enum-known-o
     refused-requires-3
     returns-3

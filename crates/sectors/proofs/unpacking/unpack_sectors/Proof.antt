@@ -1,7 +1,7 @@
 -- `unpack_sectors` meets its contract.
 -- Assumes nothing.
 use mathlib.Core.Path.{refl}
-use Rattle.sectors.specs.Laws.Unpacking.Judged.{refused-after, written-after}
+use Rattle.sectors.specs.Laws.Unpacking.SectorsJudged.{refused-after, written-after}
 use borrow.Author.Needs.{needs}
 use Rattle.sectors.proofs.unpacking.unpack_sectors.Statement.{statement}
 use Rattle.sectors.proofs.unpacking.unpack_sectors.Tie as tie

@@ -3,7 +3,7 @@
 use mathlib.Core.Path.{sym, _∙_}
 use native.Mathlib.Omega.{arith}
 use borrow.Author.Needs.{needs}
-use Rattle.cells.specs.Laws.Written.{before-first, before-later}
+use Rattle.cells.specs.Laws.Written.{before-first, item-before-later}
 use Rattle.sectors.proofs.written.bit_before.Statement.{statement}
 use Rattle.sectors.proofs.written.bit_before.Tie as tie
 
@@ -20,7 +20,7 @@ last-bit-requires : tie.Need-last-bit-requires
 last-bit-requires c κs = search needs
 
 returns-2 : tie.Need-returns-2
-returns-2 c = c .last-bit .ensures ∙ rw (c .before .side-item .ensures) (sym (before-later _ _ (omega arith)))
+returns-2 c = c .last-bit .ensures ∙ rw (c .before .side-item .ensures) (sym (item-before-later _ _ (omega arith)))
 
 pub bit-before-spec : {M : Type 1} → statement M
 bit-before-spec =

@@ -14,11 +14,11 @@ returns c = λ d. sym (sector-lead _ _ _ d _ (omega arith))
 returns-2 : tie.Need-returns-2
 returns-2 c = λ d. sym (sector-sync _ _ _ d _ (omega arith) (omega arith))
 
-header-byte-requires : tie.Need-header-byte-requires
-header-byte-requires c κs = search needs
+sector-header-byte-requires : tie.Need-sector-header-byte-requires
+sector-header-byte-requires c κs = search needs
 
 returns-3 : tie.Need-returns-3
-returns-3 c = λ d. ap Plain (c .header-byte .ensures) ∙ sym (sector-header _ _ _ d _ (omega arith) (omega arith))
+returns-3 c = λ d. ap Plain (c .sector-header-byte .ensures) ∙ sym (sector-header _ _ _ d _ (omega arith) (omega arith))
 
 returns-4 : tie.Need-returns-4
 returns-4 c = λ d. sym (sector-gap _ _ _ d _ (omega arith) (omega arith))
@@ -32,4 +32,4 @@ returns-6 c = λ d. sym (sector-mark _ _ _ d _ (omega arith) (omega arith))
 pub header-item-spec : {M : Type 1} → statement M
 header-item-spec =
     tie.close
-    (tie.spec returns returns-2 header-byte-requires returns-3 returns-4 returns-5 returns-6)
+    (tie.spec returns returns-2 sector-header-byte-requires returns-3 returns-4 returns-5 returns-6)

@@ -14,9 +14,9 @@ use Rattle.cells.specs.Laws.Crc.{crcFrom-append}
 use Rattle.cells.specs.declared.Item.the-variants.{Plain, Index}
 use Rattle.sector_rules.specs.Replies.{reply}
 use Rattle.sector_rules.specs.Geometry.{tracks, sectorBytes, imageBytes}
-use Rattle.sector_rules.specs.Hfe.{signature}
+use Rattle.sector_rules.specs.Hfe.{hfeSignature}
 use Rattle.sector_rules.specs.Search.{dataMark}
-use Rattle.sector_rules.specs.Packed.{hfeBytes, fillByte, headerRest, headerByte, tableByte, packReply}
+use Rattle.sector_rules.specs.Packed.{hfeBytes, fillByte, hfeHeaderRest, hfeHeaderByte, hfeTableByte, packReply}
 use Rattle.sector_rules.specs.Packed.{fieldCrc, withCrc, headerRow, gapByte, sectorItem, sideItem}
 use Rattle.sector_rules.specs.Laws.Base.Packed.{span-left, span-right, past-lead, crc-before, crc-high, crc-low}
 
@@ -69,9 +69,9 @@ module _ (t s : ℕ) (d : ℕ → List ℕ) (q : ℕ) where
 -- ---- rows with a CRC
 
 -- the CRC of a header row, as code computes it
-pub header-crc : (t s r : ℕ) → crcFrom crcStart (0xA1 ∷ (0xA1 ∷ (0xA1 ∷ headerRow t s r))) ≡ fieldCrc (headerRow t s r)
+pub header-row-crc : (t s r : ℕ) → crcFrom crcStart (0xA1 ∷ (0xA1 ∷ (0xA1 ∷ headerRow t s r))) ≡ fieldCrc (headerRow t s r)
 unfolding fieldCrc crc
-header-crc t s r = refl
+header-row-crc t s r = refl
 
 -- the CRC of a field whose 512 bytes stand in a list, as code computes it
 pub field-crc : (image : List ℕ) (at : ℕ) → at + sectorBytes ≤ length image
@@ -119,15 +119,15 @@ module _ (image : List ℕ) (at : ℕ) where
 -- ---- the bytes of the image
 
 -- the header bytes that are not named are FF
-pub header-out : (k : ℕ) → 20 ≤ k → headerByte k ≡ fillByte
-unfolding headerByte signature headerRest lowByte
-header-out k h = List·getD-eq-default (signature ++ headerRest) fillByte h
+pub header-out : (k : ℕ) → 20 ≤ k → hfeHeaderByte k ≡ fillByte
+unfolding hfeHeaderByte hfeSignature hfeHeaderRest lowByte
+header-out k h = List·getD-eq-default (hfeSignature ++ hfeHeaderRest) fillByte h
 
 -- past the last entry
 module _ (j : ℕ) where
   -- the table bytes after the last track's entry are FF
-  pub table-past : 4 * tracks ≤ j → tableByte j ≡ fillByte
-  unfolding tableByte
+  pub table-past : 4 * tracks ≤ j → hfeTableByte j ≡ fillByte
+  unfolding hfeTableByte
   table-past h = rw (le-ltb j (4 * tracks) h)
 
 -- refusals

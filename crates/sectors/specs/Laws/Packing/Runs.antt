@@ -16,13 +16,13 @@ use Rattle.laws.specs.Laws.All.{all-eq}
 use Rattle.laws.specs.Laws.Overlay.{overlay-more, overlay-cong, overlay-on, overlay-next, overlay-all}
 use Rattle.cells.specs.Mfm.{bitOf}
 use Rattle.cells.specs.Stream.{packed}
-use Rattle.cells.specs.Written.{byteOf, itemCell, bitBefore, writtenCell}
-use Rattle.cells.specs.Laws.Written.{packed-item, before-later}
+use Rattle.cells.specs.Written.{itemByte, itemCell, bitBefore, writtenCell}
+use Rattle.cells.specs.Laws.Written.{packed-item, item-before-later}
 use Rattle.cells.specs.declared.Item.{Item}
 use Rattle.sector_rules.specs.Geometry.{tracks, sides}
-use Rattle.sector_rules.specs.Hfe.{signature, unitBytes}
+use Rattle.sector_rules.specs.Hfe.{hfeSignature, unitBytes}
 use Rattle.sector_rules.specs.Packed.{imageSide, sideItems, sideBytes, trackUnits, firstUnit, hfeBytes}
-use Rattle.sector_rules.specs.Packed.{fillByte, headerRest, headerByte, tableByte, trackByte, hfeByte}
+use Rattle.sector_rules.specs.Packed.{fillByte, hfeHeaderRest, hfeHeaderByte, hfeTableByte, hfeTrackByte, hfeByte}
 use Rattle.sector_rules.specs.Laws.Base.Packed.{hfe-header, hfe-table, hfe-track}
 use Rattle.sectors.specs.Laws.Packing.Items.{header-out}
 
@@ -57,10 +57,10 @@ module _ (items : ℕ → Item) (q p : ℕ) (item : Item) (is-bit : p ≡ bitBef
       sym (packed-item items b ∙ rw (d, r, is-bit, is-item))
 
   -- the last bit of an item is the bit before the next one
-  pub bit-next : (n : ℕ) → n ≡ q + 1 → bitOf (byteOf item) 7 ≡ bitBefore items n
+  pub bit-next : (n : ℕ) → n ≡ q + 1 → bitOf (itemByte item) 7 ≡ bitBefore items n
   bit-next n e =
       let z : n - 1 ≡ q = omega arith in
-      sym (before-later items n (omega arith) ∙ rw (z, is-item))
+      sym (item-before-later items n (omega arith) ∙ rw (z, is-item))
 
   -- the two bytes of one more item, written after those of the items before it
   pub items-more : (d out : List ℕ) (at first i x y : ℕ) → q ≡ first + i → at + (2 * i + 1) < length d → out ≡ overlay d at (2 * i) (itemsByte items first)
@@ -105,7 +105,7 @@ module _ (image : List ℕ) (t s u : ℕ) where
 module _ (image : List ℕ) (w : ℕ) where
   -- run w is the w-th half of a unit
   run-is : (k : ℕ) → k < runBytes → runByte image (w / sides / trackUnits) (w % sides) (w / sides % trackUnits) k ≡ tracksByte image (runBytes * w + k)
-  unfolding tracksByte runByte trackByte
+  unfolding tracksByte runByte hfeTrackByte
   run-is k l =
       let y : firstUnit * unitBytes + (runBytes * w + k) - firstUnit * unitBytes ≡ runBytes * w + k = omega arith in
       let t : (runBytes * w + k) / (trackUnits * unitBytes) ≡ w / sides / trackUnits = omega arith in
@@ -127,42 +127,42 @@ module _ (image : List ℕ) (w : ℕ) where
 
 -- ---- the header's unit
 
-signature-is : (k : ℕ) → k < 8 → elementAt signature 0 k ≡ headerByte k
-unfolding all elementAt signature headerByte headerRest lowByte
-signature-is = all-eq (λ (k : ℕ). elementAt signature 0 k) headerByte 8 refl
+signature-is : (k : ℕ) → k < 8 → elementAt hfeSignature 0 k ≡ hfeHeaderByte k
+unfolding all elementAt hfeSignature hfeHeaderByte hfeHeaderRest lowByte
+signature-is = all-eq (λ (k : ℕ). elementAt hfeSignature 0 k) hfeHeaderByte 8 refl
 
-rest-is : (k : ℕ) → k < 12 → elementAt headerRest 0 k ≡ headerByte (8 + k)
-unfolding all elementAt signature headerByte headerRest lowByte
-rest-is = all-eq (λ (k : ℕ). elementAt headerRest 0 k) (λ (k : ℕ). headerByte (8 + k)) 12 refl
+rest-is : (k : ℕ) → k < 12 → elementAt hfeHeaderRest 0 k ≡ hfeHeaderByte (8 + k)
+unfolding all elementAt hfeSignature hfeHeaderByte hfeHeaderRest lowByte
+rest-is = all-eq (λ (k : ℕ). elementAt hfeHeaderRest 0 k) (λ (k : ℕ). hfeHeaderByte (8 + k)) 12 refl
 
-put-signature : (d : List ℕ) → put d 0 signature ≡ overlay d 0 8 (elementAt signature 0)
-unfolding put signature
+put-signature : (d : List ℕ) → put d 0 hfeSignature ≡ overlay d 0 8 (elementAt hfeSignature 0)
+unfolding put hfeSignature
 put-signature d = refl
 
-put-rest : (d : List ℕ) → put d 8 headerRest ≡ overlay d 8 12 (elementAt headerRest 0)
-unfolding put headerRest
+put-rest : (d : List ℕ) → put d 8 hfeHeaderRest ≡ overlay d 8 12 (elementAt hfeHeaderRest 0)
+unfolding put hfeHeaderRest
 put-rest d = refl
 
 -- signature, the rest of the header as it is named, and FF are the header
-pub header-written : (d out next : List ℕ) → out ≡ put d 0 signature → next ≡ put out 8 headerRest
-    → overlay next 20 (unitBytes - 20) (λ (k : ℕ). fillByte) ≡ overlay d 0 unitBytes headerByte
+pub header-written : (d out next : List ℕ) → out ≡ put d 0 hfeSignature → next ≡ put out 8 hfeHeaderRest
+    → overlay next 20 (unitBytes - 20) (λ (k : ℕ). fillByte) ≡ overlay d 0 unitBytes hfeHeaderByte
 header-written d out next e f =
-    overlay-next d 20 (unitBytes - 20) (λ (k : ℕ). fillByte) headerByte next
-    (f ∙ put-rest out ∙ overlay-next d 8 12 (elementAt headerRest 0) headerByte out
-    (e ∙ put-signature d ∙ overlay-cong d 0 8 (elementAt signature 0) headerByte signature-is) rest-is)
+    overlay-next d 20 (unitBytes - 20) (λ (k : ℕ). fillByte) hfeHeaderByte next
+    (f ∙ put-rest out ∙ overlay-next d 8 12 (elementAt hfeHeaderRest 0) hfeHeaderByte out
+    (e ∙ put-signature d ∙ overlay-cong d 0 8 (elementAt hfeSignature 0) hfeHeaderByte signature-is) rest-is)
     (λ k l. sym (header-out (20 + k) (omega arith)))
 
 -- ---- the image: header, table and tracks
 
 -- header, table and tracks, written in order, are the image
-pub image-written : (image d h1 h2 h3 : List ℕ) → length d ≡ hfeBytes → h1 ≡ overlay d 0 unitBytes headerByte → h2 ≡ overlay h1 unitBytes unitBytes tableByte
+pub image-written : (image d h1 h2 h3 : List ℕ) → length d ≡ hfeBytes → h1 ≡ overlay d 0 unitBytes hfeHeaderByte → h2 ≡ overlay h1 unitBytes unitBytes hfeTableByte
     → h3 ≡ overlay h2 (firstUnit * unitBytes) (trackUnits * tracks * unitBytes) (tracksByte image) → h3 ≡ tab (hfeByte image) hfeBytes
 unfolding tracksByte
 image-written image d h1 h2 h3 long e1 e2 e3 =
     e3
     ∙ overlay-next d (firstUnit * unitBytes) (trackUnits * tracks * unitBytes) (tracksByte image) (hfeByte image) h2
-    (e2 ∙ overlay-next d unitBytes unitBytes tableByte (hfeByte image) h1
-    (e1 ∙ overlay-cong d 0 unitBytes headerByte (hfeByte image) (λ k l. sym (hfe-header image k l)))
+    (e2 ∙ overlay-next d unitBytes unitBytes hfeTableByte (hfeByte image) h1
+    (e1 ∙ overlay-cong d 0 unitBytes hfeHeaderByte (hfeByte image) (λ k l. sym (hfe-header image k l)))
     (λ k l.
     let z : unitBytes + k - unitBytes ≡ k = omega arith in
     sym (hfe-table image (unitBytes + k) (omega arith) (omega arith) ∙ rw z)))

@@ -17,10 +17,10 @@ use Rattle.sector_rules.specs.declared.Header.{Header}
 use Rattle.sector_rules.specs.declared.Header.the-variants.{Is, Absent}
 use Rattle.sector_rules.specs.declared.Found.{Found}
 use Rattle.sector_rules.specs.declared.Found.the-variants.{Nothing}
-use Rattle.sector_rules.specs.declared.Sector.the-variants.{Delivered, Fieldless, Damaged}
+use Rattle.sector_rules.specs.declared.Sector.the-variants.{Delivered, NoField, Damaged}
 use Rattle.sector_rules.specs.Geometry.{sectors}
 use Rattle.sector_rules.specs.Search.{crcHolds, headerMark, dataMark, sizeCode, headerCells, fieldCells, isHeader, idOf}
-use Rattle.sector_rules.specs.Search.{headerOf, belongs, headerAt, placesBelow, foundOf, findSector, first, fieldAt}
+use Rattle.sector_rules.specs.Search.{headerOf, isHeaderOf, headerAt, placesBelow, foundOf, findSector, first, fieldAt}
 use Rattle.sector_rules.specs.Laws.Base.Search.{moreFound, found-yes, found-no}
 
 -- ---- headers
@@ -43,7 +43,7 @@ module _ (f : List ℕ) where
 -- r is which of the nine sectors the header belongs to, from 0
 pub record Indexed (r : ℕ) (header : Header) (t s : ℕ) : Type 0 where
   pub most : r ≤ sectors
-  pub each : (k : ℕ) → k < sectors → belongs t s (k + 1) header ≡ eqb k r
+  pub each : (k : ℕ) → k < sectors → isHeaderOf t s (k + 1) header ≡ eqb k r
 
 module _ (t s : ℕ) where
   -- where no header stands, it belongs to none of the nine sectors
@@ -95,7 +95,7 @@ module _ (c : List ℕ) (t s i r : ℕ) (header : Header) (is : header ≡ heade
 
   test : (k : ℕ) → k < sectors → headerAt c t s (k + 1) i ≡ eqb k r
   unfolding headerAt
-  test k h = ap (belongs t s (k + 1)) (sym is) ∙ x .each k h
+  test k h = ap (isHeaderOf t s (k + 1)) (sym is) ∙ x .each k h
 
   other : (k : ℕ) → k < sectors → (k ≡ r → ⊥) → foundOf (places k (i + 1)) ≡ foundOf (places k i)
   unfolding places
@@ -158,12 +158,12 @@ first-none p f none (suc m) i h = rw (h i (omega arith)) (first-none p f none m 
 -- too near the end for a field, or not
 module _ (c : List ℕ) (j : ℕ) where
   -- no data field stands where fewer than its cells are left
-  pub field-past : length (from c j) < fieldCells → fieldAt c j ≡ Fieldless
+  pub field-past : length (from c j) < fieldCells → fieldAt c j ≡ NoField
   unfolding fieldAt
   field-past h = rw (lt-leb fieldCells (length (from c j)) h)
 
   -- where its cells are left, a data field is judged by its mark, then by its CRC
   pub field-fits : fieldCells ≤ length (from c j)
-      → fieldAt c j ≡ cond (eqb (dataByte (from c j) 48) dataMark) (cond (crcHolds (from c j) 516) (Delivered (j + 64)) Damaged) Fieldless
+      → fieldAt c j ≡ cond (eqb (dataByte (from c j) 48) dataMark) (cond (crcHolds (from c j) 516) (Delivered (j + 64)) Damaged) NoField
   unfolding fieldAt
   field-fits h = rw (le-leb fieldCells (length (from c j)) h)

@@ -16,7 +16,7 @@ use Rattle.laws.specs.Laws.Lowest.{lowest-some, lowest-all}
 use Rattle.sector_rules.specs.declared.Fault.the-variants.{At, Sound}
 use Rattle.sector_rules.specs.Geometry.{tracks, trackSectors, sidePlace, backward}
 use Rattle.sector_rules.specs.Faults.{faultBelow, lowestFault}
-use Rattle.sector_rules.specs.Hfe.{entryPlace, trackLength, trackStart, trackBytes, trackGood, tableFault}
+use Rattle.sector_rules.specs.Hfe.{entryPlace, trackLength, trackStart, trackUnitBytes, trackGood, tableFault}
 
 -- the entries of the table of sides and places are below 137
 pub mark-bound : (k : ℕ) → k < trackSectors → getD sidePlace k 0 < 137
@@ -56,9 +56,9 @@ unfolding tableFault
 table-good h e t l = not-false (trackGood h t) (fault-all (λ (k : ℕ). not (trackGood h k)) tracks e t l)
 
 -- the units of a track whose entry is good end within the image
-pub track-within : (h : List ℕ) (t : ℕ) → trackGood h t ≡ true → trackStart h t + trackBytes h t ≤ length h
+pub track-within : (h : List ℕ) (t : ℕ) → trackGood h t ≡ true → trackStart h t + trackUnitBytes h t ≤ length h
 unfolding trackGood
 track-within h t e =
     leb-true _ _
     (and-right (leb (entryPlace h t + 4) (length h) && eqb (trackLength h t % 2) 0 && ltb 0 (trackLength h t))
-    (leb (trackStart h t + trackBytes h t) (length h)) e)
+    (leb (trackStart h t + trackUnitBytes h t) (length h)) e)

@@ -17,7 +17,7 @@ use Rattle.sector_rules.specs.declared.Found.the-variants.{Nothing}
 use Rattle.sector_rules.specs.declared.Sector.{Sector}
 use Rattle.sector_rules.specs.declared.Sector.the-variants.{Delivered, Missing}
 use Rattle.sector_rules.specs.Geometry.{tracks, sides, sectors, allSectors, sectorBytes}
-use Rattle.sector_rules.specs.Search.{sectorFound, sectorOf, sectorByte, bytesOf}
+use Rattle.sector_rules.specs.Search.{sectorFound, sectorOf, sectorByte, deliveredBytes}
 use Rattle.sector_rules.specs.Hfe.{trackLength, trackPart, sideStream}
 use Rattle.sector_rules.specs.Unpacked.{trackOf, sideOf, sectorBytesAt, sectorAt, unpackedByte}
 use Rattle.sectors.specs.Laws.Reading.Search.{BySector, Scanned}
@@ -77,7 +77,7 @@ module _ (h : List ℕ) (n : ℕ) (part : List ℕ) (side : Side)
   -- byte k of the side's nine sectors is a byte of the block image
   pub side-byte : (places : List ℕ) → ((m : ℕ) → m < allSectors → sectorAt h m ≡ Delivered (getD places m 0)) → n < tracks * sides
       → (k : ℕ) → k < sectorBytes * sectors → placedByte (stream part side) places (sectors * n) k ≡ unpackedByte h (sectorBytes * (sectors * n) + k)
-  unfolding unpackedByte sectorBytesAt bytesOf placedByte
+  unfolding unpackedByte sectorBytesAt deliveredBytes placedByte
   side-byte places noted b k l =
       let m : (sectorBytes * (sectors * n) + k) / sectorBytes ≡ sectors * n + k / sectorBytes = omega arith in
       let o : (sectorBytes * (sectors * n) + k) % sectorBytes ≡ k % sectorBytes = omega arith in

@@ -1,10 +1,10 @@
--- `put_sizes` meets its contract.
+-- `put_dimensions` meets its contract.
 -- Assumes nothing.
 use Prim.Native.Nat.{_-_}
 use borrow.Author.Needs.{needs}
 use Rattle.files.specs.Laws.Calling.Fresh.{sized-is}
-use Rattle.files.proofs.formatting.put_sizes.Statement.{statement}
-use Rattle.files.proofs.formatting.put_sizes.Tie as tie
+use Rattle.files.proofs.formatting.put_dimensions.Statement.{statement}
+use Rattle.files.proofs.formatting.put_dimensions.Tie as tie
 
 cast-put-high2 : tie.Need-cast-put-high2
 cast-put-high2 c = search needs
@@ -54,8 +54,8 @@ same-length c = search needs
 returns : tie.Need-returns
 returns c = sized-is _ _ _ _ _ _ _ _ (c .before .before .before .before .before .before .before .before .before .before .before .before .before .before .before .before .before .before .before .before .before .before .before .before .before .before .put-high2 .ensures) (c .before .before .before .before .before .before .before .before .before .before .before .before .before .before .before .before .before .before .before .before .before .before .put-high22 .ensures) (c .before .before .before .before .before .before .before .before .before .before .before .before .before .before .before .before .before .before .put-high23 .ensures) (c .before .before .before .before .before .before .before .before .before .before .before .before .before .before .put-high24 .ensures) (c .before .before .before .before .before .before .before .before .before .before .put-high25 .ensures) (c .before .before .before .before .before .before .put-high26 .ensures) (c .before .before .put-high27 .ensures)
 
-pub put-sizes-spec : {M : Type 1} → statement M
-put-sizes-spec =
+pub put-dimensions-spec : {M : Type 1} → statement M
+put-dimensions-spec =
     tie.close
     (tie.spec
     cast-put-high2

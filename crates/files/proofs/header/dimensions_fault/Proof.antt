@@ -1,10 +1,10 @@
--- `sizes_fault` meets its contract.
+-- `dimensions_fault` meets its contract.
 -- Assumes nothing.
 use borrow.Author.Needs.{needs}
 use Rattle.sectors.specs.Laws.Reading.Faults.{or-link}
-use Rattle.file_rules.specs.Check.{sizesFault}
-use Rattle.files.proofs.header.sizes_fault.Statement.{statement}
-use Rattle.files.proofs.header.sizes_fault.Tie as tie
+use Rattle.file_rules.specs.Check.{dimensionsFault}
+use Rattle.files.proofs.header.dimensions_fault.Statement.{statement}
+use Rattle.files.proofs.header.dimensions_fault.Tie as tie
 
 word-fault-requires : tie.Need-word-fault-requires
 word-fault-requires c κs = search needs
@@ -40,11 +40,11 @@ or-fault-requires-5 : tie.Need-or-fault-requires-5
 or-fault-requires-5 c κs = search needs
 
 returns : tie.Need-returns
-unfolding sizesFault
+unfolding dimensionsFault
 returns c = or-link _ _ _ _ _ (c .or-fault5 .ensures) (c .before .before .before .before .before .word-fault6 .ensures) (or-link _ _ _ _ _ (c .before .or-fault4 .ensures) (c .before .before .before .before .before .before .word-fault5 .ensures) (or-link _ _ _ _ _ (c .before .before .or-fault3 .ensures) (c .before .before .before .before .before .before .before .word-fault4 .ensures) (or-link _ _ _ _ _ (c .before .before .before .or-fault2 .ensures) (c .before .before .before .before .before .before .before .before .word-fault3 .ensures) (or-link _ _ _ _ _ (c .before .before .before .before .or-fault .ensures) (c .before .before .before .before .before .before .before .before .before .word-fault2 .ensures) (c .before .before .before .before .before .before .before .before .before .before .word-fault .ensures)))))
 
-pub sizes-fault-spec : {M : Type 1} → statement M
-sizes-fault-spec =
+pub dimensions-fault-spec : {M : Type 1} → statement M
+dimensions-fault-spec =
     tie.close
     (tie.spec
     word-fault-requires

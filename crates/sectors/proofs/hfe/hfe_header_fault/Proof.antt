@@ -1,10 +1,10 @@
--- `header_fault` meets its contract.
+-- `hfe_header_fault` meets its contract.
 -- Assumes nothing.
 use mathlib.Core.Path.{_∙_}
 use borrow.Author.Needs.{needs}
-use Rattle.sector_rules.specs.Hfe.{headerFault, signature}
-use Rattle.sectors.proofs.hfe.header_fault.Statement.{statement}
-use Rattle.sectors.proofs.hfe.header_fault.Tie as tie
+use Rattle.sector_rules.specs.Hfe.{hfeHeaderFault, hfeSignature}
+use Rattle.sectors.proofs.hfe.hfe_header_fault.Statement.{statement}
+use Rattle.sectors.proofs.hfe.hfe_header_fault.Tie as tie
 
 flag-fault-requires : tie.Need-flag-fault-requires
 flag-fault-requires c κs = search needs
@@ -43,12 +43,12 @@ or-fault-requires-4 : tie.Need-or-fault-requires-4
 or-fault-requires-4 c κs = search needs
 
 returns : tie.Need-returns
-unfolding headerFault signature
+unfolding hfeHeaderFault hfeSignature
 returns c = c .or-fault4 .ensures
     ∙ rw (c .before .or-fault3 .ensures, c .before .before .or-fault2 .ensures, c .before .before .before .before .before .before .before .before .before .or-fault .ensures, c .before .before .before .wrong-at2 .ensures, c .before .before .before .before .before .before .before .wrong-at .ensures, c .before .before .before .before .before .before .format-fault .ensures, c .before .before .before .before .stands-at .ensures, c .before .before .before .before .before .before .before .before .low2 .ensures, c .before .before .before .before .before .before .before .before .before .before .before .flag-fault .ensures, c .before .before .before .before .before .before .before .before .before .before .flag-fault2 .ensures)
 
-pub header-fault-spec : {M : Type 1} → statement M
-header-fault-spec =
+pub hfe-header-fault-spec : {M : Type 1} → statement M
+hfe-header-fault-spec =
     tie.close
     (tie.spec
     flag-fault-requires

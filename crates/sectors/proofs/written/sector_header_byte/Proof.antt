@@ -1,12 +1,12 @@
--- `header_byte` meets its contract.
+-- `sector_header_byte` meets its contract.
 -- Assumes nothing.
 use mathlib.Core.Path.{sym}
 use native.Mathlib.Omega.{arith}
 use borrow.Author.Needs.{needs}
 use Rattle.sector_rules.specs.Laws.Base.Packed.{crc-high, crc-low}
-use Rattle.sectors.specs.Laws.Packing.Items.{header-crc, row-header}
-use Rattle.sectors.proofs.written.header_byte.Statement.{statement}
-use Rattle.sectors.proofs.written.header_byte.Tie as tie
+use Rattle.sectors.specs.Laws.Packing.Items.{header-row-crc, row-header}
+use Rattle.sectors.proofs.written.sector_header_byte.Statement.{statement}
+use Rattle.sectors.proofs.written.sector_header_byte.Tie as tie
 
 cast-t7 : tie.Need-cast-t7
 cast-t7 c = search needs
@@ -39,13 +39,13 @@ cast-result-2 : tie.Need-cast-result-2
 cast-result-2 c = search needs
 
 returns-2 : tie.Need-returns-2
-returns-2 c = rw (c .before .crc-row .ensures, header-crc) (sym (crc-high _ _ (omega arith)))
+returns-2 c = rw (c .before .crc-row .ensures, header-row-crc) (sym (crc-high _ _ (omega arith)))
 
 returns-3 : tie.Need-returns-3
-returns-3 c = rw (c .before .crc-row .ensures, header-crc) (sym (crc-low _ _ (omega arith)))
+returns-3 c = rw (c .before .crc-row .ensures, header-row-crc) (sym (crc-low _ _ (omega arith)))
 
-pub header-byte-spec : {M : Type 1} → statement M
-header-byte-spec =
+pub sector-header-byte-spec : {M : Type 1} → statement M
+sector-header-byte-spec =
     tie.close
     (tie.spec
     cast-t7

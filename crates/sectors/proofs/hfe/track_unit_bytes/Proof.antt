@@ -1,11 +1,11 @@
--- `track_bytes` meets its contract.
+-- `track_unit_bytes` meets its contract.
 -- Assumes nothing.
 use native.Mathlib.Omega.{arith}
 use borrow.Author.Needs.{needs}
-use Rattle.laws.specs.Numbers.{up}
-use Rattle.sector_rules.specs.Hfe.{trackBytes}
-use Rattle.sectors.proofs.hfe.track_bytes.Statement.{statement}
-use Rattle.sectors.proofs.hfe.track_bytes.Tie as tie
+use Rattle.laws.specs.Numbers.{quotientUp}
+use Rattle.sector_rules.specs.Hfe.{trackUnitBytes}
+use Rattle.sectors.proofs.hfe.track_unit_bytes.Statement.{statement}
+use Rattle.sectors.proofs.hfe.track_unit_bytes.Tie as tie
 
 track-length-requires : tie.Need-track-length-requires
 track-length-requires c κs = search needs
@@ -23,9 +23,9 @@ mul-result : tie.Need-mul-result
 mul-result c = search needs
 
 returns : tie.Need-returns
-unfolding trackBytes up
+unfolding trackUnitBytes quotientUp
 returns c = (rw (← c .track-length .ensures), omega arith)
 
-pub track-bytes-spec : {M : Type 1} → statement M
-track-bytes-spec =
+pub track-unit-bytes-spec : {M : Type 1} → statement M
+track-unit-bytes-spec =
     tie.close (tie.spec track-length-requires cast-result sub-result add-result mul-result returns)

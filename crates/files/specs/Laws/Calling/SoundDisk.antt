@@ -13,7 +13,7 @@ use borrow.Author.Tests.{not-false}
 use Rattle.laws.specs.Lists.{tab}
 use Rattle.laws.specs.Changes.{patch, put}
 use Rattle.laws.specs.Below.{all, count, lowest}
-use Rattle.laws.specs.Numbers.{up}
+use Rattle.laws.specs.Numbers.{quotientUp}
 use Rattle.laws.specs.Options.{orElse}
 use Rattle.laws.specs.Laws.Cases.{by-order, by-test}
 use Rattle.laws.specs.Laws.Tests.{lt-true, lt-false, le-false, true-le, eq-false, true-eq, true≢false, cond-true, cond-false, and-true}
@@ -26,8 +26,8 @@ use Rattle.laws.specs.Laws.Count.{count-none, count-le}
 use Rattle.sector_rules.specs.Geometry.{blocks, imageBytes}
 use Rattle.sector_rules.specs.Replies.{reply, done, refusal}
 use Rattle.sector_rules.specs.declared.Reply.{Reply}
-use Rattle.file_rules.specs.Calls.{Changed, Written, refused, unwritten, opensBlock, needed, addAt, addSound, removeAt, removeSound, imaged}
-use Rattle.file_rules.specs.Check.{partsRight, entryRight, fileRight, fileFault, newName, refusal8, refusal9, refusal10, refusal11, judged}
+use Rattle.file_rules.specs.Calls.{DiskChanged, ImageChanged, diskKept, imageKept, opensBlock, needed, addAt, addSound, removeAt, removeSound, imaged}
+use Rattle.file_rules.specs.Check.{partsRight, entryRight, fileRight, fileFault, newName, refusal8, refusal9, refusal10, refusal11, diskRefusal}
 use Rattle.file_rules.specs.Directory.{nameRight, entryFor, slotEntry, held, dirEnd, findName, vacantSlot}
 use Rattle.file_rules.specs.Disk.{Disk, diskOf, imageOf}
 use Rattle.file_rules.specs.Laws.Base.Disk.{image-disk}
@@ -41,8 +41,8 @@ use Rattle.file_rules.specs.Written.{blocksFor}
 -- ---- what was passed
 
 -- every file number is sound
-pub file-sound : (d : Disk) → judged d ≡ none → (f : ℕ) → f < slotCount → fileRight d f ≡ true
-unfolding judged fileFault
+pub file-sound : (d : Disk) → diskRefusal d ≡ none → (f : ℕ) → f < slotCount → fileRight d f ≡ true
+unfolding diskRefusal fileFault
 file-sound d passed f h =
     let e : refusal10 d ≡ none = or-none-left (refusal10 d) (refusal11 d) (or-none-right (refusal9 d) (orElse (refusal10 d) (refusal11 d)) (or-none-right (refusal8 d) (orElse (refusal9 d) (orElse (refusal10 d) (refusal11 d))) passed)) in
     not-false (fileRight d f) (lowest-all (λ (k : ℕ). not (fileRight d k)) slotCount (files-right d e) f h)
@@ -67,12 +67,12 @@ no-part n k s hk = decode-none n (isPart k s) refl refl refl (λ f t h. and-fals
 
 -- a held slot that is sound has a block
 entry-one : (d : Disk) (k : ℕ) → entryRight d k ≡ true → count blocks (λ (b : ℕ). isPart k 0 (recordAt d b)) ≡ 1
-unfolding entryRight up
+unfolding entryRight quotientUp
 entry-one d k e =
     let size : ℕ = slotEntry d k .length in
     let long : Bool = leb slotBytes size in
-    let first : Bool = leb 1 (slotEntry d k .named) in
-    let last : Bool = leb (slotEntry d k .named) nameMost in
+    let first : Bool = leb 1 (slotEntry d k .namelen) in
+    let last : Bool = leb (slotEntry d k .namelen) nameMost in
     let parts : Bool = partsRight d k (blocksOf size) in
     let whole : parts ≡ true = and-right (newName d k) parts (and-right last (newName d k && parts) (and-right first (last && (newName d k && parts)) (and-right long (first && (last && (newName d k && parts))) e))) in
     let most : slotBytes ≤ size = true-le (and-left long (first && (last && (newName d k && parts))) e) in
@@ -86,7 +86,7 @@ far-none : (d : Disk) (k : ℕ) → fileCount ≤ k → count blocks (λ (b : �
 unfolding recordAt
 far-none d k hk = count-none blocks (λ (b : ℕ). isPart k 0 (recordAt d b)) (λ b h. no-part _ k 0 hk)
 
-module _ (d : Disk) (passed : judged d ≡ none) where
+module _ (d : Disk) (passed : diskRefusal d ≡ none) where
   -- a held slot from 3968 on could have no block
   far-vacant : (k : ℕ) → fileCount ≤ k → k < dirEnd d → held d k ≡ false
   far-vacant k hk hd =
@@ -122,11 +122,11 @@ unfolding freeCount
 free-most d = count-le blocks (freeAt d)
 
 pub room-size : (d : Disk) (k size : ℕ) → leb (needed d k size) (freeCount d) ≡ true → size ≤ imageBytes
-unfolding blocksFor up
+unfolding blocksFor quotientUp
 room-size d k size e = omega (arith, true-le {a = needed d k size} {b = freeCount d} e, needed-least d k size, free-most d)
 
 pub room-none : (d : Disk) (k size : ℕ) → imageBytes < size → false ≡ leb (needed d k size) (freeCount d)
-unfolding blocksFor up
+unfolding blocksFor quotientUp
 room-none d k size h = sym (le-false {a = needed d k size} {b = freeCount d} (omega (arith, needed-least d k size, free-most d)))
 
 pub room-opens : (d : Disk) (k size n free : ℕ) → opensBlock d k ≡ true → n ≡ blocksFor size → free ≡ freeCount d → leb (n + 1) free ≡ leb (needed d k size) (freeCount d)
@@ -155,72 +155,72 @@ name-filled row₀ row₁ name e₀ e₁ =
     (λ l. patch-above (λ (i : ℕ). 0) 0 (length name) g k (omega arith) ∙ sym (getD-past name k l)))
 
 pub entry-filled : (row name : List ℕ) (date size : ℕ) → row ≡ tab (λ (i : ℕ). getD name i 0) nameMost
-    → record { name = row; length = slotBytes + size; named = length name; date = date } ≡ entryFor name date size
+    → record { name = row; length = slotBytes + size; namelen = length name; date = date } ≡ entryFor name date size
 unfolding entryFor
-entry-filled row name date size e = ap (λ (r : List ℕ). record { name = r; length = slotBytes + size; named = length name; date = date }) e
+entry-filled row name date size e = ap (λ (r : List ℕ). record { name = r; length = slotBytes + size; namelen = length name; date = date }) e
 
 -- ---- remove, case by case
 
 -- what a call that writes gave: its reply and the image
-pub record Gave (c : Changed) (r : Reply) (l : List ℕ) : Type 0 where
+pub record Gave (c : DiskChanged) (r : Reply) (l : List ℕ) : Type 0 where
   pub answer : r ≡ c .answer
-  pub image : l ≡ imageOf (c .disk)
+  pub image : l ≡ imageOf (c .diskAfter)
 
-pub gave-refused : (l : List ℕ) (c : Changed) (r q : Reply) → length l ≡ imageBytes → c ≡ refused (diskOf l) q → r ≡ q → Gave c r l
-unfolding refused
-gave-refused l c r q long e h = record { answer = h ∙ sym (ap (λ (x : Changed). x .answer) e); image = sym (image-disk l long) ∙ sym (ap (λ (x : Changed). imageOf (x .disk)) e) }
+pub gave-refused : (l : List ℕ) (c : DiskChanged) (r q : Reply) → length l ≡ imageBytes → c ≡ diskKept (diskOf l) q → r ≡ q → Gave c r l
+unfolding diskKept
+gave-refused l c r q long e h = record { answer = h ∙ sym (ap (λ (x : DiskChanged). x .answer) e); image = sym (image-disk l long) ∙ sym (ap (λ (x : DiskChanged). imageOf (x .diskAfter)) e) }
 
-pub gave-done : (l : List ℕ) (c : Changed) (r : Reply) (d : Disk) → c ≡ record { answer = done; disk = d } → r ≡ done → l ≡ imageOf d → Gave c r l
-gave-done l c r d e h q = record { answer = h ∙ sym (ap (λ (x : Changed). x .answer) e); image = q ∙ sym (ap (λ (x : Changed). imageOf (x .disk)) e) }
+pub gave-done : (l : List ℕ) (c : DiskChanged) (r : Reply) (d : Disk) → c ≡ record { answer = done; diskAfter = d } → r ≡ done → l ≡ imageOf d → Gave c r l
+gave-done l c r d e h q = record { answer = h ∙ sym (ap (λ (x : DiskChanged). x .answer) e); image = q ∙ sym (ap (λ (x : DiskChanged). imageOf (x .diskAfter)) e) }
 
 module _ (d : Disk) (name : List ℕ) where
-  pub remove-name : nameRight name ≡ false → removeSound d name ≡ refused d (refusal 12)
+  pub remove-name : nameRight name ≡ false → removeSound d name ≡ diskKept d (refusal 12)
   unfolding removeSound
   remove-name t = rw t
 
   module _ (right : nameRight name ≡ true) (k end : ℕ) (ek : k ≡ findName d name) (ee : end ≡ dirEnd d) where
-    pub remove-none : end ≤ k → removeSound d name ≡ refused d (refusal 14)
+    pub remove-none : end ≤ k → removeSound d name ≡ diskKept d (refusal 14)
     unfolding removeSound
     remove-none h = rw (right, ← ek, ← ee, lt-false h)
 
-    pub remove-done : k < end → removeSound d name ≡ record { answer = done; disk = removeAt d k }
+    pub remove-done : k < end → removeSound d name ≡ record { answer = done; diskAfter = removeAt d k }
     unfolding removeSound
     remove-done h = rw (right, ← ek, ← ee, lt-true h)
 
 -- ---- add, case by case
 
 module _ (d : Disk) (name : List ℕ) (date : ℕ) (content : List ℕ) where
-  pub add-name : nameRight name ≡ false → addSound d name date content ≡ refused d (refusal 12)
+  pub add-name : nameRight name ≡ false → addSound d name date content ≡ diskKept d (refusal 12)
   unfolding addSound
   add-name t = rw t
 
   module _ (right : nameRight name ≡ true) (f end : ℕ) (ef : f ≡ findName d name) (ee : end ≡ dirEnd d) where
-    pub add-present : f < end → addSound d name date content ≡ refused d (reply 13 f 0 0)
+    pub add-present : f < end → addSound d name date content ≡ diskKept d (reply 13 f 0 0)
     unfolding addSound
     add-present h = rw (right, ← ef, ← ee, lt-true h)
 
     module _ (h : end ≤ f) (k : ℕ) (ek : k ≡ vacantSlot d) where
-      pub add-full : leb (needed d k (length content)) (freeCount d) ≡ false → addSound d name date content ≡ refused d (refusal 15)
+      pub add-full : leb (needed d k (length content)) (freeCount d) ≡ false → addSound d name date content ≡ diskKept d (refusal 15)
       unfolding addSound
       add-full t = rw (right, ← ef, ← ee, lt-false h, ← ek, t)
 
       pub add-done : leb (needed d k (length content)) (freeCount d) ≡ true
-          → addSound d name date content ≡ record { answer = done; disk = addAt d k (entryFor name date (length content)) content }
+          → addSound d name date content ≡ record { answer = done; diskAfter = addAt d k (entryFor name date (length content)) content }
       unfolding addSound
       add-done t = rw (right, ← ef, ← ee, lt-false h, ← ek, t)
 
 -- ---- what a call wrote, by its refusal, by what it did, or by what it gave
 
-pub wrote-refused : (image : List ℕ) (w : Written) (r q : Reply) → w ≡ unwritten image q → r ≡ q → (r ≡ w .answer) × (image ≡ w .image)
-unfolding unwritten
-wrote-refused image w r q e h = (h ∙ sym (ap (λ (x : Written). x .answer) e), sym (ap (λ (x : Written). x .image) e))
+pub wrote-refused : (image : List ℕ) (w : ImageChanged) (r q : Reply) → w ≡ imageKept image q → r ≡ q → (r ≡ w .answer) × (image ≡ w .image)
+unfolding imageKept
+wrote-refused image w r q e h = (h ∙ sym (ap (λ (x : ImageChanged). x .answer) e), sym (ap (λ (x : ImageChanged). x .image) e))
 
-pub wrote-done : (w : Written) (r : Reply) (l m : List ℕ) → w ≡ record { answer = done; image = m } → r ≡ done → l ≡ m → (r ≡ w .answer) × (l ≡ w .image)
-wrote-done w r l m e h q = (h ∙ sym (ap (λ (x : Written). x .answer) e), q ∙ sym (ap (λ (x : Written). x .image) e))
+pub wrote-done : (w : ImageChanged) (r : Reply) (l m : List ℕ) → w ≡ record { answer = done; image = m } → r ≡ done → l ≡ m → (r ≡ w .answer) × (l ≡ w .image)
+wrote-done w r l m e h q = (h ∙ sym (ap (λ (x : ImageChanged). x .answer) e), q ∙ sym (ap (λ (x : ImageChanged). x .image) e))
 
-pub wrote-gave : (w : Written) (c : Changed) (r : Reply) (l : List ℕ) → w ≡ imaged c → Gave c r l → (r ≡ w .answer) × (l ≡ w .image)
+pub wrote-gave : (w : ImageChanged) (c : DiskChanged) (r : Reply) (l : List ℕ) → w ≡ imaged c → Gave c r l → (r ≡ w .answer) × (l ≡ w .image)
 unfolding imaged
-wrote-gave w c r l e g = (g .answer ∙ sym (ap (λ (x : Written). x .answer) e), g .image ∙ sym (ap (λ (x : Written). x .image) e))
+wrote-gave w c r l e g = (g .answer ∙ sym (ap (λ (x : ImageChanged). x .answer) e), g .image ∙ sym (ap (λ (x : ImageChanged). x .image) e))
 
 pub name-most : (name : List ℕ) → nameRight name ≡ true → length name ≤ nameMost
 unfolding nameRight

@@ -25,7 +25,7 @@ pub record Noted (h places : List ℕ) (n : ℕ) : Type 0 where
   pub each : (m : ℕ) → m < n → sectorAt h m ≡ Delivered (getD places m 0)
 
 -- the sectors below n are judged: all are good, or the reply is that of the first bad one
-pub record Judged (h places : List ℕ) (n : ℕ) (r : Reply) : Type 0 where
+pub record SectorsJudged (h places : List ℕ) (n : ℕ) (r : Reply) : Type 0 where
   pub good : r .number ≡ 0 → Noted h places n
   pub bad : (r .number ≡ 0 → ⊥) → r ≡ sectorsReply h
 
@@ -65,7 +65,7 @@ module _ (h places : List ℕ) where
         rw (lowest-some (λ (k : ℕ). isBad (sectorAt h k)) allSectors m l (λ k b. ap isBad (noted .each k b)) (ap isBad (sym is) ∙ e), lt-ltb m allSectors l, is)
 
     -- judging ends at a bad sector with that sector's reply
-    pub judged-stop : m < allSectors → isBad x ≡ true → (n : ℕ) (r : Reply) → r ≡ sectorReply m x → Judged h places n r
+    pub judged-stop : m < allSectors → isBad x ≡ true → (n : ℕ) (r : Reply) → r ≡ sectorReply m x → SectorsJudged h places n r
     judged-stop l e n r q =
         record {
           good = λ z. absurd (eqb-false (sectorReply m x .number) 0 (bad-number m x e) (ap (λ (y : Reply). y .number) (sym q) ∙ z));
@@ -73,7 +73,7 @@ module _ (h places : List ℕ) where
         }
 
   -- where none of the sectors below n was bad, they are judged with the reply done
-  pub judged-good : (n : ℕ) → Noted h places n → (r : Reply) → r ≡ done → Judged h places n r
+  pub judged-good : (n : ℕ) → Noted h places n → (r : Reply) → r ≡ done → SectorsJudged h places n r
   judged-good n noted r e = record { good = λ z. noted; bad = λ z. absurd (z (ap (λ (y : Reply). y .number) e)) }
 
   -- where no sector was bad, all are judged with the reply done

@@ -1,4 +1,4 @@
--- `named_so` meets its contract: the first i bytes are equal.
+-- `entry_has_name` meets its contract: the first i bytes are equal.
 -- Assumes nothing.
 use mathlib.Core.Path.{_≡_, sym, _∙_}
 use Prim.Native.Nat.{ℕ, _+_, _-_, _≤_, _<_}
@@ -8,8 +8,8 @@ use borrow.Author.Needs.{needs}
 use borrow.Author.Count.{below-none, below-more}
 use Rattle.laws.specs.Lists.{elementAt}
 use Rattle.files.specs.Laws.Loading.Slots.{name-other-length, name-other, name-equal}
-use Rattle.files.proofs.directory.named_so.Statement.{statement}
-use Rattle.files.proofs.directory.named_so.Tie as tie
+use Rattle.files.proofs.directory.entry_has_name.Statement.{statement}
+use Rattle.files.proofs.directory.entry_has_name.Tie as tie
 
 abbrev Inv-loop : tie.InvT-loop
 Inv-loop image at name i₀ i-end i = (i ≤ length name) × ((j : ℕ) → j < i → elementAt image (at + 16) j ≡ getD name j 0)
@@ -52,8 +52,8 @@ loop-again c = (omega arith, below-more _ _ (c .before .before .before .before .
 returns-3 : tie.Need-returns-3 Inv-loop μ-loop
 returns-3 c = name-equal _ _ _ (sym (c .before .before .before .name-length .ensures) ∙ c .before .before .if1 .left) (λ k h. c .before .loop .inv .1 k (omega arith))
 
-pub named-so-spec : {M : Type 1} → statement M
-named-so-spec =
+pub entry-has-name-spec : {M : Type 1} → statement M
+entry-has-name-spec =
     tie.close
     (tie.spec
     Inv-loop

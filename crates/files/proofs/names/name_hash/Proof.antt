@@ -1,16 +1,16 @@
--- `name_mark` meets its contract: the mark of the first i bytes.
+-- `name_hash` meets its contract: the mark of the first i bytes.
 -- Assumes nothing.
 use mathlib.Core.Path.{_≡_, refl, _∙_}
 use Prim.Native.Nat.{_-_, _≤_, _<_, _+_}
 use native.Mathlib.Omega.{arith}
 use borrow.Author.Needs.{needs}
 use Rattle.laws.specs.Lists.{elementAt}
-use Rattle.files.specs.Laws.Loading.Marks.{rowMark, mark-more, mark-row, markCount}
-use Rattle.files.proofs.names.name_mark.Statement.{statement}
-use Rattle.files.proofs.names.name_mark.Tie as tie
+use Rattle.files.specs.Laws.Loading.NameHashes.{rowHash, hash-more, hash-row, hashCount}
+use Rattle.files.proofs.names.name_hash.Statement.{statement}
+use Rattle.files.proofs.names.name_hash.Tie as tie
 
 abbrev Inv-loop : tie.InvT-loop
-Inv-loop image at n mark₀ i₀ mark i = (i ≤ n) × (mark < markCount) × (mark ≡ rowMark (elementAt image (at + 16)) i)
+Inv-loop image at n mark₀ i₀ mark i = (i ≤ n) × (mark < hashCount) × (mark ≡ rowHash (elementAt image (at + 16)) i)
 
 abbrev μ-loop : tie.MeasureT-loop
 μ-loop image at n mark₀ i₀ mark i = n - i
@@ -19,7 +19,7 @@ name-length-requires : tie.Need-name-length-requires Inv-loop μ-loop
 name-length-requires c κs = search needs
 
 loop-holds : tie.Need-loop-holds Inv-loop μ-loop
-unfolding rowMark
+unfolding rowHash
 loop-holds c = (omega arith, omega arith, refl)
 
 mul-mark : tie.Need-mul-mark Inv-loop μ-loop
@@ -44,13 +44,13 @@ loop-less : tie.Need-loop-less Inv-loop μ-loop
 loop-less c = omega arith
 
 loop-again : tie.Need-loop-again Inv-loop μ-loop
-loop-again c = (omega arith, omega arith, mark-more _ _ _ _ _ (c .before .before .before .loop .inv .2) (c .wide .ensures .0 ∙ c .before .byte .ensures))
+loop-again c = (omega arith, omega arith, hash-more _ _ _ _ _ (c .before .before .before .loop .inv .2) (c .wide .ensures .0 ∙ c .before .byte .ensures))
 
 returns : tie.Need-returns Inv-loop μ-loop
-returns c = let e : c .before .loop .i ≡ c .before .before .name-length .result = omega arith in (mark-row _ _ _ _ (c .before .before .name-length .ensures) (rw e at (c .before .loop .inv .2)), c .before .loop .inv .1)
+returns c = let e : c .before .loop .i ≡ c .before .before .name-length .result = omega arith in (hash-row _ _ _ _ (c .before .before .name-length .ensures) (rw e at (c .before .loop .inv .2)), c .before .loop .inv .1)
 
-pub name-mark-spec : {M : Type 1} → statement M
-name-mark-spec =
+pub name-hash-spec : {M : Type 1} → statement M
+name-hash-spec =
     tie.close
     (tie.spec
     Inv-loop

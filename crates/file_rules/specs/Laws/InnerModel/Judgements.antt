@@ -23,15 +23,15 @@ use Rattle.sector_rules.specs.Faults.{faultBelow, refusalAt}
 use Rattle.sector_rules.specs.Geometry.{blocks, sidePlace, backward}
 use Rattle.file_rules.specs.declared.Record.{Record}
 use Rattle.file_rules.specs.declared.Record.the-variants.{Free, System, File, Other}
-use Rattle.file_rules.specs.Check.{signature, lengthRight, sizesFault, headerFault, recordFault, mapFault, partsRight, unborne, newName}
-use Rattle.file_rules.specs.Check.{entryRight, fileRight, fileFault, freeRight, refusal8, refusal9, refusal10, refusal11, judged}
+use Rattle.file_rules.specs.Check.{diskSignature, lengthRight, dimensionsFault, diskHeaderFault, recordFault, mapFault, partsRight, noRecordBears, newName}
+use Rattle.file_rules.specs.Check.{entryRight, fileRight, fileFault, freeRight, refusal8, refusal9, refusal10, refusal11, diskRefusal}
 use Rattle.file_rules.specs.Directory.{nameEq, slotEntry, slotName, held, dirBytes, dirEnd}
 use Rattle.file_rules.specs.Disk.{Disk}
 use Rattle.file_rules.specs.Laws.InnerModel.Inner.{Inner, header, render}
 use Rattle.file_rules.specs.Laws.InnerModel.Invariant.{partsOf, Inv}
 use Rattle.file_rules.specs.Laws.Base.Whole.{Valid}
 use Rattle.file_rules.specs.Map.{recordAt, isSystem, isOther, bears, isPart, within, freeCount}
-use Rattle.file_rules.specs.Model.{NamedFile, HeldFile, freeWord, content, named}
+use Rattle.file_rules.specs.Model.{NamedFile, HeldFile, freeWord, content, hasName}
 use Rattle.file_rules.specs.Sizes.{blockBytes, slotBytes, slotCount, mapStart, nameMost, freeSectors, blocksOf}
 use Rattle.file_rules.specs.Laws.InnerModel.Fields.{isPart-true, true-isPart, parts-some, parts-none, parts-dir, signature-at, side-at, back-at}
 use Rattle.file_rules.specs.Laws.InnerModel.Fields.{fixed-at}
@@ -44,9 +44,9 @@ module _ (m : Inner) (v : Inv m) where
 
   -- ---- judgement 8
 
-  sign-right : bytesAre (d 0) 0 signature ≡ true
-  unfolding signature
-  sign-right = bytes-is m v 0 signature (omega arith) ∙ signature-at m
+  sign-right : bytesAre (d 0) 0 diskSignature ≡ true
+  unfolding diskSignature
+  sign-right = bytes-is m v 0 diskSignature (omega arith) ∙ signature-at m
 
   side-right : bytesAre (d 0) 40 sidePlace ≡ true
   unfolding sidePlace
@@ -66,8 +66,8 @@ module _ (m : Inner) (v : Inv m) where
   fixed : (o w : ℕ) → o + 1 < mapStart → at16 (header m) o ≡ w → eqb (at16 (d 0) o) w ≡ true
   fixed o w h e = eq-true (head16 m v o h ∙ e)
 
-  header-right : headerFault d ≡ Sound
-  unfolding headerFault sizesFault
+  header-right : diskHeaderFault d ≡ Sound
+  unfolding diskHeaderFault dimensionsFault
   header-right =
       rw (
         sign-right,
@@ -132,9 +132,9 @@ module _ (m : Inner) (v : Inv m) where
   none-bears f b z h (File g t) e =
       eq-false {a = g} {b = f} (λ q. omega (arith, v .own .own-below b g t h e, ap (partsOf m) q))
 
-  unborne-right : (f : ℕ) → partsOf m f ≡ 0 → unborne d f ≡ true
-  unfolding unborne
-  unborne-right f z =
+  no-record-right : (f : ℕ) → partsOf m f ≡ 0 → noRecordBears d f ≡ true
+  unfolding noRecordBears
+  no-record-right f z =
       all-is (λ (b : ℕ). not (bears f (recordAt d b))) blocks
       (λ b h. ap (λ (r : Record). not (bears f r)) (rec m v b h) ∙ ap not (none-bears f b z h (m .owner b) refl))
 
@@ -157,19 +157,19 @@ module _ (m : Inner) (v : Inv m) where
     unfolding entryRight
     entry-right pos =
         let size : (slotEntry d k .length) ≡ slotBytes + length (x .content) = slotLength-is m v k h x e in
-        let long : (slotEntry d k .named) ≡ length (x .name) = slotNameLength-is m v k h x e in
+        let long : (slotEntry d k .namelen) ≡ length (x .name) = slotNameLength-is m v k h x e in
         and-true (le-true {a = slotBytes} {b = (slotEntry d k .length)} (omega arith))
-        (and-true (le-true {a = 1} {b = (slotEntry d k .named)} (omega (arith, v .slot-name k x e .0)))
-        (and-true (le-true {a = (slotEntry d k .named)} {b = nameMost} (omega (arith, v .slot-name k x e .1)))
+        (and-true (le-true {a = 1} {b = (slotEntry d k .namelen)} (omega (arith, v .slot-name k x e .0)))
+        (and-true (le-true {a = (slotEntry d k .namelen)} {b = nameMost} (omega (arith, v .slot-name k x e .1)))
         (and-true newName-right (parts-right k (blocksOf (slotEntry d k .length)) (ap blocksOf size ∙ sym (parts-some m k x e pos))))))
 
-  vacant-right : (f : ℕ) → 0 < f → (l : HeldFile) → m .slots f ≡ l → cond (ltb f (dirEnd d) && held d f) (entryRight d f) (unborne d f) ≡ true
+  vacant-right : (f : ℕ) → 0 < f → (l : HeldFile) → m .slots f ≡ l → cond (ltb f (dirEnd d) && held d f) (entryRight d f) (noRecordBears d f) ≡ true
   unfolding isSome
   vacant-right f p none e =
       by-order f (suc (m .peak))
       (λ h. cond-false _ _ (and-false-right (ltb f (dirEnd d)) (held-is m v f (omega arith) none e)))
       (λ h. cond-false _ _ (and-false-left (held d f) (lt-false {a = f} {b = dirEnd d} (omega (arith, dirEnd-is m v)))))
-      ∙ unborne-right f (parts-none m f e p)
+      ∙ no-record-right f (parts-none m f e p)
   vacant-right f p (some x) e =
       by-order (m .peak) f
       (λ h. true≢false (isSome (m .slots f)) (ap isSome e) (ap isSome (v .slot-past f h)))
@@ -205,6 +205,6 @@ module _ (m : Inner) (v : Inv m) where
   eleven-right = cond-true _ _ (eq-true {a = at16 (d 0) 20} {b = freeSectors (freeCount d)} (omega (arith, word20 m v, freeCount-at m v, v .free-sum)))
 
   -- the check of the inner model's disk finds no fault
-  pub judged-none : judged d ≡ none
-  unfolding judged orElse
-  judged-none = rw (eight-right, nine-right, ten-right, eleven-right)
+  pub disk-refusal-none : diskRefusal d ≡ none
+  unfolding diskRefusal orElse
+  disk-refusal-none = rw (eight-right, nine-right, ten-right, eleven-right)

@@ -1,0 +1,94 @@
+-- `disk_header_fault` meets its contract.
+-- Assumes nothing.
+use mathlib.Core.Path.{ap, _∙_}
+use native.Mathlib.Omega.{arith}
+use borrow.Author.Needs.{needs}
+use Rattle.sector_rules.specs.Faults.{wrongAt}
+use Rattle.sector_rules.specs.Geometry.{sidePlace, backward}
+use Rattle.sectors.specs.Laws.Reading.Faults.{or-link}
+use Rattle.file_rules.specs.Check.{diskSignature, diskHeaderFault}
+use Rattle.files.specs.Laws.Judging.Verdict.{bytes-fault}
+use Rattle.files.proofs.header.disk_header_fault.Statement.{statement}
+use Rattle.files.proofs.header.disk_header_fault.Tie as tie
+
+slice-aggregate-stands-at : tie.Need-slice-aggregate-stands-at
+slice-aggregate-stands-at c = search needs
+
+stands-at-requires : tie.Need-stands-at-requires
+stands-at-requires c κs = search needs
+
+wrong-at-requires : tie.Need-wrong-at-requires
+wrong-at-requires c κs = search needs
+
+slice-aggregate-stands-at-2 : tie.Need-slice-aggregate-stands-at-2
+slice-aggregate-stands-at-2 c = search needs
+
+stands-at-requires-2 : tie.Need-stands-at-requires-2
+stands-at-requires-2 c κs = search needs
+
+wrong-at-requires-2 : tie.Need-wrong-at-requires-2
+wrong-at-requires-2 c κs = search needs
+
+word-fault-requires : tie.Need-word-fault-requires
+word-fault-requires c κs = search needs
+
+length-right-requires : tie.Need-length-right-requires
+length-right-requires c κs = search needs
+
+wrong-at-requires-3 : tie.Need-wrong-at-requires-3
+wrong-at-requires-3 c κs = search needs
+
+slice-aggregate-stands-at-3 : tie.Need-slice-aggregate-stands-at-3
+slice-aggregate-stands-at-3 c = search needs
+
+stands-at-requires-3 : tie.Need-stands-at-requires-3
+stands-at-requires-3 c κs = search needs
+
+wrong-at-requires-4 : tie.Need-wrong-at-requires-4
+wrong-at-requires-4 c κs = search needs
+
+or-fault-requires : tie.Need-or-fault-requires
+or-fault-requires c κs = search needs
+
+or-fault-requires-2 : tie.Need-or-fault-requires-2
+or-fault-requires-2 c κs = search needs
+
+or-fault-requires-3 : tie.Need-or-fault-requires-3
+or-fault-requires-3 c κs = search needs
+
+dimensions-fault-requires : tie.Need-dimensions-fault-requires
+dimensions-fault-requires c κs = search needs
+
+or-fault-requires-4 : tie.Need-or-fault-requires-4
+or-fault-requires-4 c κs = search needs
+
+or-fault-requires-5 : tie.Need-or-fault-requires-5
+or-fault-requires-5 c κs = search needs
+
+returns : tie.Need-returns
+unfolding diskHeaderFault diskSignature sidePlace backward
+returns c = or-link _ _ _ _ _ (c .or-fault5 .ensures) (bytes-fault _ _ _ 0 diskSignature (c .before .before .before .before .before .before .before .before .before .before .before .before .before .before .before .before .before .before .before .pre) (omega arith) (c .before .before .before .before .before .before .wrong-at4 .ensures) (c .before .before .before .before .before .before .before .stands-at3 .ensures)) (or-link _ _ _ _ _ (c .before .or-fault4 .ensures) (c .before .before .dimensions-fault .ensures) (or-link _ _ _ _ _ (c .before .before .before .or-fault3 .ensures) (c .before .before .before .before .before .before .before .before .before .wrong-at3 .ensures ∙ ap (wrongAt 34) (c .before .before .before .before .before .before .before .before .before .before .length-right .ensures)) (or-link _ _ _ _ _ (c .before .before .before .before .or-fault2 .ensures) (c .before .before .before .before .before .before .before .before .before .before .before .word-fault .ensures) (or-link _ _ _ _ _ (c .before .before .before .before .before .or-fault .ensures) (bytes-fault _ _ _ 40 sidePlace (c .before .before .before .before .before .before .before .before .before .before .before .before .before .before .before .before .before .before .before .pre) (omega arith) (c .before .before .before .before .before .before .before .before .before .before .before .before .wrong-at2 .ensures) (c .before .before .before .before .before .before .before .before .before .before .before .before .before .stands-at2 .ensures)) (bytes-fault _ _ _ 58 backward (c .before .before .before .before .before .before .before .before .before .before .before .before .before .before .before .before .before .before .before .pre) (omega arith) (c .before .before .before .before .before .before .before .before .before .before .before .before .before .before .before .wrong-at .ensures) (c .before .before .before .before .before .before .before .before .before .before .before .before .before .before .before .before .stands-at .ensures))))))
+
+pub disk-header-fault-spec : {M : Type 1} → statement M
+disk-header-fault-spec =
+    tie.close
+    (tie.spec
+    slice-aggregate-stands-at
+    stands-at-requires
+    wrong-at-requires
+    slice-aggregate-stands-at-2
+    stands-at-requires-2
+    wrong-at-requires-2
+    word-fault-requires
+    length-right-requires
+    wrong-at-requires-3
+    slice-aggregate-stands-at-3
+    stands-at-requires-3
+    wrong-at-requires-4
+    or-fault-requires
+    or-fault-requires-2
+    or-fault-requires-3
+    dimensions-fault-requires
+    or-fault-requires-4
+    or-fault-requires-5
+    returns)

@@ -1,0 +1,49 @@
+-- `new_by_hash` meets its contract.
+-- Assumes nothing.
+use Prim.Native.Nat.{_-_}
+use native.Mathlib.Nat.{sub-zero}
+use borrow.Author.Needs.{needs}
+use Rattle.files.specs.Laws.Loading.NameHashes.{new-by-hash, hash-place}
+use Rattle.files.proofs.names.new_by_hash.Statement.{statement}
+use Rattle.files.proofs.names.new_by_hash.Tie as tie
+
+slot-place-requires : tie.Need-slot-place-requires
+slot-place-requires c κs = search needs
+
+name-hash-requires : tie.Need-name-hash-requires
+name-hash-requires c κs = search needs
+
+element-copy-out-if1 : tie.Need-element-copy-out-if1
+element-copy-out-if1 c = search needs
+
+returns : tie.Need-returns
+returns c = new-by-hash _ _ _ _ (c .before .before .before .before .before .before .pre .4) (c .before .before .before .before .before .before .pre .5) (c .before .before .before .before .before .before .pre .1) (c .before .before .before .before .before .before .pre .6) (rw (hash-place _ _ _ (c .before .before .before .before .before .before .pre .0) (c .before .before .before .before .before .before .pre .1) (c .before .before .before .before .before .before .pre .2) _ _ (c .before .before .before .slot-place .ensures .0) (c .before .before .name-hash .ensures .0)) at (c .if1 .taken))
+
+sub-new-name : tie.Need-sub-new-name
+sub-new-name c = search needs
+
+part-new-name-start : tie.Need-part-new-name-start
+part-new-name-start c = search needs
+
+part-new-name-end : tie.Need-part-new-name-end
+part-new-name-end c = search needs
+
+new-name-requires : tie.Need-new-name-requires
+new-name-requires c κs = search needs
+
+returns-2 : tie.Need-returns-2
+returns-2 c = rw sub-zero at (c .new-name .ensures)
+
+pub new-by-hash-spec : {M : Type 1} → statement M
+new-by-hash-spec =
+    tie.close
+    (tie.spec
+    slot-place-requires
+    name-hash-requires
+    element-copy-out-if1
+    returns
+    sub-new-name
+    part-new-name-start
+    part-new-name-end
+    new-name-requires
+    returns-2)
