@@ -1,5 +1,19 @@
--- What is promised of the cell definitions alone: what is written is read, and three sync bytes in a row stand only where they were written.
+-- The promises of this crate. Passed on from Caught.antt, where they are proved: those of wrong bits. Stated here, below: what is written is read, three sync
+-- bytes in a row stand only where they were written, and values.
 -- Rests on the laws of a written row.
+
+-- ---- wrong bits: two lists of bytes that each end with their CRC
+
+-- detectable-caught: they are the same where their bits differ detectably; by its three cases, among 16 neighbouring bits alone, at three places at most of up
+-- to 4,144, at an odd number of places
+pub use Rattle.cells.specs.Caught.{detectable-caught, burst-caught, three-caught, odd-caught}
+-- crc-zero: bytes are followed by their CRC exactly if the register is 0 after all bits, the CRC's own among them
+pub use Rattle.cells.specs.Caught.{crc-zero}
+-- one-in-65536: where 16 or more neighbouring bits are replaced in all ways, at most one way in 65,536 is followed by its CRC
+pub use Rattle.cells.specs.Caught.{one-in-65536}
+-- seventeen-pass: four wrong bits among 17 can pass
+pub use Rattle.cells.specs.Caught.{seventeen-pass}
+-- what the statements here cite
 use mathlib.Core.List.{[], _∷_}
 use mathlib.Core.Path.{_≡_, refl, sym, ap, _∙_}
 use mathlib.Core.Bool.{true}
@@ -17,6 +31,8 @@ use Rattle.cells.specs.Laws.Number.{byte-from}
 use Rattle.cells.specs.Laws.Sync.{sync-from, three-first, three-second, three-third}
 use Rattle.cells.specs.Laws.Written.{byte-at, sync-here}
 use Rattle.cells.specs.Laws.Triple.{triple-at}
+
+-- ---- stated here
 
 -- any row of n items
 module _ (items : ℕ → Item) (n : ℕ) where

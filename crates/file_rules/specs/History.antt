@@ -1,21 +1,21 @@
 -- history: demand 3 as one statement, for every format that is accepted, whatever the image held, and every list of calls.
--- Beside it history-check: the check passes after every history.
--- Assumes nothing: these are definitions. The proofs are `history` and `history-check` in Laws/Theorem/History.antt.
+-- Beside it history-check: the check passes after every history; and every-byte: blocks and offsets reach every byte of an image.
+-- Assumes nothing: these are definitions. The proofs are `history`, `history-check` and `every-byte` in Laws/Theorem/History.antt.
 use mathlib.Core.Path.{_≡_}
 use mathlib.Core.Bool.{true, cond}
 use mathlib.Core.List.{List, []}
 use mathlib.Core.Option.{Option, none, some}
 use Prim.Native.Nat.{ℕ, suc, _+_, _*_, _/_, _%_, _≤_, _<_, max}
 use lib.Dec.{leb}
-use lib.ListN.{length}
+use lib.ListN.{length, getD}
 use Rattle.laws.specs.Numbers.{at16}
-use Rattle.sector_rules.specs.Geometry.{imageBytes}
+use Rattle.sector_rules.specs.Geometry.{blocks, imageBytes}
 use Rattle.sector_rules.specs.Replies.{done, refusal}
 use Rattle.file_rules.specs.declared.Record.the-variants.{File}
 use Rattle.file_rules.specs.Arguments.{FormatArguments}
 use Rattle.file_rules.specs.Calls.{Outcome, format, check, read, add}
 use Rattle.file_rules.specs.Directory.{entryByte, slotByte, held, dirEnd}
-use Rattle.file_rules.specs.Disk.{Disk, diskOf, imageOf}
+use Rattle.file_rules.specs.Disk.{Disk, blockOf, offsetOf, diskOf, imageOf}
 use Rattle.file_rules.specs.Histories.{Call, imageOuts, imageEnd, modelOuts, modelEnd, filesLeft, mostPresent, blocksOfFiles, fileNamed, IsPresent}
 use Rattle.file_rules.specs.Map.{recordAt}
 use Rattle.file_rules.specs.Model.{NamedFile, entryFrom, dirBlocks, usable, freeWord, modelDisk, modelFormat, resultOf}
@@ -62,7 +62,8 @@ pub record Holds (args : FormatArguments) (calls : List Call)
   pub add-gives : (x : NamedFile) → 1 ≤ length (x .name) → length (x .name) ≤ 36 → fileNamed (x .name) files ≡ none
       → add image (x .name) (x .date) (x .content) .answer
       ≡ cond (leb (dirBlocks (max most (suc (length files))) + (blocksOfFiles files + blocksFor (length (x .content)))) usable) done (refusal 15)
-  -- every byte outside header, map, directory slots of present files and those files is zero
+  -- every byte outside header, map, directory slots of present files and those files is zero. Blocks and offsets reach every byte of the image: its byte i is
+  -- the disk's byte at block `blockOf i`, offset `offsetOf i` (EveryByte, below; the law image-disk says it of whole images)
   pub zero-else : (b o : ℕ) → (Belongs (diskOf image) files b o → ⊥) → diskOf image b o ≡ 0
 
 -- the image after the format
@@ -85,3 +86,9 @@ abbrev pub HistoryCheck : Type 0
 HistoryCheck =
     (old : List ℕ) (args : FormatArguments) (calls : List Call) → length old ≡ imageBytes → length (args .title) ≤ titleMost
     → check (imageEnd (formatted old args) calls) ≡ done
+
+-- byte i of an image is the byte of its disk at the block and offset that i belongs to
+abbrev pub EveryByte : Type 0
+EveryByte =
+    (image : List ℕ) (i : ℕ) → i < imageBytes
+    → (blockOf i < blocks) × (offsetOf i < blockBytes) × (getD image i 0 ≡ diskOf image (blockOf i) (offsetOf i))

@@ -14,4 +14,5 @@ pub mod History
 pub mod Refusals
 pub mod Values
 pub mod HeaderValues
+pub mod Theorems
 pub mod Laws

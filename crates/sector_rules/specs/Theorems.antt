@@ -1,10 +1,41 @@
--- What is promised of the placement alone, beside its values: placement-bijective and tables-inverse.
+-- The promises of this crate. Passed on from the files where they are proved: all but two. Stated here, below: placement-bijective and tables-inverse.
 -- Rests on the laws of the placement (Laws.Base.Geometry).
+
+-- placement-values: eleven sectors by block and sector, and the image sector of each
+pub use Rattle.sector_rules.specs.Values.{placement-values}
+-- ---- packing and unpacking
+
+-- round-trip: for every block image of 737,280 bytes, what pack gives is accepted by unpack, which gives the same bytes back (RoundTrip.antt)
+pub use Rattle.sector_rules.specs.Laws.Trip.RoundTrip.{round-trip}
+-- hfe-header-values: the packed HFE header as a row of bytes, and for each byte of it what 2 names where that byte is another
+pub use Rattle.sector_rules.specs.HeaderValues.{hfe-header-values}
+-- reply-values: the lengths that 1 refuses, what 3 judges of a track table, the numbers 4 to 7, each with its places
+pub use Rattle.sector_rules.specs.ReplyValues.{reply-values}
+-- ---- damage (Caught.antt)
+
+-- crc-counted: the test of a header's or field's CRC is, on its data bits, the test that one-in-65536 counts; field-longest: a data field has as many of them
+-- as three-caught allows
+pub use Rattle.sector_rules.specs.Caught.{crc-counted, field-longest}
+-- field-caught: a delivered field whose data bits differ detectably, one of them wrong, is refused; burst-refused: so is one whose changed cells lie among 32
+-- neighbouring ones, a data bit of them wrong
+pub use Rattle.sector_rules.specs.Caught.{field-caught, burst-refused}
+-- header-caught: a header that differs detectably is lost, or has no wrong bit
+pub use Rattle.sector_rules.specs.Caught.{header-caught}
+-- sector-caught: what is delivered of a sector with a damaged field is what was recorded; side-caught: so on a damaged side
+pub use Rattle.sector_rules.specs.Caught.{sector-caught, side-caught}
+-- unpack-caught: an HFE image whose fields are damaged unpacks as before or is refused; unpack-refused: with a wrong bit in such a field it is refused
+pub use Rattle.sector_rules.specs.Caught.{unpack-caught, unpack-refused}
+-- packed-caught: a packed image whose sides are damaged unpacks to the block image that was packed, or is refused; packed-burst: so where on each side the
+-- changed cells lie among 32 neighbouring ones
+pub use Rattle.sector_rules.specs.Caught.{packed-caught, packed-burst}
+-- what the statements here cite
 use mathlib.Core.Path.{_≡_}
 use Prim.Native.Nat.{ℕ, _+_, _*_, _/_, _%_, _<_}
 use lib.ListN.{getD}
 use Rattle.sector_rules.specs.Geometry.{sectors, trackSectors, allSectors, sidePlace, backward, imageSector, runningSector}
 use Rattle.sector_rules.specs.Laws.Base.Geometry.{forth-back, back-forth, image-lt, running-lt, running-image, image-running}
+
+-- ---- stated here
 
 -- the placement maps the 1,440 running sectors onto the 1,440 image sectors, and its inverse undoes it both ways
 pub record Bijective : Type 0 where

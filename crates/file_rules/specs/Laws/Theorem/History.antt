@@ -1,5 +1,5 @@
--- history: demand 3 holds.
--- Assumes nothing.
+-- history, history-check and every-byte. On an image each call does what it does in the inner model (OnImages: runs), which agrees with the model
+-- (InModel: agree) and whose slots have the files that the accepted calls leave (FilesLeft: left-is); its invariant (InnerModel: Inv) gives the rest.
 use mathlib.Core.Path.{_≡_, refl, sym, ap, ap₂, _∙_, subst}
 use mathlib.Core.Bool.{Bool, true, false, cond}
 use mathlib.Core.List.{List, []}
@@ -7,24 +7,26 @@ use mathlib.Core.Option.{none, some}
 use Prim.Native.Nat.{ℕ, suc, _+_, _≤_, _<_, max}
 use native.Mathlib.Omega.{arith}
 use lib.Dec.{leb}
-use lib.ListN.{length}
+use lib.ListN.{length, getD}
 use Rattle.laws.specs.Below.{count}
 use Rattle.laws.specs.Numbers.{at16}
 use Rattle.laws.specs.Options.{isSome}
 use Rattle.laws.specs.Laws.Cases.{by-order, by-test}
-use Rattle.laws.specs.Laws.Tests.{lt-true, lt-false, true≢false, cond-true, cond-false}
+use Rattle.laws.specs.Laws.Tests.{lt-true, lt-false, true≢false, cond-true, cond-false, and-true}
 use Rattle.laws.specs.Laws.Lowest.{lowest-low}
 use Rattle.sector_rules.specs.Replies.{done, refusal}
 use Rattle.file_rules.specs.Calls.{Outcome, ImageChanged, bufferKept, freshOwner, formatDisk, format, check, deliver, read, add}
 use Rattle.file_rules.specs.Directory.{nameEq, nameRight, held, dirEnd}
 use Rattle.file_rules.specs.Arguments.{FormatArguments}
 use Rattle.file_rules.specs.Disk.{Disk, diskOf, imageOf}
-use Rattle.file_rules.specs.Histories.{Call, imageOut, imageOuts, imageEnd, modelOuts, modelEnd, filesLeft, mostPresent, blocksOfFiles, fileNamed, IsPresent, toAdd, toRead}
-use Rattle.file_rules.specs.History.{dataFound, HasEntry, Belongs, Holds, formatted, EveryHistory, HistoryCheck}
+use Rattle.file_rules.specs.Histories.{Call, toAdd, toRead, imageOut, imageOuts, imageEnd, modelOuts, modelEnd}
+use Rattle.file_rules.specs.Histories.{filesLeft, mostPresent, blocksOfFiles, fileNamed, IsPresent}
+use Rattle.file_rules.specs.History.{dataFound, HasEntry, Belongs, Holds, formatted, EveryHistory, HistoryCheck, EveryByte}
 use Rattle.file_rules.specs.Laws.InModel.Agree.{agree, fresh-listed, start-is}
-use Rattle.file_rules.specs.Laws.Base.Disk.{length-image}
+use Rattle.file_rules.specs.Laws.Base.Disk.{block-lt, offset-lt, byte-is, length-image}
 use Rattle.file_rules.specs.Laws.InnerModel.Reads.{dirEnd-is, word20, held-is, found-slot}
-use Rattle.file_rules.specs.Laws.InnerModel.Inner.{Inner, presentCount, fileBlocks, render, emptySlots, formatM, findM, readM, ChangedM, refusedM, peakAfter, roomFor, addM, outM, outsM, endM}
+use Rattle.file_rules.specs.Laws.InnerModel.Inner.{Inner, presentCount, fileBlocks, render, emptySlots, formatM, findM, readM}
+use Rattle.file_rules.specs.Laws.InnerModel.Inner.{ChangedM, refusedM, peakAfter, roomFor, addM, outM, outsM, endM}
 use Rattle.file_rules.specs.Laws.InnerModel.Invariant.{partsOf, Inv}
 use Rattle.file_rules.specs.Laws.FilesLeft.Left.{count-is, left-is}
 use Rattle.file_rules.specs.Laws.InModel.Listed.{withOwner, BlocksListed}
@@ -81,10 +83,12 @@ module _ (m : Inner) (v : Inv m) (fs : List NamedFile) (r : Fills (m .slots) fs)
   read-found name buf p q =
       cond-true _ _ (bounds-name name p q)
       ∙ by-name name
-      (λ x h e f. cond-true _ _ (lt-true h) ∙ ap (λ (l : HeldFile). deliver (heldData l) buf) e ∙ result-is (x .content) buf ∙ ap (λ (l : HeldFile). dataFound l buf) (sym f))
+      (λ x h e f. cond-true _ _ (lt-true h) ∙ ap (λ (l : HeldFile). deliver (heldData l) buf) e ∙ result-is (x .content) buf
+      ∙ ap (λ (l : HeldFile). dataFound l buf) (sym f))
       (λ h f. cond-false _ _ (lt-false h) ∙ ap (λ (l : HeldFile). dataFound l buf) (sym f))
 
-  add-found : (x : NamedFile) → 1 ≤ length (x .name) → length (x .name) ≤ nameMost → fileNamed (x .name) fs ≡ none → addM m x .answer ≡ cond (roomFor m x) done (refusal 15)
+  add-found : (x : NamedFile) → 1 ≤ length (x .name) → length (x .name) ≤ nameMost → fileNamed (x .name) fs ≡ none
+      → addM m x .answer ≡ cond (roomFor m x) done (refusal 15)
   unfolding addM refusedM
   add-found x p q n =
       let t : nameRight (x .name) ≡ true = bounds-name (x .name) p q in
@@ -181,7 +185,9 @@ module _ (args : FormatArguments) (calls : List Call) where
         no-less = room-left;
         add-gives = λ x p q n.
             add-at x ∙ add-found m v fs (both .0) x p q n
-            ∙ ap (λ (b : Bool). cond b done (refusal 15)) (room-by m v fs (both .0) x ∙ ap (λ (p : ℕ). leb (dirBlocks (max p (suc (length fs))) + (blocksOfFiles fs + blocksFor (length (x .content)))) usable) peak-most-is);
+            ∙ ap (λ (b : Bool). cond b done (refusal 15))
+            (room-by m v fs (both .0) x
+            ∙ ap (λ (p : ℕ). leb (dirBlocks (max p (suc (length fs))) + (blocksOfFiles fs + blocksFor (length (x .content)))) usable) peak-most-is);
         zero-else =
             subst (λ (d : Disk). (b o : ℕ) → (Belongs d fs b o → ⊥) → d b o ≡ 0) (sym on-disk) (zero-outside m v fs (both .0));
       }
@@ -195,6 +201,7 @@ module _ (args : FormatArguments) (calls : List Call) where
       room-left : dirBlocks P + blocksOfFiles fs ≤ usable
       room-left = omega (arith, v .free-sum, ap dirBlocks peak-most-is, size-is m v fs (both .0))
 
+-- for every history each reply, each result buffer and the whole image are the model's, and what the model says of them holds
 pub history : EveryHistory
 history old args calls long short =
     let f : format old args ≡ record { answer = done; image = imageOf (formatDisk args) } = format-done old args long short in
@@ -210,7 +217,8 @@ history old args calls long short =
       ap (λ (w : ImageChanged). w .answer) f,
       subst (λ (im : List ℕ). Holds args calls im (imageOuts (formatted old args) calls)
           (filesLeft [] calls (imageOuts (formatted old args) calls)) (mostPresent [] calls (imageOuts (formatted old args) calls))) (sym e)
-          (subst (λ (xs : List Outcome). Holds args calls (imageOf (render (endM (formatM args) calls))) xs (filesLeft [] calls xs) (mostPresent [] calls xs)) (sym o)
+          (subst (λ (xs : List Outcome).
+          Holds args calls (imageOf (render (endM (formatM args) calls))) xs (filesLeft [] calls xs) (mostPresent [] calls xs)) (sym o)
           (holds args calls)),
     )
 
@@ -225,3 +233,12 @@ history-check old args calls long short =
     ap (λ (l : List ℕ). imageEnd l calls) (ap (λ (x : ImageChanged). x .image) f ∙ ap imageOf (format-is args))
     ∙ runs calls (formatM args) (format-inv args) .1 in
     ap check e ∙ img-sound n w _ _
+
+-- each byte of an image is a byte of its disk
+pub every-byte : EveryByte
+unfolding diskOf
+every-byte image i h = (
+  block-lt i h,
+  offset-lt i h,
+  sym (cond-true _ _ (and-true (lt-true (block-lt i h)) (lt-true (offset-lt i h))) ∙ ap (λ (k : ℕ). getD image k 0) (byte-is i h)),
+)

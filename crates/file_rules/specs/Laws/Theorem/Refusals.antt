@@ -14,7 +14,8 @@ use Rattle.sector_rules.specs.Replies.{done, refusal}
 use Rattle.sector_rules.specs.declared.Reply.{Reply}
 use Rattle.sector_rules.specs.Packed.{packReply, packHfe}
 use Rattle.sector_rules.specs.Unpacked.{unpackReply, unpackImage}
-use Rattle.file_rules.specs.Calls.{Outcome, DiskChanged, ImageChanged, bufferKept, diskKept, imageKept, imageRight, wrongLength, format, deliver, listSound, list, readSound, read, needed, addSound, imaged, add, removeSound, remove}
+use Rattle.file_rules.specs.Calls.{Outcome, DiskChanged, ImageChanged, bufferKept, diskKept, imageKept, imageRight, wrongLength}
+use Rattle.file_rules.specs.Calls.{format, deliver, listSound, list, readSound, read, needed, addSound, imaged, add, removeSound, remove}
 use Rattle.file_rules.specs.Directory.{nameRight, dirEnd, findName, vacantSlot}
 use Rattle.file_rules.specs.Arguments.{FormatArguments}
 use Rattle.file_rules.specs.Disk.{Disk, diskOf, imageOf}
@@ -132,6 +133,7 @@ pack-unchanged image hfe n = cond-false _ _ (eq-false n)
 
 -- ---- the whole
 
+-- no refused call changes a lent byte
 pub refusals-keep : RefusalsKeep
 refusals-keep =
     record {

@@ -1,0 +1,15 @@
+-- The promises of this crate, each stated and proved in the files that its line names, and passed on with what it promises.
+-- Assumes nothing.
+
+-- refusals-keep: a call that is refused changes no lent byte, for every entry point of the library that is lent bytes to write. Refusals.antt
+pub use Rattle.file_rules.specs.Laws.Theorem.Refusals.{refusals-keep}
+-- history: for every history of calls after a format, each reply, each result buffer and the whole final image are the model's. History.antt
+pub use Rattle.file_rules.specs.Laws.Theorem.History.{history}
+-- history-check: the check passes after every history. History.antt
+pub use Rattle.file_rules.specs.Laws.Theorem.History.{history-check}
+-- every-byte: byte i of an image is the byte of its disk at a block and offset, so that history, which speaks of these, speaks of every byte. History.antt
+pub use Rattle.file_rules.specs.Laws.Theorem.History.{every-byte}
+-- disk-header-values: the header of a formatted disk as a row of bytes, and for each byte of it what 8 names where that byte is another. HeaderValues.antt
+pub use Rattle.file_rules.specs.HeaderValues.{disk-header-values}
+-- values-to-check: eleven placements, and a file's map record; record-values: a map record of each kind by its bytes, read and written. Values.antt
+pub use Rattle.file_rules.specs.Values.{values-to-check, record-values}
