@@ -1,14 +1,13 @@
 -- refusals-keep: a call that is refused changes no lent byte. An add or a remove that is refused on a sound disk leaves the disk, and so the image of it
 -- (image-disk); each other refusal gives back what was lent.
 -- Assumes nothing.
-use mathlib.Core.Path.{_≡_, refl, sym, ap, _∙_, subst}
+use mathlib.Core.Path.{_≡_, refl, ap, _∙_}
 use mathlib.Core.Bool.{Bool, true, false, cond}
 use mathlib.Core.List.{List}
 use Prim.Native.Nat.{ℕ}
 use lib.Dec.{leb, ltb}
 use lib.ListN.{length}
-use Rattle.laws.specs.Laws.Cases.{by-test}
-use Rattle.laws.specs.Laws.Tests.{eq-false, cond-true, cond-false}
+use Rattle.laws.specs.Laws.Tests.{eq-false, cond-false}
 use Rattle.sector_rules.specs.Geometry.{imageBytes}
 use Rattle.sector_rules.specs.Replies.{done, refusal}
 use Rattle.sector_rules.specs.declared.Reply.{Reply}
@@ -30,9 +29,9 @@ use Rattle.file_rules.specs.Sizes.{titleMost}
 abbrev KeepsDisk : Disk → DiskChanged → Type 0
 KeepsDisk d c = Refuses (c .answer) → c .diskAfter ≡ d
 
-refused-keeps : (d : Disk) (r : Reply) → KeepsDisk d (diskKept d r)
+diskKept-keeps : (d : Disk) (r : Reply) → KeepsDisk d (diskKept d r)
 unfolding diskKept
-refused-keeps d r n = refl
+diskKept-keeps d r n = refl
 
 done-keeps : (d d′ : Disk) → KeepsDisk d (record { answer = done; diskAfter = d′ })
 done-keeps d d′ n = absurd (n refl)
@@ -45,25 +44,25 @@ addSound-keeps : (d : Disk) (name : List ℕ) (date : ℕ) (content : List ℕ) 
 unfolding addSound
 addSound-keeps d name date content =
     by-cond d (nameRight name) _ _
-    (by-cond d (ltb (findName d name) (dirEnd d)) _ _ (refused-keeps d _)
-    (by-cond d (leb (needed d (vacantSlot d) (length content)) (freeCount d)) _ _ (done-keeps d _) (refused-keeps d _)))
-    (refused-keeps d _)
+    (by-cond d (ltb (findName d name) (dirEnd d)) _ _ (diskKept-keeps d _)
+    (by-cond d (leb (needed d (vacantSlot d) (length content)) (freeCount d)) _ _ (done-keeps d _) (diskKept-keeps d _)))
+    (diskKept-keeps d _)
 
 removeSound-keeps : (d : Disk) (name : List ℕ) → KeepsDisk d (removeSound d name)
 unfolding removeSound
 removeSound-keeps d name =
     by-cond d (nameRight name) _ _
-    (by-cond d (ltb (findName d name) (dirEnd d)) _ _ (done-keeps d _) (refused-keeps d _))
-    (refused-keeps d _)
+    (by-cond d (ltb (findName d name) (dirEnd d)) _ _ (done-keeps d _) (diskKept-keeps d _))
+    (diskKept-keeps d _)
 
 -- ---- on an image
 
 abbrev KeepsImage : List ℕ → ImageChanged → Type 0
 KeepsImage image w = Refuses (w .answer) → w .image ≡ image
 
-unwritten-keeps : (image : List ℕ) (r : Reply) → KeepsImage image (imageKept image r)
+imageKept-keeps : (image : List ℕ) (r : Reply) → KeepsImage image (imageKept image r)
 unfolding imageKept
-unwritten-keeps image r n = refl
+imageKept-keeps image r n = refl
 
 imaged-keeps : (image : List ℕ) → length image ≡ imageBytes → (c : DiskChanged) → KeepsDisk (diskOf image) c → KeepsImage image (imaged c)
 unfolding imaged
@@ -72,54 +71,52 @@ imaged-keeps image long c k n = ap imageOf (k n) ∙ image-disk image long
 add-unchanged : (image name : List ℕ) (date : ℕ) (content : List ℕ) → KeepsImage image (add image name date content)
 unfolding add
 add-unchanged image name date content =
-    by-sound image _ _ (KeepsImage image) (unwritten-keeps image) (λ long e. imaged-keeps image long _ (addSound-keeps (diskOf image) name date content))
+    by-sound image _ _ (KeepsImage image) (imageKept-keeps image) (λ long e. imaged-keeps image long _ (addSound-keeps (diskOf image) name date content))
 
 remove-unchanged : (image name : List ℕ) → KeepsImage image (remove image name)
 unfolding remove
 remove-unchanged image name =
-    by-sound image _ _ (KeepsImage image) (unwritten-keeps image) (λ long e. imaged-keeps image long _ (removeSound-keeps (diskOf image) name))
+    by-sound image _ _ (KeepsImage image) (imageKept-keeps image) (λ long e. imaged-keeps image long _ (removeSound-keeps (diskOf image) name))
+
+by-image : (image : List ℕ) (b : Bool) (x y : ImageChanged) → KeepsImage image x → KeepsImage image y → KeepsImage image (cond b x y)
+by-image image true x y p q = p
+by-image image false x y p q = q
 
 format-unchanged : (image : List ℕ) (args : FormatArguments) → KeepsImage image (format image args)
 unfolding format
 format-unchanged image args =
-    by-test (imageRight image)
-    (λ t. subst (KeepsImage image) (sym (cond-true _ _ t))
-    (by-test (leb (length (args .title)) titleMost)
-    (λ s. subst (KeepsImage image) (sym (cond-true _ _ s)) (λ n. absurd (n refl)))
-    (λ s. subst (KeepsImage image) (sym (cond-false _ _ s)) (unwritten-keeps image (refusal 12)))))
-    (λ t. subst (KeepsImage image) (sym (cond-false _ _ t)) (unwritten-keeps image wrongLength))
+    by-image image (imageRight image) _ _
+    (by-image image (leb (length (args .title)) titleMost) _ _ (λ n. absurd (n refl)) (imageKept-keeps image (refusal 12)))
+    (imageKept-keeps image wrongLength)
 
 -- ---- on a result buffer
 
 abbrev KeepsBuffer : List ℕ → Outcome → Type 0
 KeepsBuffer buf o = Refuses (o .answer) → o .buffer ≡ buf
 
-kept-keeps : (buf : List ℕ) (r : Reply) → KeepsBuffer buf (bufferKept buf r)
+bufferKept-keeps : (buf : List ℕ) (r : Reply) → KeepsBuffer buf (bufferKept buf r)
 unfolding bufferKept
-kept-keeps buf r n = refl
-
-deliver-keeps : (bytes buf : List ℕ) → KeepsBuffer buf (deliver bytes buf)
-unfolding deliver
-deliver-keeps bytes buf =
-    by-test (leb (length bytes) (length buf))
-    (λ s. subst (KeepsBuffer buf) (sym (cond-true _ _ s)) (λ n. absurd (n refl)))
-    (λ s. subst (KeepsBuffer buf) (sym (cond-false _ _ s)) (kept-keeps buf _))
+bufferKept-keeps buf r n = refl
 
 by-buffer : (buf : List ℕ) (b : Bool) (x y : Outcome) → KeepsBuffer buf x → KeepsBuffer buf y → KeepsBuffer buf (cond b x y)
 by-buffer buf true x y p q = p
 by-buffer buf false x y p q = q
 
+deliver-keeps : (bytes buf : List ℕ) → KeepsBuffer buf (deliver bytes buf)
+unfolding deliver
+deliver-keeps bytes buf = by-buffer buf (leb (length bytes) (length buf)) _ _ (λ n. absurd (n refl)) (bufferKept-keeps buf _)
+
 list-unchanged : (image buf : List ℕ) → KeepsBuffer buf (list image buf)
 unfolding list listSound
-list-unchanged image buf = by-sound image _ _ (KeepsBuffer buf) (kept-keeps buf) (λ long e. deliver-keeps _ buf)
+list-unchanged image buf = by-sound image _ _ (KeepsBuffer buf) (bufferKept-keeps buf) (λ long e. deliver-keeps _ buf)
 
 read-unchanged : (image name buf : List ℕ) → KeepsBuffer buf (read image name buf)
 unfolding read readSound
 read-unchanged image name buf =
-    by-sound image _ _ (KeepsBuffer buf) (kept-keeps buf)
+    by-sound image _ _ (KeepsBuffer buf) (bufferKept-keeps buf)
     (λ long e. by-buffer buf (nameRight name) _ _
-    (by-buffer buf (ltb (findName (diskOf image) name) (dirEnd (diskOf image))) _ _ (deliver-keeps _ buf) (kept-keeps buf (refusal 14)))
-    (kept-keeps buf (refusal 12)))
+    (by-buffer buf (ltb (findName (diskOf image) name) (dirEnd (diskOf image))) _ _ (deliver-keeps _ buf) (bufferKept-keeps buf (refusal 14)))
+    (bufferKept-keeps buf (refusal 12)))
 
 -- ---- the sector layer's calls
 
