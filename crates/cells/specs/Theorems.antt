@@ -60,9 +60,9 @@ unfolding crc crcFrom crcBits crcBit bitOf
 header-crc = refl
 
 -- the cells of a gap byte, 4E, after a 0
-pub gap-cells : itemWord 0 (Plain 0x4E) ≡ 0x9254
+pub gap-byte-cells : itemWord 0 (Plain 0x4E) ≡ 0x9254
 unfolding itemWord word number tab itemCell mfmCell before clock bitOf
-gap-cells = refl
+gap-byte-cells = refl
 
 -- the same as stored
 pub gap-stored : tab (packed (itemCell 0 (Plain 0x4E))) 2 ≡ 0x49 ∷ 0x2A ∷ []

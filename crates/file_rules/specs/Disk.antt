@@ -17,8 +17,8 @@ abbrev pub Disk : Type 0
 Disk = ℕ → ℕ → ℕ
 
 -- where byte o of block b stands in the image
-unfoldable pub bytePlace : ℕ → ℕ → ℕ
-bytePlace b o = imageSector (running b (o / sectorBytes)) * sectorBytes + o % sectorBytes
+unfoldable pub imagePlace : ℕ → ℕ → ℕ
+imagePlace b o = imageSector (running b (o / sectorBytes)) * sectorBytes + o % sectorBytes
 
 -- the block that byte i of the image belongs to, and its offset there
 unfoldable pub blockOf : ℕ → ℕ
@@ -29,7 +29,7 @@ offsetOf i = runningSector (i / sectorBytes) % blockSectors * sectorBytes + i % 
 
 -- the disk in block order that an image holds; 0 outside the blocks
 unfoldable pub diskOf : List ℕ → Disk
-diskOf image b o = cond (ltb b blocks && ltb o blockBytes) (getD image (bytePlace b o) 0) 0
+diskOf image b o = cond (ltb b blocks && ltb o blockBytes) (getD image (imagePlace b o) 0) 0
 
 -- the image of a disk in block order
 unfoldable pub imageOf : Disk → List ℕ

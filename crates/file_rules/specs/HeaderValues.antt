@@ -28,7 +28,7 @@ use Rattle.file_rules.specs.Calls.{ImageChanged, imageKept, unless, imag
 use Rattle.file_rules.specs.Check.{diskSignature, lengthRight, dimensionsFault, diskHeaderFault}
 use Rattle.file_rules.specs.Check.{mapFault, fileFault, freeRight, refusal8, refusal9, refusal10, refusal11, diskRefusal}
 use Rattle.file_rules.specs.Directory.{dirBytes}
-use Rattle.file_rules.specs.Disk.{Disk, bytePlace, blockOf, offsetOf, diskOf, imageOf}
+use Rattle.file_rules.specs.Disk.{Disk, imagePlace, blockOf, offsetOf, diskOf, imageOf}
 use Rattle.file_rules.specs.Laws.OnImages.Run.{format-done}
 use Rattle.file_rules.specs.Sizes.{blockBytes, slotCount}
 use Rattle.file_rules.specs.Written.{fixedByte, diskHeaderByte, diskWith}
@@ -132,8 +132,8 @@ module _ (d g : Disk) (e : (o : ℕ) → o < 96 → d 0 o ≡ g 0 o) where
       (rw (tables-alike .0, tables-alike .1)))
 
 -- the header stands at the image's beginning
-first-place : (o : ℕ) → o < 96 → bytePlace 0 o ≡ o
-unfolding bytePlace imageSector sidePlace
+first-place : (o : ℕ) → o < 96 → imagePlace 0 o ≡ o
+unfolding imagePlace imageSector sidePlace
 first-place o l =
     let a : o / 512 ≡ 0 = omega arith in
     let b : o % 512 ≡ o = omega arith in

@@ -94,7 +94,7 @@ usable = blocks - 1
 
 -- the free word: 3 x (479 - D - S)
 unfoldable pub freeWord : ℕ → ℕ → ℕ
-freeWord peak size = blockSectors * (usable - (dirBlocks peak + size))
+freeWord peak taken = blockSectors * (usable - (dirBlocks peak + taken))
 
 -- ---- the model's image
 

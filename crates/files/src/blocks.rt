@@ -4,7 +4,7 @@ ghost use Prim.Native.Nat.{_+_, _*_, _%_, _<_, _≤_, _^_};
 ghost use Rattle.laws.specs.Numbers.{at16, at32};
 ghost use Rattle.sector_rules.specs.Geometry.{blocks, sectorBytes, imageBytes};
 ghost use Rattle.file_rules.specs.Sizes.{blockBytes, blocksOf};
-ghost use Rattle.file_rules.specs.Disk.{bytePlace, diskOf};
+ghost use Rattle.file_rules.specs.Disk.{imagePlace, diskOf};
 ghost use Rattle.files.specs.Laws.Writing.Rows.{runPlace};
 use crate::sizes::BLOCK_BYTES;
 use sector_rules::BlockNumber;
@@ -21,7 +21,7 @@ pub fn blocks_of(bytes: usize) -> usize
 // Where byte o of block b stands in the image.
 pub fn byte_place(b: usize, o: usize) -> usize
     requires { ⌜ (b < blocks) × (o < blockBytes) ⌝ }
-    ensures { λ r. ⌜ (r ≡ bytePlace b o) × (r < imageBytes) ⌝ }
+    ensures { λ r. ⌜ (r ≡ imagePlace b o) × (r < imageBytes) ⌝ }
 {
     let sector = Geometry::running(BlockNumber(b), o / Geometry::SECTOR_BYTES);
     let at = Geometry::place(sector);

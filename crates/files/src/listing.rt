@@ -27,6 +27,7 @@ use crate::sizes::NO_BLOCK;
 use crate::sizes::SLOT_BYTES;
 use sector_rules::Reply;
 use sectors::Geometry;
+use sectors::done_with;
 use sectors::refused;
 
 // How many slots below the end are held.
@@ -89,7 +90,7 @@ fn list_sound(image: &[u8], map: &MapNumbers, out: &mut [u8]) -> Reply
         return refused(16, needed);
     }
     list_slots(image, &dir, end, out);
-    refused(0, needed)
+    done_with(needed)
 }
 
 // Lists the held entries, 64 bytes each; a refusal leaves the buffer as it was.

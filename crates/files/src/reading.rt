@@ -31,6 +31,7 @@ use crate::sizes::NO_BLOCK;
 use crate::sizes::SLOT_BYTES;
 use sector_rules::Reply;
 use sectors::Geometry;
+use sectors::done_with;
 use sectors::refused;
 
 // Whether a file's name has 1 to 36 bytes.
@@ -118,7 +119,7 @@ fn read_slot(image: &[u8], map: &MapNumbers, dir: &BlockRow, k: usize, out: &mut
         return refused(16, needed);
     }
     copy_data(image, map, k, needed, out);
-    refused(0, needed)
+    done_with(needed)
 }
 
 // Reads a file of a sound disk, or 12, 14 or 16.

@@ -57,7 +57,7 @@ running b s = blockSectors * b + s
 
 -- the image sector of a table entry on track t: side 1 comes after side 0, and the place is turned
 abbrev pub onTrack : ℕ → ℕ → ℕ
-onTrack t mark = trackSectors * t + sectors * (mark / 128) + (mark % 128 + trackOffset * t) % sectors
+onTrack t value = trackSectors * t + sectors * (value / 128) + (value % 128 + trackOffset * t) % sectors
 
 -- the image sector of a running sector number
 unfoldable pub imageSector : ℕ → ℕ

@@ -16,6 +16,7 @@ pub use placement::BACKWARD;
 pub use placement::SIDE_PLACE;
 pub use placement::place;
 pub use replies::done;
+pub use replies::done_with;
 pub use replies::refused;
 pub use unpacking::unpack;
 

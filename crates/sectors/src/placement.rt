@@ -3,6 +3,7 @@ ghost use mathlib.Core.Path.{_≡_};
 ghost use Prim.Native.Nat.{_<_};
 ghost use Rattle.sector_rules.specs.Geometry.{running, imageSector, runningSector, placeReply};
 use crate::Geometry;
+use crate::replies::done_with;
 use crate::replies::refused;
 use sector_rules::BlockNumber;
 use sector_rules::ImageSector;
@@ -90,9 +91,9 @@ impl Geometry {
     {
         let track = n.0 / Geometry::TRACK_SECTORS;
         let left = n.0 % Geometry::TRACK_SECTORS;
-        let mark = SIDE_PLACE[left] as usize;
-        let side = mark / 128;
-        let place = (mark % 128 + Geometry::TRACK_OFFSET * track) % Geometry::SECTORS;
+        let value = SIDE_PLACE[left] as usize;
+        let side = value / 128;
+        let place = (value % 128 + Geometry::TRACK_OFFSET * track) % Geometry::SECTORS;
         ImageSector(Geometry::TRACK_SECTORS * track + Geometry::SECTORS * side + place)
     }
 
@@ -116,12 +117,7 @@ pub fn place(block: usize, sector: usize) -> Reply
 {
     if (block < Geometry::BLOCKS) & (sector < Geometry::BLOCK_SECTORS) {
         let at = Geometry::place(Geometry::running(BlockNumber(block), sector));
-        return Reply {
-            number: 0,
-            first: at.0,
-            second: 0,
-            third: 0,
-        };
+        return done_with(at.0);
     }
     refused(12, 0)
 }

@@ -15,6 +15,18 @@ pub fn done() -> Reply
     }
 }
 
+// Done, with the first place named.
+pub fn done_with(first: usize) -> Reply
+    ensures { λ r. ⌜ r ≡ Replies.reply 0 first 0 0 ⌝ }
+{
+    Reply {
+        number: 0,
+        first,
+        second: 0,
+        third: 0,
+    }
+}
+
 // A refusal with its number and first place.
 pub fn refused(number: usize, first: usize) -> Reply
     ensures { λ r. ⌜ r ≡ Replies.reply number first 0 0 ⌝ }

@@ -16,7 +16,7 @@ use Rattle.laws.specs.Laws.Tab.{tab-self, tab-length, tab-in, tab-ext}
 use Rattle.laws.specs.Laws.Changes.{upd-same, upd-other, upd₂-same, upd₂-other}
 use Rattle.sector_rules.specs.Geometry.{sectorBytes, blockSectors, allSectors, blocks, imageBytes, running, imageSector, runningSector}
 use Rattle.sector_rules.specs.Laws.Base.Geometry.{image-lt, running-lt, running-image, image-running}
-use Rattle.file_rules.specs.Disk.{Disk, bytePlace, blockOf, offsetOf, diskOf, imageOf, setByte}
+use Rattle.file_rules.specs.Disk.{Disk, imagePlace, blockOf, offsetOf, diskOf, imageOf, setByte}
 use Rattle.file_rules.specs.Sizes.{blockBytes}
 
 -- ---- a byte's two places
@@ -28,25 +28,25 @@ module _ (b o : ℕ) (hb : b < blocks) (ho : o < blockBytes) where
   run-lt : run < allSectors
   run-lt = omega arith
 
-  pub byte-lt : bytePlace b o < imageBytes
-  unfolding bytePlace
-  byte-lt = omega (arith, image-lt run run-lt)
+  pub image-place-lt : imagePlace b o < imageBytes
+  unfolding imagePlace
+  image-place-lt = omega (arith, image-lt run run-lt)
 
-  byte-run : runningSector (bytePlace b o / sectorBytes) ≡ run
-  unfolding bytePlace
+  byte-run : runningSector (imagePlace b o / sectorBytes) ≡ run
+  unfolding imagePlace
   byte-run =
       let e : (imageSector run * sectorBytes + o % sectorBytes) / sectorBytes ≡ imageSector run = omega arith in
       ap runningSector e ∙ running-image run run-lt
 
-  pub block-byte : blockOf (bytePlace b o) ≡ b
+  pub block-byte : blockOf (imagePlace b o) ≡ b
   unfolding blockOf
   block-byte = ap (λ (x : ℕ). x / blockSectors) byte-run ∙ omega arith
 
-  byte-low : bytePlace b o % sectorBytes ≡ o % sectorBytes
-  unfolding bytePlace
+  byte-low : imagePlace b o % sectorBytes ≡ o % sectorBytes
+  unfolding imagePlace
   byte-low = omega arith
 
-  pub offset-byte : offsetOf (bytePlace b o) ≡ o
+  pub offset-byte : offsetOf (imagePlace b o) ≡ o
   unfolding offsetOf
   offset-byte = ap₂ (λ (x y : ℕ). x % blockSectors * sectorBytes + y) byte-run byte-low ∙ omega arith
 
@@ -59,8 +59,8 @@ module _ (i : ℕ) (h : i < imageBytes) where
   unfolding offsetOf
   offset-lt = omega arith
 
-  pub byte-is : bytePlace (blockOf i) (offsetOf i) ≡ i
-  unfolding bytePlace blockOf offsetOf
+  pub byte-is : imagePlace (blockOf i) (offsetOf i) ≡ i
+  unfolding imagePlace blockOf offsetOf
   byte-is =
       let r : ℕ = runningSector (i / sectorBytes) in
       let e₁ : running (r / blockSectors) ((r % blockSectors * sectorBytes + i % sectorBytes) / sectorBytes) ≡ r = omega arith in
@@ -82,7 +82,7 @@ disk-image d far out =
     (λ hb. by-order o blockBytes
     (λ ho.
     cond-true _ _ (and-true (lt-true hb) (lt-true ho))
-    ∙ tab-in (λ (i : ℕ). d (blockOf i) (offsetOf i)) imageBytes (bytePlace b o) (byte-lt b o hb ho)
+    ∙ tab-in (λ (i : ℕ). d (blockOf i) (offsetOf i)) imageBytes (imagePlace b o) (image-place-lt b o hb ho)
     ∙ ap₂ d (block-byte b o hb ho) (offset-byte b o hb ho))
     (λ k. cond-false _ _ (and-false-right (ltb b blocks) (lt-false k)) ∙ sym (out b o k)))
     (λ k. cond-false _ _ (and-false-left (ltb o blockBytes) (lt-false k)) ∙ sym (far b o k))))
@@ -103,12 +103,12 @@ image-cong d d′ e =
     tab-ext (λ (i : ℕ). d (blockOf i) (offsetOf i)) (λ (i : ℕ). d′ (blockOf i) (offsetOf i)) imageBytes
     (λ i h. e (blockOf i) (offsetOf i) (block-lt i h) (offset-lt i h))
 
-pub image-set : (d : Disk) (b o v : ℕ) → b < blocks → o < blockBytes → set (imageOf d) (bytePlace b o) v ≡ imageOf (setByte d b o v)
+pub image-set : (d : Disk) (b o v : ℕ) → b < blocks → o < blockBytes → set (imageOf d) (imagePlace b o) v ≡ imageOf (setByte d b o v)
 unfolding imageOf setByte
 image-set d b o v hb ho =
     let f : ℕ → ℕ = λ (i : ℕ). d (blockOf i) (offsetOf i) in
     let g : ℕ → ℕ = λ (i : ℕ). setByte d b o v (blockOf i) (offsetOf i) in
-    let at : ℕ = bytePlace b o in
+    let at : ℕ = imagePlace b o in
     let n : length (tab f imageBytes) ≡ imageBytes = tab-length f imageBytes in
     ext-getD 0 (set (tab f imageBytes) at v) (tab g imageBytes) (length-set (tab f imageBytes) at v ∙ n ∙ sym (tab-length g imageBytes))
     (λ i h.
@@ -116,7 +116,7 @@ image-set d b o v hb ho =
     by-equal i at
     (λ e.
     ap (λ (x : ℕ). getD (set (tab f imageBytes) at v) x 0) e
-    ∙ getD-set-same (tab f imageBytes) at v 0 (omega (arith, byte-lt b o hb ho))
+    ∙ getD-set-same (tab f imageBytes) at v 0 (omega (arith, image-place-lt b o hb ho))
     ∙ sym (tab-in g imageBytes i lt
     ∙ upd₂-same d b (upd (d b) o v) (blockOf i) (offsetOf i) (ap blockOf e ∙ block-byte b o hb ho)
     ∙ upd-same (d b) o v (offsetOf i) (ap offsetOf e ∙ offset-byte b o hb ho)))
@@ -126,6 +126,6 @@ image-set d b o v hb ho =
     ∙ sym (tab-in g imageBytes i lt
     ∙ by-equal (blockOf i) b
     (λ p.
-    let q : offsetOf i ≢ o = λ z. e (sym (byte-is i lt) ∙ ap₂ bytePlace p z) in
+    let q : offsetOf i ≢ o = λ z. e (sym (byte-is i lt) ∙ ap₂ imagePlace p z) in
     upd₂-same d b (upd (d b) o v) (blockOf i) (offsetOf i) p ∙ upd-other (d b) o v (offsetOf i) q ∙ ap (λ (x : ℕ). d x (offsetOf i)) (sym p))
     (λ p. upd₂-other d b (upd (d b) o v) (blockOf i) (offsetOf i) p))))

@@ -109,14 +109,14 @@ fills-count (x ∷ fs) slots n past r =
     (ap isSome (upd-same slots k none k refl)) (λ j l q. ap isSome (sym (upd-other slots k none j q)))
     ∙ ap suc (fills-count fs (upd slots k none) n past′ (r .2))
 
-pub fills-size : (fs : List NamedFile) (slots : ℕ → HeldFile) (n : ℕ) → ((k : ℕ) → n ≤ k → slots k ≡ none) → Fills slots fs
+pub fills-blocks : (fs : List NamedFile) (slots : ℕ → HeldFile) (n : ℕ) → ((k : ℕ) → n ≤ k → slots k ≡ none) → Fills slots fs
     → sum n (λ (k : ℕ). heldBlocks (slots k)) ≡ blocksOfFiles fs
 unfolding heldBlocks blocksOfFiles
-fills-size [] slots n past r = zeroes n
+fills-blocks [] slots n past r = zeroes n
   where
     zeroes : (i : ℕ) → sum i (λ (k : ℕ). heldBlocks (slots k)) ≡ 0
     zeroes i = sum-none i (λ (k : ℕ). heldBlocks (slots k)) (λ j h. unfold heldBlocks in ap heldBlocks (r j))
-fills-size (x ∷ fs) slots n past r =
+fills-blocks (x ∷ fs) slots n past r =
     let k : ℕ = r .0 in
     let inside : k < n = by-order k n (λ h. h) (λ h. absurd (none-some x (sym (past k h) ∙ r .1))) in
     let past′ : (j : ℕ) → n ≤ j → upd slots k none j ≡ none =
@@ -127,7 +127,7 @@ fills-size (x ∷ fs) slots n past r =
     (λ j l q. ap heldBlocks (sym (upd-other slots k none j q))) in
     let gone : heldBlocks (upd slots k none k) ≡ 0 = ap heldBlocks (upd-same slots k none k refl) in
     let was : heldBlocks (slots k) ≡ blocksFor (length (x .content)) = ap heldBlocks (r .1) in
-    omega (arith, fills-size fs (upd slots k none) n past′ (r .2))
+    omega (arith, fills-blocks fs (upd slots k none) n past′ (r .2))
 
 -- ---- which
 

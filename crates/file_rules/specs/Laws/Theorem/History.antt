@@ -30,7 +30,7 @@ use Rattle.file_rules.specs.Laws.InnerModel.Inner.{ChangedM, refusedM, p
 use Rattle.file_rules.specs.Laws.InnerModel.Invariant.{partsOf, Inv}
 use Rattle.file_rules.specs.Laws.FilesLeft.Left.{count-is, left-is}
 use Rattle.file_rules.specs.Laws.InModel.Listed.{withOwner, BlocksListed}
-use Rattle.file_rules.specs.Laws.FilesLeft.Present.{Fills, none-some, fills-size, fills-named, fills-not-named, fills-present, present-fills}
+use Rattle.file_rules.specs.Laws.FilesLeft.Present.{Fills, none-some, fills-blocks, fills-named, fills-not-named, fills-present, present-fills}
 use Rattle.file_rules.specs.Laws.Base.Names.{bounds-name}
 use Rattle.file_rules.specs.Laws.Base.Results.{result-is}
 use Rattle.file_rules.specs.Laws.OnImages.Run.{format-done, format-is, format-inv, img-disk, img-sound, out-is, runs, end-inv}
@@ -56,9 +56,9 @@ fresh-peak args = refl
 -- ---- what is read of the inner model at the end
 
 module _ (m : Inner) (v : Inv m) (fs : List NamedFile) (r : Fills (m .slots) fs) where
-  size-is : fileBlocks m ≡ blocksOfFiles fs
+  present-blocks : fileBlocks m ≡ blocksOfFiles fs
   unfolding fileBlocks
-  size-is = fills-size fs (m .slots) (suc (m .peak)) (λ k h. v .slot-past k h) r
+  present-blocks = fills-blocks fs (m .slots) (suc (m .peak)) (λ k h. v .slot-past k h) r
 
   -- a name that no slot has
   no-slot : (name : List ℕ) → suc (m .peak) ≤ findM m name → (k : ℕ) (x : NamedFile) → m .slots k ≡ some x → nameEq (x .name) name ≡ false
@@ -101,7 +101,7 @@ module _ (m : Inner) (v : Inv m) (fs : List NamedFile) (r : Fills (m .slots) fs)
   room-by : (x : NamedFile) → roomFor m x ≡ leb (dirBlocks (max (m .peak) (suc (length fs))) + (blocksOfFiles fs + blocksFor (length (x .content)))) usable
   unfolding roomFor peakAfter
   room-by x =
-      ap₂ (λ (p s : ℕ). leb (dirBlocks (max (m .peak) (suc p)) + (s + blocksFor (length (x .content)))) usable) (count-is m v fs r) size-is
+      ap₂ (λ (p s : ℕ). leb (dirBlocks (max (m .peak) (suc p)) + (s + blocksFor (length (x .content)))) usable) (count-is m v fs r) present-blocks
 
   slot-of : (x : NamedFile) → IsPresent x fs → (k : ℕ) × (0 < k) × (k < dirEnd (render m)) × HasEntry (render m) k x
   slot-of x p =
@@ -181,7 +181,7 @@ module _ (args : FormatArguments) (calls : List Call) where
             (of-slot m v fs (both .0));
         peak-is = sym (with-model .2) ∙ peak-most-is;
         free-word =
-            ap (λ (d : Disk). at16 (d 0) 20) on-disk ∙ word20 m v ∙ ap₂ freeWord peak-most-is (size-is m v fs (both .0));
+            ap (λ (d : Disk). at16 (d 0) 20) on-disk ∙ word20 m v ∙ ap₂ freeWord peak-most-is (present-blocks m v fs (both .0));
         no-less = room-left;
         add-gives = λ x p q n.
             add-at x ∙ add-found m v fs (both .0) x p q n
@@ -199,7 +199,7 @@ module _ (args : FormatArguments) (calls : List Call) where
       add-at x = unfold imageOut outM bufferKept in ap (λ (o : Outcome). o .answer) (out-is m v (toAdd x))
 
       room-left : dirBlocks P + blocksOfFiles fs ≤ usable
-      room-left = omega (arith, v .free-sum, ap dirBlocks peak-most-is, size-is m v fs (both .0))
+      room-left = omega (arith, v .free-sum, ap dirBlocks peak-most-is, present-blocks m v fs (both .0))
 
 -- for every history each reply, each result buffer and the whole image are the model's, and what the model says of them holds
 pub history : EveryHistory

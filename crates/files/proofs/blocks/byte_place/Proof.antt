@@ -4,7 +4,7 @@ use Prim.Native.Nat.{_-_, _<_}
 use native.Mathlib.Omega.{arith}
 use borrow.Author.Needs.{needs}
 use Rattle.sector_rules.specs.Laws.Base.Geometry.{image-lt}
-use Rattle.file_rules.specs.Disk.{bytePlace}
+use Rattle.file_rules.specs.Disk.{imagePlace}
 use Rattle.files.proofs.blocks.byte_place.Statement.{statement}
 use Rattle.files.proofs.blocks.byte_place.Tie as tie
 
@@ -24,7 +24,7 @@ add-result : tie.Need-add-result
 add-result c = record { fits = omega (arith, bound c) }
 
 returns : tie.Need-returns
-unfolding bytePlace
+unfolding imagePlace
 returns c = (rw (c .before .place .ensures, c .before .before .running .ensures), omega (arith, bound c))
 
 pub byte-place-spec : {M : Type 1} → statement M

@@ -3,7 +3,7 @@
 use mathlib.Core.Path.{sym, ap, _∙_}
 use Prim.Native.Nat.{ℕ, _*_, _%_}
 use Rattle.laws.specs.Laws.Tests.{lt-true, lt-false, cond-true, cond-false}
-use Rattle.file_rules.specs.Disk.{bytePlace}
+use Rattle.file_rules.specs.Disk.{imagePlace}
 use Rattle.file_rules.specs.Sizes.{slotBytes, blockSlots}
 use Rattle.files.specs.Laws.Loading.Slots.{slotPlace}
 use borrow.Author.Needs.{needs}
@@ -28,7 +28,7 @@ byte-place-requires c κs = search needs
 
 returns : tie.Need-returns
 unfolding slotPlace
-returns c = let e = c .before .before .block-number .ensures in (c .byte-place .ensures .0 ∙ ap (λ (b : ℕ). bytePlace b (c .before .before .before .before .args .k % blockSlots * slotBytes)) e ∙ sym (cond-true _ _ (lt-true (rw e at (c .before .if1 .taken)))), omega arith)
+returns c = let e = c .before .before .block-number .ensures in (c .byte-place .ensures .0 ∙ ap (λ (b : ℕ). imagePlace b (c .before .before .before .before .args .k % blockSlots * slotBytes)) e ∙ sym (cond-true _ _ (lt-true (rw e at (c .before .if1 .taken)))), omega arith)
 
 returns-2 : tie.Need-returns-2
 unfolding slotPlace

@@ -38,15 +38,15 @@ returns c = (c .refused .ensures ∙ misses-answer _ _ _ (ap (λ (x : ℕ). slot
 list-slots-requires : tie.Need-list-slots-requires
 list-slots-requires c κs = (c .before .before .before .before .before .before .before .before .before .before .pre .0, omega (arith, c .before .before .before .before .before .before .before .before .before .before .pre .1, c .before .before .before .before .before .dir-end .ensures .0), located-directory _ _ _ (c .before .before .before .before .before .before .before .before .before .before .pre .2) (c .before .before .before .before .before .before .file-blocks .ensures), omega (arith, c .before .before .if1 .left, c .before .before .before .count-held .ensures .0, entries-length (diskOf (c .before .before .before .before .before .before .before .before .before .before .args .image .now)) (c .before .before .before .before .before .dir-end .result)))
 
-refused-requires-2 : tie.Need-refused-requires-2
-refused-requires-2 c κs = search needs
+done-with-requires : tie.Need-done-with-requires
+done-with-requires c κs = search needs
 
 same-length : tie.Need-same-length
 same-length c = search needs
 
 returns-2 : tie.Need-returns-2
 unfolding listSound
-returns-2 c = (c .refused2 .ensures ∙ fits-answer _ (c .before .before .before .before .before .before .before .before .before .before .before .before .before .before .args .out .now) _ (ap (λ (x : ℕ). slotBytes * x) (c .before .before .before .before .before .before .before .count-held .ensures .0 ∙ ap (λ (x : ℕ). count x (held (diskOf (c .before .before .before .before .before .before .before .before .before .before .before .before .before .before .args .image .now)))) (c .before .before .before .before .before .before .before .before .before .dir-end .ensures .0)) ∙ entries-length (diskOf (c .before .before .before .before .before .before .before .before .before .before .before .before .before .before .args .image .now)) (dirEnd (diskOf (c .before .before .before .before .before .before .before .before .before .before .before .before .before .before .args .image .now)))) (c .before .before .before .before .before .before .if1 .left), c .before .before .before .list-slots .ensures ∙ ap (λ (x : ℕ). put (c .before .before .before .before .before .before .before .before .before .before .before .before .before .before .args .out .now) 0 (entries (diskOf (c .before .before .before .before .before .before .before .before .before .before .before .before .before .before .args .image .now)) x)) (c .before .before .before .before .before .before .before .before .before .dir-end .ensures .0) ∙ fits-buffer _ (c .before .before .before .before .before .before .before .before .before .before .before .before .before .before .args .out .now) _ (ap (λ (x : ℕ). slotBytes * x) (c .before .before .before .before .before .before .before .count-held .ensures .0 ∙ ap (λ (x : ℕ). count x (held (diskOf (c .before .before .before .before .before .before .before .before .before .before .before .before .before .before .args .image .now)))) (c .before .before .before .before .before .before .before .before .before .dir-end .ensures .0)) ∙ entries-length (diskOf (c .before .before .before .before .before .before .before .before .before .before .before .before .before .before .args .image .now)) (dirEnd (diskOf (c .before .before .before .before .before .before .before .before .before .before .before .before .before .before .args .image .now)))) (c .before .before .before .before .before .before .if1 .left))
+returns-2 c = (c .done-with .ensures ∙ fits-answer _ (c .before .before .before .before .before .before .before .before .before .before .before .before .before .before .args .out .now) _ (ap (λ (x : ℕ). slotBytes * x) (c .before .before .before .before .before .before .before .count-held .ensures .0 ∙ ap (λ (x : ℕ). count x (held (diskOf (c .before .before .before .before .before .before .before .before .before .before .before .before .before .before .args .image .now)))) (c .before .before .before .before .before .before .before .before .before .dir-end .ensures .0)) ∙ entries-length (diskOf (c .before .before .before .before .before .before .before .before .before .before .before .before .before .before .args .image .now)) (dirEnd (diskOf (c .before .before .before .before .before .before .before .before .before .before .before .before .before .before .args .image .now)))) (c .before .before .before .before .before .before .if1 .left), c .before .before .before .list-slots .ensures ∙ ap (λ (x : ℕ). put (c .before .before .before .before .before .before .before .before .before .before .before .before .before .before .args .out .now) 0 (entries (diskOf (c .before .before .before .before .before .before .before .before .before .before .before .before .before .before .args .image .now)) x)) (c .before .before .before .before .before .before .before .before .before .dir-end .ensures .0) ∙ fits-buffer _ (c .before .before .before .before .before .before .before .before .before .before .before .before .before .before .args .out .now) _ (ap (λ (x : ℕ). slotBytes * x) (c .before .before .before .before .before .before .before .count-held .ensures .0 ∙ ap (λ (x : ℕ). count x (held (diskOf (c .before .before .before .before .before .before .before .before .before .before .before .before .before .before .args .image .now)))) (c .before .before .before .before .before .before .before .before .before .dir-end .ensures .0)) ∙ entries-length (diskOf (c .before .before .before .before .before .before .before .before .before .before .before .before .before .before .args .image .now)) (dirEnd (diskOf (c .before .before .before .before .before .before .before .before .before .before .before .before .before .before .args .image .now)))) (c .before .before .before .before .before .before .if1 .left))
 
 pub list-sound-spec : {M : Type 1} → statement M
-list-sound-spec = tie.close (tie.spec file-blocks-requires dir-end-requires count-held-requires mul-needed refused-requires returns list-slots-requires refused-requires-2 same-length returns-2)
+list-sound-spec = tie.close (tie.spec file-blocks-requires dir-end-requires count-held-requires mul-needed refused-requires returns list-slots-requires done-with-requires same-length returns-2)

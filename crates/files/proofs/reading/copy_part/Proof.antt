@@ -9,7 +9,7 @@ use borrow.Author.Needs.{needs}
 use Rattle.laws.specs.Changes.{overlay}
 use Rattle.laws.specs.Laws.Overlay.{overlay-none, overlay-length}
 use Rattle.file_rules.specs.Disk.{diskOf}
-use Rattle.files.specs.Laws.Writing.Rows.{overlay-on}
+use Rattle.laws.specs.Laws.Overlay.{overlay-on}
 use Rattle.files.proofs.reading.copy_part.Statement.{statement}
 use Rattle.files.proofs.reading.copy_part.Tie as tie
 

@@ -18,14 +18,14 @@ returns c = (c .refused .ensures ∙ misses-answer _ _ _ (data-length _ _ _ (c .
 copy-data-requires : tie.Need-copy-data-requires
 copy-data-requires c κs = (c .before .before .before .before .before .pre .0, c .before .before .before .before .before .pre .2, search needs, search needs)
 
-refused-requires-2 : tie.Need-refused-requires-2
-refused-requires-2 c κs = search needs
+done-with-requires : tie.Need-done-with-requires
+done-with-requires c κs = search needs
 
 same-length : tie.Need-same-length
 same-length c = search needs
 
 returns-2 : tie.Need-returns-2
-returns-2 c = (c .refused2 .ensures ∙ fits-answer _ (c .before .before .before .before .before .before .before .before .before .args .out .now) _ (data-length _ _ _ (c .before .before .before .before .before .before .data-length .ensures .0)) (c .before .before .before .before .before .if1 .left), c .before .before .before .copy-data .ensures ∙ data-put _ _ _ _ (c .before .before .before .before .before .before .data-length .ensures .0) ∙ fits-buffer _ (c .before .before .before .before .before .before .before .before .before .args .out .now) _ (data-length _ _ _ (c .before .before .before .before .before .before .data-length .ensures .0)) (c .before .before .before .before .before .if1 .left))
+returns-2 c = (c .done-with .ensures ∙ fits-answer _ (c .before .before .before .before .before .before .before .before .before .args .out .now) _ (data-length _ _ _ (c .before .before .before .before .before .before .data-length .ensures .0)) (c .before .before .before .before .before .if1 .left), c .before .before .before .copy-data .ensures ∙ data-put _ _ _ _ (c .before .before .before .before .before .before .data-length .ensures .0) ∙ fits-buffer _ (c .before .before .before .before .before .before .before .before .before .args .out .now) _ (data-length _ _ _ (c .before .before .before .before .before .before .data-length .ensures .0)) (c .before .before .before .before .before .if1 .left))
 
 pub read-slot-spec : {M : Type 1} → statement M
-read-slot-spec = tie.close (tie.spec data-length-requires refused-requires returns copy-data-requires refused-requires-2 same-length returns-2)
+read-slot-spec = tie.close (tie.spec data-length-requires refused-requires returns copy-data-requires done-with-requires same-length returns-2)

@@ -7,15 +7,14 @@ use Prim.Native.Nat.{ℕ, zero, suc, _+_, _-_, _*_, _/_, _%_, _≤_, _<_}
 use native.Mathlib.Nat.{zero-add, not-suc-le-zero}
 use native.Mathlib.Numerals.{add-one}
 use native.Mathlib.Omega.{arith}
-use lib.ListN.{length, getD, length-append, List·getD-append}
-use lib.Seq.{getD-append-add}
+use lib.ListN.{length, length-append}
 use Rattle.laws.specs.Lists.{tab, elementAt}
 use Rattle.laws.specs.Changes.{overlay, put}
 use Rattle.laws.specs.Below.{count}
 use Rattle.laws.specs.Laws.Cases.{by-equal, by-test}
 use Rattle.laws.specs.Laws.Tests.{lt-true, lt-false, le-true, le-false, cond-true, cond-false}
 use Rattle.laws.specs.Laws.Tab.{tab-length}
-use Rattle.laws.specs.Laws.Overlay.{overlay-none, overlay-next, overlay-cong, overlay-length, put-tab}
+use Rattle.laws.specs.Laws.Overlay.{overlay-none, overlay-cong, overlay-length, put-append, put-tab}
 use Rattle.laws.specs.Laws.Count.{count-yes, count-no}
 use Rattle.sector_rules.specs.declared.Reply.{Reply}
 use Rattle.sector_rules.specs.Replies.{reply, refusal}
@@ -33,15 +32,9 @@ pub put-none : (d : List ℕ) (at : ℕ) → d ≡ put d at []
 unfolding put
 put-none d at = overlay-none d at (elementAt [] 0)
 
-pub put-append : (d out xs ys : List ℕ) → out ≡ put d 0 xs → put out (length xs) ys ≡ put d 0 (xs ++ ys)
-unfolding put elementAt
-put-append d out xs ys e =
-    let g : ℕ → ℕ = λ (k : ℕ). getD (xs ++ ys) (0 + k) 0 in
-    let low : out ≡ overlay d 0 (length xs) g =
-    e ∙ overlay-cong d 0 (length xs) (λ (k : ℕ). getD xs (0 + k) 0) g (λ k h. rw (zero-add k) (sym (List·getD-append xs ys 0 k h))) in
-    overlay-next d (length xs) (length ys) (λ (k : ℕ). getD ys (0 + k) 0) g out low
-    (λ k h. rw (zero-add k, zero-add (length xs + k)) (sym (getD-append-add xs ys k 0)))
-    ∙ ap (λ (n : ℕ). overlay d 0 n g) (sym (length-append xs ys))
+-- a list put after the one at the beginning
+pub put-next : (d out xs ys : List ℕ) → out ≡ put d 0 xs → put out (length xs) ys ≡ put d 0 (xs ++ ys)
+put-next d out xs ys e = ap₂ (λ (l : List ℕ) (n : ℕ). put l n ys) e (sym (zero-add (length xs))) ∙ put-append d xs ys 0
 
 -- ---- the slots of a list
 
@@ -177,7 +170,7 @@ module _ (d : Disk) (k c : ℕ) (e : c ≡ length (entries d k)) where
 
   pub next-put : (buf out out′ : List ℕ) → out ≡ put buf 0 (entries d k) → out′ ≡ put out c (slotPart d k) → out′ ≡ put buf 0 (entries d (k + 1))
   next-put buf out out′ p q =
-      q ∙ ap (λ (x : ℕ). put out x (slotPart d k)) e ∙ put-append buf out (entries d k) (slotPart d k) p ∙ ap (put buf 0) (sym (entries-more d k))
+      q ∙ ap (λ (x : ℕ). put out x (slotPart d k)) e ∙ put-next buf out (entries d k) (slotPart d k) p ∙ ap (put buf 0) (sym (entries-more d k))
 
 pub put-length : (d : List ℕ) (at : ℕ) (vs : List ℕ) → length (put d at vs) ≡ length d
 unfolding put

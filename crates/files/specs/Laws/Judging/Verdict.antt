@@ -20,7 +20,7 @@ use Rattle.sector_rules.specs.Geometry.{sectorBytes, running, imageSector}
 use Rattle.sector_rules.specs.Laws.Base.Geometry.{image-first}
 use Rattle.files.specs.declared.Verdict.{Verdict}
 use Rattle.files.specs.declared.Verdict.the-variants.{Passed, Refused}
-use Rattle.file_rules.specs.Disk.{Disk, bytePlace, diskOf}
+use Rattle.file_rules.specs.Disk.{Disk, imagePlace, diskOf}
 use Rattle.file_rules.specs.Check.{diskHeaderFault, refusal8}
 use Rattle.files.specs.Laws.Loading.Blocks.{disk-in}
 
@@ -52,8 +52,8 @@ verdict-some (some x) r e = ap some (let z : x ≡ r = cc in z)
 
 -- ---- the header
 
-first-place : (o : ℕ) → o < sectorBytes → bytePlace 0 o ≡ o
-unfolding bytePlace
+first-place : (o : ℕ) → o < sectorBytes → imagePlace 0 o ≡ o
+unfolding imagePlace
 first-place o h =
     let e : running 0 (o / sectorBytes) ≡ 0 = omega arith in
     ap (λ (n : ℕ). imageSector n * sectorBytes + o % sectorBytes) e ∙ ap (λ (n : ℕ). n * sectorBytes + o % sectorBytes) image-first ∙ omega arith

@@ -8,17 +8,17 @@ use lib.ListN.{getD}
 use Rattle.laws.specs.Laws.Tests.{lt-true, lt-false, cond-true, cond-false, and-true, and-false-left, and-false-right}
 use Rattle.sector_rules.specs.Geometry.{blocks}
 use Rattle.file_rules.specs.Sizes.{blockBytes}
-use Rattle.file_rules.specs.Disk.{bytePlace, diskOf}
+use Rattle.file_rules.specs.Disk.{imagePlace, diskOf}
 
 module _ (l : List ℕ) (b o : ℕ) where
-  pub disk-in : b < blocks → o < blockBytes → diskOf l b o ≡ getD l (bytePlace b o) 0
+  pub disk-in : b < blocks → o < blockBytes → diskOf l b o ≡ getD l (imagePlace b o) 0
   unfolding diskOf
-  disk-in hb ho = cond-true (getD l (bytePlace b o) 0) 0 (and-true (lt-true hb) (lt-true ho))
+  disk-in hb ho = cond-true (getD l (imagePlace b o) 0) 0 (and-true (lt-true hb) (lt-true ho))
 
   pub disk-far : blocks ≤ b → diskOf l b o ≡ 0
   unfolding diskOf
-  disk-far h = cond-false (getD l (bytePlace b o) 0) 0 (and-false-left (ltb o blockBytes) (lt-false h))
+  disk-far h = cond-false (getD l (imagePlace b o) 0) 0 (and-false-left (ltb o blockBytes) (lt-false h))
 
   pub disk-past : blockBytes ≤ o → diskOf l b o ≡ 0
   unfolding diskOf
-  disk-past h = cond-false (getD l (bytePlace b o) 0) 0 (and-false-right (ltb b blocks) (lt-false h))
+  disk-past h = cond-false (getD l (imagePlace b o) 0) 0 (and-false-right (ltb b blocks) (lt-false h))

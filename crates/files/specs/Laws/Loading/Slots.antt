@@ -21,7 +21,7 @@ use Rattle.laws.specs.Laws.Numbers.{high-row}
 use Rattle.sector_rules.specs.Geometry.{sectorBytes, blocks, imageBytes, running, imageSector}
 use Rattle.file_rules.specs.declared.Entry.{Entry}
 use Rattle.file_rules.specs.Sizes.{slotBytes, blockSlots, slotCount, nameMost}
-use Rattle.file_rules.specs.Disk.{Disk, bytePlace, diskOf}
+use Rattle.file_rules.specs.Disk.{Disk, imagePlace, diskOf}
 use Rattle.file_rules.specs.Map.{partBlock}
 use Rattle.file_rules.specs.Directory.{nameEq, entryOf, nameOf, slotByte, slotEntry, slotName, held, dirEnd, findName, vacantSlot}
 use Rattle.files.specs.Laws.Loading.Blocks.{disk-in, disk-far}
@@ -39,7 +39,7 @@ located-directory dir map d m l = record { long = l .long; parts = λ s h. l .pa
 
 -- where slot k stands in the image; its end, where the slot has no block
 unfoldable pub slotPlace : List ℕ → ℕ → ℕ
-slotPlace dir k = cond (ltb (getD dir (k / blockSlots) 0) blocks) (bytePlace (getD dir (k / blockSlots) 0) (k % blockSlots * slotBytes)) imageBytes
+slotPlace dir k = cond (ltb (getD dir (k / blockSlots) 0) blocks) (imagePlace (getD dir (k / blockSlots) 0) (k % blockSlots * slotBytes)) imageBytes
 
 pub parts-more : (dir : List ℕ) (f : ℕ → ℕ) (k v : ℕ) → k < length dir
     → ((s : ℕ) → s < k → getD dir s 0 ≡ f s) → v ≡ f k
@@ -52,8 +52,8 @@ parts-more dir f k v l h e s i =
 -- ---- a slot lies in one sector
 
 module _ (b o i : ℕ) (h : o % sectorBytes + i < sectorBytes) where
-  pub byte-along : bytePlace b (o + i) ≡ bytePlace b o + i
-  unfolding bytePlace
+  pub byte-along : imagePlace b (o + i) ≡ imagePlace b o + i
+  unfolding imagePlace
   byte-along =
       let e : (o + i) / sectorBytes ≡ o / sectorBytes = omega arith in
       let g : (o + i) % sectorBytes ≡ o % sectorBytes + i = omega arith in
@@ -72,13 +72,13 @@ module _ (image dir : List ℕ) (k : ℕ) (long : length image ≡ imageBytes) (
       disk-in image block (k % blockSlots * slotBytes + i) q (omega arith)
       ∙ ap (λ (x : ℕ). getD image x 0)
       (byte-along block (k % blockSlots * slotBytes) i (omega arith)
-      ∙ ap (λ (x : ℕ). x + i) (sym (cond-true (bytePlace block (k % blockSlots * slotBytes)) imageBytes (lt-true q))))
+      ∙ ap (λ (x : ℕ). x + i) (sym (cond-true (imagePlace block (k % blockSlots * slotBytes)) imageBytes (lt-true q))))
 
   outside : (i : ℕ) → blocks ≤ block → diskOf image block (k % blockSlots * slotBytes + i) ≡ elementAt image (slotPlace dir k) i
   unfolding slotPlace elementAt
   outside i q =
-      let e : cond (ltb block blocks) (bytePlace block (k % blockSlots * slotBytes)) imageBytes ≡ imageBytes =
-      cond-false (bytePlace block (k % blockSlots * slotBytes)) imageBytes (lt-false q) in
+      let e : cond (ltb block blocks) (imagePlace block (k % blockSlots * slotBytes)) imageBytes ≡ imageBytes =
+      cond-false (imagePlace block (k % blockSlots * slotBytes)) imageBytes (lt-false q) in
       disk-far image block (k % blockSlots * slotBytes + i) q
       ∙ sym (ap (λ (x : ℕ). getD image (x + i) 0) e ∙ getD-past image (imageBytes + i) (omega arith))
 

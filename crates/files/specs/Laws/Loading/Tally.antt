@@ -69,21 +69,21 @@ none-passes p (suc n) =
     (λ e. ap (λ (y : ℕ). eqb (cap y) 0) (count-no n p e) ∙ none-passes p n ∙ sym (ap (λ (y : Bool). not y && all (λ (b : ℕ). not (p b)) n) e))
 
 -- of the numbers below k, by their keys
-pub record Tallied (t : List ℕ) (size : ℕ) (key : ℕ → ℕ) (k : ℕ) : Type 0 where
-  pub long : length t ≡ size
-  pub counts : (x : ℕ) → x < size → getD t x 0 ≡ cap (count k (λ (b : ℕ). eqb (key b) x))
+pub record Tallied (t : List ℕ) (keys : ℕ) (key : ℕ → ℕ) (k : ℕ) : Type 0 where
+  pub long : length t ≡ keys
+  pub counts : (x : ℕ) → x < keys → getD t x 0 ≡ cap (count k (λ (b : ℕ). eqb (key b) x))
 
 pub tally-none : (n : ℕ) (key : ℕ → ℕ) → Tallied (replicate n 0) n key 0
 unfolding count cap
 tally-none n key = record { long = length-replicate n 0; counts = λ x h. getD-replicate n x 0 0 h }
 
-module _ (t : List ℕ) (size : ℕ) (key : ℕ → ℕ) (k : ℕ) (m : Tallied t size key k) where
+module _ (t : List ℕ) (keys : ℕ) (key : ℕ → ℕ) (k : ℕ) (m : Tallied t keys key k) where
   other : (x : ℕ) → key k ≢ x → count (k + 1) (λ (b : ℕ). eqb (key b) x) ≡ count k (λ (b : ℕ). eqb (key b) x)
   other x h = rw add-one (count-no k (λ (b : ℕ). eqb (key b) x) (eq-false h))
 
   -- number k has the key x
   module _ (x : ℕ) (e : x ≡ key k) where
-    pub tally-more : (v : ℕ) → x < size → v ≡ more (getD t x 0) → Tallied (set t x v) size key (k + 1)
+    pub tally-more : (v : ℕ) → x < keys → v ≡ more (getD t x 0) → Tallied (set t x v) keys key (k + 1)
     tally-more v l w =
         record {
           long = length-set t x v ∙ m .long;
@@ -102,18 +102,18 @@ module _ (t : List ℕ) (size : ℕ) (key : ℕ → ℕ) (k : ℕ) (m : Tallied 
               (λ q. getD-set-other t x y v 0 q ∙ m .counts y h ∙ ap cap (sym (other y (λ z. q (sym z ∙ sym e)))));
         }
 
-    pub tally-skip : size ≤ x → Tallied t size key (k + 1)
+    pub tally-skip : keys ≤ x → Tallied t keys key (k + 1)
     tally-skip l = record { long = m .long; counts = λ y h. m .counts y h ∙ ap cap (sym (other y (λ z. omega (arith, e)))) }
 
   -- what a cell says of the numbers
-  pub tally-one : (x : ℕ) → x < size → eqb (getD t x 0) 1 ≡ eqb (count k (λ (b : ℕ). eqb (key b) x)) 1
+  pub tally-one : (x : ℕ) → x < keys → eqb (getD t x 0) 1 ≡ eqb (count k (λ (b : ℕ). eqb (key b) x)) 1
   tally-one x h = ap (λ (y : ℕ). eqb y 1) (m .counts x h) ∙ cap-one (count k (λ (b : ℕ). eqb (key b) x))
 
-  pub tally-zero : (x : ℕ) → x < size → eqb (getD t x 0) 0 ≡ all (λ (b : ℕ). not (eqb (key b) x)) k
+  pub tally-zero : (x : ℕ) → x < keys → eqb (getD t x 0) 0 ≡ all (λ (b : ℕ). not (eqb (key b) x)) k
   tally-zero x h = ap (λ (y : ℕ). eqb y 0) (m .counts x h) ∙ none-passes (λ (b : ℕ). eqb (key b) x) k
 
   -- two numbers of one key are more than one
-  pub tally-two : (x i j : ℕ) → x < size → getD t x 0 < 2 → i < k → j < k → i ≢ j → key i ≡ x → key j ≡ x → ⊥
+  pub tally-two : (x i j : ℕ) → x < keys → getD t x 0 < 2 → i < k → j < k → i ≢ j → key i ≡ x → key j ≡ x → ⊥
   tally-two x i j h low hi hj d ei ej =
       let p : ℕ → Bool = λ (b : ℕ). eqb (key b) x in
       let q : ℕ → Bool = upd p i false in

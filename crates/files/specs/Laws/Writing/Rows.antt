@@ -16,13 +16,13 @@ use Rattle.laws.specs.Laws.Cases.{by-order, by-equal}
 use Rattle.laws.specs.Laws.Tests.{lt-true, lt-false, true-le, cond-true, cond-false, and-left, and-right}
 use Rattle.laws.specs.Laws.Tab.{tab-ext, window-part}
 use Rattle.laws.specs.Laws.Changes.{upd-same, upd-twice, patch-next}
-use Rattle.laws.specs.Laws.Overlay.{overlay-none, overlay-more, overlay-in, overlay-before, overlay-after, overlay-is, overlay-cong, overlay-clip}
+use Rattle.laws.specs.Laws.Overlay.{overlay-none, overlay-more, overlay-cong, overlay-clip}
 use Rattle.laws.specs.Laws.Overlay.{overlay-length, put-tab}
 use Rattle.sector_rules.specs.Geometry.{sectorBytes, blocks, imageBytes, running}
 use Rattle.sector_rules.specs.Laws.Base.Geometry.{image-lt}
-use Rattle.file_rules.specs.Disk.{Disk, bytePlace, diskOf, imageOf}
+use Rattle.file_rules.specs.Disk.{Disk, imagePlace, diskOf, imageOf}
 use Rattle.files.specs.Laws.Loading.Blocks.{disk-in, disk-far}
-use Rattle.file_rules.specs.Laws.Base.Disk.{byte-lt}
+use Rattle.file_rules.specs.Laws.Base.Disk.{image-place-lt}
 use Rattle.files.specs.Laws.Loading.Slots.{byte-along}
 use Rattle.files.specs.Laws.Writing.Steps.{storedRow, inside-patched}
 use Rattle.files.specs.Laws.Writing.Stored.{inside-step, set-inside, set-no-block, patched, patched-none, patched-more, patched-row}
@@ -30,16 +30,16 @@ use Rattle.file_rules.specs.Sizes.{blockBytes, slotBytes}
 
 -- where offset o of block b stands in the image; its end, where there is no such block
 unfoldable pub runPlace : ℕ → ℕ → ℕ
-runPlace b o = cond (ltb b blocks) (bytePlace b o) imageBytes
+runPlace b o = cond (ltb b blocks) (imagePlace b o) imageBytes
 
 -- ---- one row read
 
 module _ (image : List ℕ) (b o n : ℕ) (long : length image ≡ imageBytes) (ho : o < blockBytes) (h : o % sectorBytes + n ≤ sectorBytes) where
-  pub row-within : b < blocks → bytePlace b o + n ≤ imageBytes
-  unfolding bytePlace
+  pub row-within : b < blocks → imagePlace b o + n ≤ imageBytes
+  unfolding imagePlace
   row-within hb = omega (arith, image-lt (running b (o / sectorBytes)) (omega arith))
 
-  pub row-read : b < blocks → (out : List ℕ) (c at e : ℕ) → at ≡ bytePlace b o → e ≡ at + n
+  pub row-read : b < blocks → (out : List ℕ) (c at e : ℕ) → at ≡ imagePlace b o → e ≡ at + n
       → put out c (take (e - at) (drop at image)) ≡ overlay out c n (λ (j : ℕ). diskOf image b (o + j))
   unfolding window elementAt
   row-read hb out c at e q r =
@@ -56,48 +56,22 @@ module _ (image : List ℕ) (b o n : ℕ) (long : length image ≡ imageBytes) (
   pub row-far : blocks ≤ b → (out : List ℕ) (c : ℕ) → overlay out c n (λ (j : ℕ). 0) ≡ overlay out c n (λ (j : ℕ). diskOf image b (o + j))
   row-far hb out c = overlay-cong out c n (λ (j : ℕ). 0) (λ (j : ℕ). diskOf image b (o + j)) (λ j l. sym (disk-far image b (o + j) hb))
 
--- a row that goes on where the last one ended
-pub overlay-on : (d : List ℕ) (c a n : ℕ) (f g : ℕ → ℕ) (out : List ℕ) → out ≡ overlay d c a g → ((k : ℕ) → k < n → f k ≡ g (a + k))
-    → overlay out (c + a) n f ≡ overlay d c (a + n) g
-overlay-on d c a n f g out e same =
-    overlay-is d c (a + n) g (overlay out (c + a) n f) (overlay-length out (c + a) n f ∙ long) in-new in-low in-high
-  where
-    long : length out ≡ length d
-    long = ap length e ∙ overlay-length d c a g
-
-    old : (k : ℕ) → getD out k 0 ≡ getD (overlay d c a g) k 0
-    old k = ap (λ (l : List ℕ). getD l k 0) e
-
-    in-low : (k : ℕ) → k < c → getD (overlay out (c + a) n f) k 0 ≡ getD d k 0
-    in-low k h = overlay-before out (c + a) n f k (omega arith) ∙ old k ∙ overlay-before d c a g k h
-
-    in-high : (k : ℕ) → c + (a + n) ≤ k → getD (overlay out (c + a) n f) k 0 ≡ getD d k 0
-    in-high k h = overlay-after out (c + a) n f k (omega arith) ∙ old k ∙ overlay-after d c a g k (omega arith)
-
-    in-new : (k : ℕ) → c ≤ k → k < c + (a + n) → k < length d → getD (overlay out (c + a) n f) k 0 ≡ g (k - c)
-    in-new k h l b =
-        by-order k (c + a)
-        (λ m. overlay-before out (c + a) n f k m ∙ old k ∙ overlay-in d c a g k h m b)
-        (λ m.
-        let z : a + (k - (c + a)) ≡ k - c = omega arith in
-        overlay-in out (c + a) n f k m (omega arith) (omega (arith, long)) ∙ same (k - (c + a)) (omega arith) ∙ ap g z)
-
 -- ---- one row written
 
 module _ (l : List ℕ) (b o : ℕ) (g : ℕ → ℕ) (long : length l ≡ imageBytes) where
   -- in a block
-  row-inside : b < blocks → o < blockBytes → (n : ℕ) → o % sectorBytes + n ≤ sectorBytes → overlay l (bytePlace b o) n g ≡ imageOf (patched (diskOf l) b o n g)
-  row-inside hb ho zero h = sym (overlay-none l (bytePlace b o) g) ∙ patched-none l b o g long
+  row-inside : b < blocks → o < blockBytes → (n : ℕ) → o % sectorBytes + n ≤ sectorBytes → overlay l (imagePlace b o) n g ≡ imageOf (patched (diskOf l) b o n g)
+  row-inside hb ho zero h = sym (overlay-none l (imagePlace b o) g) ∙ patched-none l b o g long
   row-inside hb ho (suc n) h =
-      let m : List ℕ = overlay l (bytePlace b o) n g in
+      let m : List ℕ = overlay l (imagePlace b o) n g in
       let before : m ≡ imageOf (patched (diskOf l) b o n g) = row-inside hb ho n (omega arith) in
-      let along : bytePlace b (o + n) ≡ bytePlace b o + n = byte-along b o n (omega arith) in
-      let within : bytePlace b (o + n) < imageBytes = byte-lt b (o + n) hb (omega arith) in
-      ap (λ (k : ℕ). overlay l (bytePlace b o) k g) (sym (add-one n))
-      ∙ sym (overlay-more l (bytePlace b o) n g m (g n) (omega arith) refl refl)
+      let along : imagePlace b (o + n) ≡ imagePlace b o + n = byte-along b o n (omega arith) in
+      let within : imagePlace b (o + n) < imageBytes = image-place-lt b (o + n) hb (omega arith) in
+      ap (λ (k : ℕ). overlay l (imagePlace b o) k g) (sym (add-one n))
+      ∙ sym (overlay-more l (imagePlace b o) n g m (g n) (omega arith) refl refl)
       ∙ ap (λ (x : ℕ). set m x (g n)) (sym along)
-      ∙ patched-more (diskOf l) b o n g m (set m (bytePlace b (o + n)) (g n)) (g n) before
-      (set-inside m b (o + n) (g n) (overlay-length l (bytePlace b o) n g ∙ long) hb (omega arith)) refl
+      ∙ patched-more (diskOf l) b o n g m (set m (imagePlace b (o + n)) (g n)) (g n) before
+      (set-inside m b (o + n) (g n) (overlay-length l (imagePlace b o) n g ∙ long) hb (omega arith)) refl
       ∙ ap (λ (k : ℕ). imageOf (patched (diskOf l) b o k g)) (add-one n)
 
   -- in none
@@ -111,9 +85,9 @@ module _ (l : List ℕ) (b o : ℕ) (g : ℕ → ℕ) (long : length l ≡ image
   unfolding runPlace
   row-written n at e ho h =
       by-order b blocks
-      (λ hb. ap (λ (x : ℕ). overlay l x n g) (e ∙ cond-true (bytePlace b o) imageBytes (lt-true hb)) ∙ row-inside hb ho n h)
+      (λ hb. ap (λ (x : ℕ). overlay l x n g) (e ∙ cond-true (imagePlace b o) imageBytes (lt-true hb)) ∙ row-inside hb ho n h)
       (λ hb.
-      ap (λ (x : ℕ). overlay l x n g) (e ∙ cond-false (bytePlace b o) imageBytes (lt-false hb))
+      ap (λ (x : ℕ). overlay l x n g) (e ∙ cond-false (imagePlace b o) imageBytes (lt-false hb))
       ∙ sym (overlay-none l imageBytes g ∙ overlay-clip l imageBytes 0 n g (omega arith))
       ∙ row-nowhere hb n)
 

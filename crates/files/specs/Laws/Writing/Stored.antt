@@ -13,8 +13,8 @@ use Rattle.laws.specs.Laws.Tests.{lt-true, cond-true, and-true}
 use Rattle.laws.specs.Laws.Tab.{tab-length, tab-in}
 use Rattle.laws.specs.Laws.Changes.{upd-same, upd-other, upd₂-same, upd₂-other, patch-in, patch-below, patch-above, by-place}
 use Rattle.sector_rules.specs.Geometry.{blocks, imageBytes}
-use Rattle.file_rules.specs.Disk.{Disk, bytePlace, blockOf, offsetOf, diskOf, imageOf, setByte}
-use Rattle.file_rules.specs.Laws.Base.Disk.{byte-lt, block-byte, offset-byte, image-disk, image-cong, image-set}
+use Rattle.file_rules.specs.Disk.{Disk, imagePlace, blockOf, offsetOf, diskOf, imageOf, setByte}
+use Rattle.file_rules.specs.Laws.Base.Disk.{image-place-lt, block-byte, offset-byte, image-disk, image-cong, image-set}
 use Rattle.file_rules.specs.Sizes.{blockBytes}
 
 -- ---- disks that agree inside their blocks
@@ -26,7 +26,7 @@ pub inside-disk : (d : Disk) → EqualInside (diskOf (imageOf d)) d
 unfolding diskOf imageOf
 inside-disk d b o hb ho =
     cond-true _ _ (and-true (lt-true hb) (lt-true ho))
-    ∙ tab-in (λ (i : ℕ). d (blockOf i) (offsetOf i)) imageBytes (bytePlace b o) (byte-lt b o hb ho)
+    ∙ tab-in (λ (i : ℕ). d (blockOf i) (offsetOf i)) imageBytes (imagePlace b o) (image-place-lt b o hb ho)
     ∙ ap₂ d (block-byte b o hb ho) (offset-byte b o hb ho)
 
 pub inside-image : (l : List ℕ) (d : Disk) → l ≡ imageOf d → EqualInside (diskOf l) d
@@ -40,8 +40,8 @@ inside-step s keep l m d e q = q ∙ image-cong (s (diskOf l)) (s d) (keep (disk
 -- ---- one byte
 
 module _ (l : List ℕ) (b o v : ℕ) (e : length l ≡ imageBytes) where
-  pub set-inside : b < blocks → o < blockBytes → set l (bytePlace b o) v ≡ imageOf (setByte (diskOf l) b o v)
-  set-inside hb ho = ap (λ (x : List ℕ). set x (bytePlace b o) v) (sym (image-disk l e)) ∙ image-set (diskOf l) b o v hb ho
+  pub set-inside : b < blocks → o < blockBytes → set l (imagePlace b o) v ≡ imageOf (setByte (diskOf l) b o v)
+  set-inside hb ho = ap (λ (x : List ℕ). set x (imagePlace b o) v) (sym (image-disk l e)) ∙ image-set (diskOf l) b o v hb ho
 
   pub set-no-block : blocks ≤ b → l ≡ imageOf (setByte (diskOf l) b o v)
   unfolding setByte

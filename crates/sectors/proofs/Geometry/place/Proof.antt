@@ -6,16 +6,16 @@ use native.Mathlib.Nat.{mod-lt}
 use lib.Dec.{lit<}
 use borrow.Author.Needs.{needs}
 use Rattle.sector_rules.specs.Geometry.{imageSector, sidePlace}
-use Rattle.sectors.specs.Laws.Reading.Tables.{mark-bound}
+use Rattle.sectors.specs.Laws.Reading.Tables.{side-place-bound}
 use Rattle.sectors.proofs.Geometry.place.Statement.{statement}
 use Rattle.sectors.proofs.Geometry.place.Tie as tie
 
-array-read-mark : tie.Need-array-read-mark
-array-read-mark c = search needs
+array-read-value : tie.Need-array-read-value
+array-read-value c = search needs
 
-cast-mark : tie.Need-cast-mark
+cast-value : tie.Need-cast-value
 unfolding sidePlace
-cast-mark c = omega (arith, mark-bound (c .before .before .args .n .0 % 18) (mod-lt _ (lit< tt)))
+cast-value c = omega (arith, side-place-bound (c .before .before .args .n .0 % 18) (mod-lt _ (lit< tt)))
 
 mul-place : tie.Need-mul-place
 mul-place c = search needs
@@ -28,15 +28,15 @@ mul-t11 c = search needs
 
 mul-t13 : tie.Need-mul-t13
 unfolding sidePlace
-mul-t13 c = omega (arith, mark-bound (c .before .before .args .n .0 % 18) (mod-lt _ (lit< tt)))
+mul-t13 c = omega (arith, side-place-bound (c .before .before .args .n .0 % 18) (mod-lt _ (lit< tt)))
 
 add-t12 : tie.Need-add-t12
 unfolding sidePlace
-add-t12 c = omega (arith, mark-bound (c .before .before .args .n .0 % 18) (mod-lt _ (lit< tt)))
+add-t12 c = omega (arith, side-place-bound (c .before .before .args .n .0 % 18) (mod-lt _ (lit< tt)))
 
 add-t14 : tie.Need-add-t14
 unfolding sidePlace
-add-t14 c = omega (arith, mark-bound (c .before .before .args .n .0 % 18) (mod-lt _ (lit< tt)))
+add-t14 c = omega (arith, side-place-bound (c .before .before .args .n .0 % 18) (mod-lt _ (lit< tt)))
 
 returns : tie.Need-returns
 unfolding imageSector sidePlace
@@ -46,8 +46,8 @@ pub place-spec : {M : Type 1} → statement M
 place-spec =
     tie.close
     (tie.spec
-    array-read-mark
-    cast-mark
+    array-read-value
+    cast-value
     mul-place
     add-place
     mul-t11

@@ -1,11 +1,14 @@
 -- `place` meets its contract.
 -- Assumes nothing.
-use Prim.Native.Nat.{_<_}
+use mathlib.Core.Path.{ap, _∙_}
+use Prim.Native.Nat.{ℕ, _<_}
 use native.Mathlib.Omega.{arith}
 use lib.Dec.{ltb}
 use borrow.Author.Needs.{needs}
 use borrow.Author.Tests.{ltb-true}
 use Rattle.laws.specs.Laws.Tests.{and-left, and-right}
+use Rattle.sector_rules.specs.Geometry.{imageSector}
+use Rattle.sector_rules.specs.Replies.{reply}
 use Rattle.sectors.proofs.placement.place.Statement.{statement}
 use Rattle.sectors.proofs.placement.place.Tie as tie
 
@@ -21,8 +24,12 @@ running-requires c κs = (block c, sector c)
 place-requires : tie.Need-place-requires
 place-requires c κs = omega (arith, block (c .before), sector (c .before))
 
+done-with-requires : tie.Need-done-with-requires
+done-with-requires c κs = search needs
+
 returns : tie.Need-returns
-returns c = rw (c .before .before .if1 .taken, ← c .before .running .ensures, ← c .place .ensures)
+returns c =
+    rw (c .before .before .before .if1 .taken) (c .done-with .ensures ∙ ap (λ (m : ℕ). reply 0 m 0 0) (c .before .place .ensures ∙ ap imageSector (c .before .before .running .ensures)))
 
 refused-requires : tie.Need-refused-requires
 refused-requires c κs = search needs
@@ -32,4 +39,4 @@ returns-2 c = rw (c .before .if1 .left) (c .refused .ensures)
 
 pub place-spec : {M : Type 1} → statement M
 place-spec =
-    tie.close (tie.spec running-requires place-requires returns refused-requires returns-2)
+    tie.close (tie.spec running-requires place-requires done-with-requires returns refused-requires returns-2)

@@ -19,9 +19,9 @@ use Rattle.sector_rules.specs.Faults.{faultBelow, lowestFault}
 use Rattle.sector_rules.specs.Hfe.{entryPlace, trackLength, trackStart, trackUnitBytes, trackGood, tableFault}
 
 -- the entries of the table of sides and places are below 137
-pub mark-bound : (k : ℕ) → k < trackSectors → getD sidePlace k 0 < 137
+pub side-place-bound : (k : ℕ) → k < trackSectors → getD sidePlace k 0 < 137
 unfolding sidePlace all
-mark-bound = all-lt (λ (k : ℕ). getD sidePlace k 0) (λ (k : ℕ). 137) trackSectors refl
+side-place-bound = all-lt (λ (k : ℕ). getD sidePlace k 0) (λ (k : ℕ). 137) trackSectors refl
 
 -- the entries of the backward table are sectors of a track
 pub backward-bound : (k : ℕ) → k < trackSectors → getD backward k 0 < trackSectors
