@@ -11,22 +11,22 @@ pub record Placement : Type 0 where
   pub sector : ℕ
   pub image : ℕ
 
-unfoldable pub placement : ℕ → ℕ → ℕ → Placement
-placement b s i = record { block = b; sector = s; image = i }
+unfoldable pub placedAt : ℕ → ℕ → ℕ → Placement
+placedAt b s i = record { block = b; sector = s; image = i }
 
 unfoldable pub placements : List Placement
 placements =
-    placement 0 0 0
-    ∷ placement 2 0 1
-    ∷ placement 1 0 9
-    ∷ placement 1 1 12
-    ∷ placement 1 2 15
-    ∷ placement 6 0 23
-    ∷ placement 6 1 26
-    ∷ placement 6 2 20
-    ∷ placement 7 0 32
-    ∷ placement 474 0 1430
-    ∷ placement 479 2 1438
+    placedAt 0 0 0
+    ∷ placedAt 2 0 1
+    ∷ placedAt 1 0 9
+    ∷ placedAt 1 1 12
+    ∷ placedAt 1 2 15
+    ∷ placedAt 6 0 23
+    ∷ placedAt 6 1 26
+    ∷ placedAt 6 2 20
+    ∷ placedAt 7 0 32
+    ∷ placedAt 474 0 1430
+    ∷ placedAt 479 2 1438
     ∷ []
 
 -- the image sectors that the definition gives for the rows, and those that the table has
@@ -37,5 +37,5 @@ unfoldable pub tableSectors : List Placement → List ℕ
 tableSectors ps = map (λ (p : Placement). p .image) ps
 
 pub placement-values : definedSectors placements ≡ tableSectors placements
-unfolding definedSectors tableSectors placements placement imageSector sidePlace
+unfolding definedSectors tableSectors placements placedAt imageSector sidePlace
 placement-values = refl
