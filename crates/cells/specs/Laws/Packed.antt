@@ -45,11 +45,6 @@ module _ (f : ℕ → ℕ) (bit : (i : ℕ) → f i < 2) where
       (packedBits-bit i n k l))
       (eq-or-lt-of-le (le-of-suc-le-suc h))
 
-  -- eight cells make a byte
-  pub packed-lt : (b : ℕ) → packed f b < 256
-  unfolding packed
-  packed-lt b = packedBits-lt (8 * b) 8
-
   -- bit i % 8, lowest first, of byte i / 8 is cell i
   pub packed-bit : (i : ℕ) → packed f (i / 8) / 2 ^ (i % 8) % 2 ≡ f i
   unfolding packed

@@ -10,7 +10,7 @@ use lib.Dec.{eqb, ltb}
 use borrow.Author.Tests.{eqb-true, ltb-true}
 use Rattle.laws.specs.Below.{all}
 use Rattle.laws.specs.Laws.Cases.{by-test}
-use Rattle.laws.specs.Laws.Tests.{and-left, and-right, and-both, true≢false}
+use Rattle.laws.specs.Laws.Tests.{and-left, and-right, and-true, true≢false}
 
 -- where the test passes at all numbers below n, it passes at each of them
 pub all-at : (f : ℕ → Bool) (n : ℕ) → all f n ≡ true → (k : ℕ) → k < n → f k ≡ true
@@ -26,7 +26,7 @@ all-at f (suc n) t k h =
 pub all-is : (f : ℕ → Bool) (n : ℕ) → ((k : ℕ) → k < n → f k ≡ true) → all f n ≡ true
 unfolding all
 all-is f zero h = refl
-all-is f (suc n) h = and-both (f n) (all f n) (h n (omega arith)) (all-is f n (λ k l. h k (omega arith)))
+all-is f (suc n) h = and-true {a = f n} {b = all f n} (h n (omega arith)) (all-is f n (λ k l. h k (omega arith)))
 
 -- where the test says that f and g are equal at all numbers below n, they are equal at each
 pub all-eq : (f g : ℕ → ℕ) (n : ℕ) → all (λ (k : ℕ). eqb (f k) (g k)) n ≡ true → (k : ℕ) → k < n → f k ≡ g k

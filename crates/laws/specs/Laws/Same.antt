@@ -9,13 +9,13 @@ use lib.ListN.{length, getD}
 use borrow.Author.Tests.{eq-eqb, eqb-true, le-leb, lt-leb}
 use Rattle.laws.specs.Lists.{elementAt, window, same, bytesAre, standsAt}
 use Rattle.laws.specs.Laws.Cases.{by-test}
-use Rattle.laws.specs.Laws.Tests.{and-left, and-right, and-both}
+use Rattle.laws.specs.Laws.Tests.{and-left, and-right, and-true}
 use Rattle.laws.specs.Laws.Tab.{window-in, eq-window}
 
 self : (xs : List ℕ) → same xs xs ≡ true
 unfolding same
 self [] = refl
-self (x ∷ xs) = and-both (eqb x x) (same xs xs) (eq-eqb x x refl) (self xs)
+self (x ∷ xs) = and-true {a = eqb x x} {b = same xs xs} (eq-eqb x x refl) (self xs)
 
 -- lists that are the same by the test are equal
 pub same-eq : (xs ys : List ℕ) → same xs ys ≡ true → xs ≡ ys

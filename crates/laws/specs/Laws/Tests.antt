@@ -5,7 +5,7 @@ use mathlib.Core.Logic.{_≢_}
 use mathlib.Core.Bool.{Bool, true, false, not, cond, _&&_, _||_, false≢true}
 use Prim.Native.Nat.{ℕ, _≤_, _<_}
 use lib.Dec.{T, leb, ltb, eqb}
-use mir.Facts.{yes-ltb, no-ltb, yes-leb, no-leb, yes-eqb, no-eqb, ltb-yes, ltb-no, leb-yes, leb-no, eqb-yes, eqb-no}
+use mir.Facts.{yes-ltb, no-ltb, yes-leb, no-leb, yes-eqb, no-eqb, ltb-yes, ltb-no, leb-yes, eqb-yes, eqb-no}
 use Rattle.laws.specs.Laws.Cases.{by-test}
 
 yes-true : (b : Bool) → T b → b ≡ true
@@ -58,10 +58,6 @@ module _ {a b : ℕ} where
   -- where the test passed, a is at most b
   pub true-le : leb a b ≡ true → a ≤ b
   true-le e = leb-yes (true-yes (leb a b) e)
-
-  -- where the test failed, a is above b
-  pub false-le : leb a b ≡ false → b < a
-  false-le e = leb-no (false-no (leb a b) e)
 
   -- where the test passed, the numbers are equal
   pub true-eq : eqb a b ≡ true → a ≡ b
@@ -133,11 +129,6 @@ and-left false b e = e
 pub and-right : (a b : Bool) → (a && b) ≡ true → b ≡ true
 and-right true b e = e
 and-right false b e = absurd (false≢true e)
-
--- as and-true, with the two tests written out
-pub and-both : (a b : Bool) → a ≡ true → b ≡ true → (a && b) ≡ true
-and-both true b p q = q
-and-both false b p q = p
 
 -- two comparisons of which each holds where the other does are the same test
 pub leb-iff : (a b c e : ℕ) → (a ≤ b → c ≤ e) → (c ≤ e → a ≤ b) → leb a b ≡ leb c e
