@@ -28,7 +28,7 @@ use Rattle.file_rules.specs.Laws.OnImages.Slot.{k-pos, k-none, by-growth
 use Rattle.file_rules.specs.Laws.OnImages.Added.{dir-parts, first-length, owned₁, parts₁-k, parts-after}
 use Rattle.file_rules.specs.Laws.InnerModel.Fields.{parts-none}
 use Rattle.file_rules.specs.Laws.InnerModel.Reads.{found-slot}
-use Rattle.file_rules.specs.Laws.InnerModel.Inner.{Inner, presentCount, fileBlocks, header, render, emptySlots, formatM, findM, emptySlot, give, freeOf, listM, readM, ChangedM, refusedM, removeAtM, removeM, growOwner, peakAfter, addAtM, roomFor, addM, stepM, outM, outsM, endM}
+use Rattle.file_rules.specs.Laws.InnerModel.Inner.{Inner, presentCount, fileBlocks, header, render, emptySlots, innerFormat, innerFind, emptySlot, give, freeOf, innerList, innerRead, InnerChanged, innerRefused, innerRemoveAt, innerRemove, growOwner, peakAfter, innerAddAt, roomFor, innerAdd, innerStep, innerOut, innerOuts, innerEnd}
 use Rattle.file_rules.specs.Laws.InnerModel.Invariant.{partsOf, Inv}
 use Rattle.file_rules.specs.Laws.InModel.Listed.{listedBlocks, withOwner, BlocksListed, owner-is, give-listed, freed-listed, listed-cong}
 use Rattle.file_rules.specs.Laws.Base.Names.{name-bounds, name-is, name-so}
@@ -93,30 +93,30 @@ module _ (b : Model) (o : ℕ → Record) (v : Inv (withOwner b o)) (r : BlocksL
       (with-same (render m) (header m) o c (with-is (header m) o c) (header m) (modelRecord (b .slots) (b .dir) (b .peak)) c (λ i l. refl) owner-same (λ x i p l q. refl))
 
   -- a reply looks at the slots alone
-  pub out-same : (c : Call) → outM m c ≡ modelOut b c
-  unfolding outM modelOut modelAdd modelRemove modelList modelRead addM removeM refusedM withOwner slotNamed findM fits roomFor listM readM peakThen peakAfter presentIn presentCount blocksPresent fileBlocks bufferKept
+  pub out-same : (c : Call) → innerOut m c ≡ modelOut b c
+  unfolding innerOut modelOut modelAdd modelRemove modelList modelRead innerAdd innerRemove innerRefused withOwner slotNamed innerFind fits roomFor innerList innerRead peakThen peakAfter presentIn presentCount blocksPresent fileBlocks bufferKept
   out-same (toList buf) = result-is (heldEntries (m .slots) (suc (m .peak))) buf
   out-same (toRead name buf) =
-      ap₂ (λ (t : Bool) (o : Outcome). cond t (cond (ltb (findM m name) (suc (m .peak))) o (bufferKept buf (refusal 14))) (bufferKept buf (refusal 12)))
-      (name-is name) (result-is (heldData (m .slots (findM m name))) buf)
+      ap₂ (λ (t : Bool) (o : Outcome). cond t (cond (ltb (innerFind m name) (suc (m .peak))) o (bufferKept buf (refusal 14))) (bufferKept buf (refusal 12)))
+      (name-is name) (result-is (heldData (m .slots (innerFind m name))) buf)
   out-same (toRemove name) =
       ap (bufferKept [])
       (by-test (nameRight name)
       (λ t. let u : acceptable name ≡ true = name-so name t in
-      by-order (findM m name) (suc (m .peak))
-      (λ h. ap (λ (c : ChangedM). c .answer) (cond-true _ _ t ∙ cond-true _ _ (lt-true h)) ∙ sym (ap (λ (c : ModelChanged). c .answer) (cond-true _ _ u ∙ cond-true _ _ (lt-true h))))
-      (λ h. ap (λ (c : ChangedM). c .answer) (cond-true _ _ t ∙ cond-false _ _ (lt-false h)) ∙ sym (ap (λ (c : ModelChanged). c .answer) (cond-true _ _ u ∙ cond-false _ _ (lt-false h)))))
-      (λ t. let u : acceptable name ≡ false = name-so name t in ap (λ (c : ChangedM). c .answer) (cond-false _ _ t) ∙ sym (ap (λ (c : ModelChanged). c .answer) (cond-false _ _ u))))
+      by-order (innerFind m name) (suc (m .peak))
+      (λ h. ap (λ (c : InnerChanged). c .answer) (cond-true _ _ t ∙ cond-true _ _ (lt-true h)) ∙ sym (ap (λ (c : ModelChanged). c .answer) (cond-true _ _ u ∙ cond-true _ _ (lt-true h))))
+      (λ h. ap (λ (c : InnerChanged). c .answer) (cond-true _ _ t ∙ cond-false _ _ (lt-false h)) ∙ sym (ap (λ (c : ModelChanged). c .answer) (cond-true _ _ u ∙ cond-false _ _ (lt-false h)))))
+      (λ t. let u : acceptable name ≡ false = name-so name t in ap (λ (c : InnerChanged). c .answer) (cond-false _ _ t) ∙ sym (ap (λ (c : ModelChanged). c .answer) (cond-false _ _ u))))
   out-same (toAdd x) =
       ap (bufferKept [])
       (by-test (nameRight (x .name))
       (λ t. let u : acceptable (x .name) ≡ true = name-so (x .name) t in
-      by-order (findM m (x .name)) (suc (m .peak))
-      (λ h. ap (λ (c : ChangedM). c .answer) (cond-true _ _ t ∙ cond-true _ _ (lt-true h)) ∙ sym (ap (λ (c : ModelChanged). c .answer) (cond-true _ _ u ∙ cond-true _ _ (lt-true h))))
+      by-order (innerFind m (x .name)) (suc (m .peak))
+      (λ h. ap (λ (c : InnerChanged). c .answer) (cond-true _ _ t ∙ cond-true _ _ (lt-true h)) ∙ sym (ap (λ (c : ModelChanged). c .answer) (cond-true _ _ u ∙ cond-true _ _ (lt-true h))))
       (λ h. by-test (roomFor m x)
-      (λ s. ap (λ (c : ChangedM). c .answer) (cond-true _ _ t ∙ cond-false _ _ (lt-false h) ∙ cond-true _ _ s) ∙ sym (ap (λ (c : ModelChanged). c .answer) (cond-true _ _ u ∙ cond-false _ _ (lt-false h) ∙ cond-true _ _ s)))
-      (λ s. ap (λ (c : ChangedM). c .answer) (cond-true _ _ t ∙ cond-false _ _ (lt-false h) ∙ cond-false _ _ s) ∙ sym (ap (λ (c : ModelChanged). c .answer) (cond-true _ _ u ∙ cond-false _ _ (lt-false h) ∙ cond-false _ _ s)))))
-      (λ t. let u : acceptable (x .name) ≡ false = name-so (x .name) t in ap (λ (c : ChangedM). c .answer) (cond-false _ _ t) ∙ sym (ap (λ (c : ModelChanged). c .answer) (cond-false _ _ u))))
+      (λ s. ap (λ (c : InnerChanged). c .answer) (cond-true _ _ t ∙ cond-false _ _ (lt-false h) ∙ cond-true _ _ s) ∙ sym (ap (λ (c : ModelChanged). c .answer) (cond-true _ _ u ∙ cond-false _ _ (lt-false h) ∙ cond-true _ _ s)))
+      (λ s. ap (λ (c : InnerChanged). c .answer) (cond-true _ _ t ∙ cond-false _ _ (lt-false h) ∙ cond-false _ _ s) ∙ sym (ap (λ (c : ModelChanged). c .answer) (cond-true _ _ u ∙ cond-false _ _ (lt-false h) ∙ cond-false _ _ s)))))
+      (λ t. let u : acceptable (x .name) ≡ false = name-so (x .name) t in ap (λ (c : InnerChanged). c .answer) (cond-false _ _ t) ∙ sym (ap (λ (c : ModelChanged). c .answer) (cond-false _ _ u))))
 
   -- what a step leaves: owners o′ of the next book, with the next model
   abbrev NextAgree : Inner → Model → Type 0
@@ -125,8 +125,8 @@ module _ (b : Model) (o : ℕ → Record) (v : Inv (withOwner b o)) (r : BlocksL
   stay : NextAgree m b
   stay = (o, refl, r)
 
-  remove-next : (k : ℕ) → 0 < k → k ≤ m .peak → NextAgree (removeAtM m k) (clear b k)
-  unfolding removeAtM clear withOwner fileOf takenBy
+  remove-next : (k : ℕ) → 0 < k → k ≤ m .peak → NextAgree (innerRemoveAt m k) (clear b k)
+  unfolding innerRemoveAt clear withOwner fileOf takenBy
   remove-next k h l = (
     (λ (x : ℕ). unowned k (o x)),
     ap (λ (ls : ℕ → HeldFile). record {
@@ -136,11 +136,11 @@ module _ (b : Model) (o : ℕ → Record) (v : Inv (withOwner b o)) (r : BlocksL
       slots = ls;
       owner = λ (x : ℕ). unowned k (o x);
     }) (upd-file (b .slots) k none),
-    freed-listed (b .slots) (upd (b .slots) k none) (b .dir) (b .dir) o (partsOf m) r k (partsOf (removeAtM m k)) (parts-other m v k h l) (parts-gone m v k h l)
+    freed-listed (b .slots) (upd (b .slots) k none) (b .dir) (b .dir) o (partsOf m) r k (partsOf (innerRemoveAt m k)) (parts-other m v k h l) (parts-gone m v k h l)
         (λ j q. blocks-other (b .slots) (b .dir) k none j q) (blocks-this (b .slots) (b .dir) k none h),
   )
 
-  module _ (x : NamedFile) (right : (1 ≤ length (x .name)) × (length (x .name) ≤ nameMost)) (new : suc (m .peak) ≤ findM m (x .name))
+  module _ (x : NamedFile) (right : (1 ≤ length (x .name)) × (length (x .name) ≤ nameMost)) (new : suc (m .peak) ≤ innerFind m (x .name))
       (room : dirBlocks (peakAfter m) + (fileBlocks m + blocksFor (length (x .content))) ≤ usable) where
     abbrev k : ℕ
     k = emptySlot m
@@ -196,8 +196,8 @@ module _ (b : Model) (o : ℕ → Record) (v : Inv (withOwner b o)) (r : BlocksL
         firsts-cong blocks n (freeIn (b .slots) (dirThen b) (b .peak)) (freeOf owner₁)
         (λ j l. ap isFree (owner-is (b .slots) (dirThen b) owner₁ parts₁ (owned₁ m v x right new room) listed₁ no-zero (b .peak) past₁ j l))
 
-    add-next : NextAgree (addAtM m k x) (fill b k x)
-    unfolding addAtM fill withOwner fileOf takenBy peakThen presentIn peakAfter presentCount
+    add-next : NextAgree (innerAddAt m k x) (fill b k x)
+    unfolding innerAddAt fill withOwner fileOf takenBy peakThen presentIn peakAfter presentCount
     add-next =
         let bs : List ℕ = firsts blocks n (freeIn (b .slots) (dirThen b) (b .peak)) in
         let rest : List ℕ = firsts blocks n (freeOf owner₁) in
@@ -212,7 +212,7 @@ module _ (b : Model) (o : ℕ → Record) (v : Inv (withOwner b o)) (r : BlocksL
             slots = ls;
             owner = o′;
           }) (upd-file (b .slots) k h),
-          listed-cong (upd (b .slots) k h) (dirThen b) o′ (upd parts₁ k (0 + length rest)) (partsOf (addAtM m k x)) (parts-after m v x right new room)
+          listed-cong (upd (b .slots) k h) (dirThen b) o′ (upd parts₁ k (0 + length rest)) (partsOf (innerAddAt m k x)) (parts-after m v x right new room)
               (give-listed (b .slots) (upd (b .slots) k h) (dirThen b) (dirThen b) owner₁ parts₁ listed₁ rest k 0 0 (firsts-picks blocks n (freeOf owner₁))
               (parts₁-k m v x right new room)
               (λ j q. blocks-other (b .slots) (dirThen b) k h j q)
@@ -220,47 +220,47 @@ module _ (b : Model) (o : ℕ → Record) (v : Inv (withOwner b o)) (r : BlocksL
               ∙ ap (λ (l : List ℕ). l ++ rest) (sym (blocks-empty (b .slots) (dirThen b) k (k-pos m v) empty)))),
         )
 
-  pub next-agrees : (c : Call) → NextAgree (stepM m c) (modelStep b c)
-  unfolding stepM modelStep modelAdd modelRemove removeM addM refusedM withOwner slotNamed findM fits roomFor slotVacant emptySlot peakThen peakAfter presentIn presentCount blocksPresent fileBlocks
+  pub next-agrees : (c : Call) → NextAgree (innerStep m c) (modelStep b c)
+  unfolding innerStep modelStep modelAdd modelRemove innerRemove innerAdd innerRefused withOwner slotNamed innerFind fits roomFor slotVacant emptySlot peakThen peakAfter presentIn presentCount blocksPresent fileBlocks
   next-agrees (toList buf) = stay
   next-agrees (toRead name buf) = stay
   next-agrees (toRemove name) =
       by-test (nameRight name)
-      (λ t. by-order (findM m name) (suc (m .peak))
+      (λ t. by-order (innerFind m name) (suc (m .peak))
       (λ h.
-      let w : (x : NamedFile) × (m .slots (findM m name) ≡ some x) × (nameEq (x .name) name ≡ true) × (0 < findM m name) = found-slot m v name h in
-      let em : removeM m name .modelAfter ≡ removeAtM m (findM m name) = ap (λ (c : ChangedM). c .modelAfter) (cond-true _ _ t ∙ cond-true _ _ (lt-true h)) in
-      let eb : modelStep b (toRemove name) ≡ clear b (findM m name) = ap (λ (c : ModelChanged). c .modelAfter) (cond-true _ _ (name-so name t) ∙ cond-true _ _ (lt-true h)) in
+      let w : (x : NamedFile) × (m .slots (innerFind m name) ≡ some x) × (nameEq (x .name) name ≡ true) × (0 < innerFind m name) = found-slot m v name h in
+      let em : innerRemove m name .modelAfter ≡ innerRemoveAt m (innerFind m name) = ap (λ (c : InnerChanged). c .modelAfter) (cond-true _ _ t ∙ cond-true _ _ (lt-true h)) in
+      let eb : modelStep b (toRemove name) ≡ clear b (innerFind m name) = ap (λ (c : ModelChanged). c .modelAfter) (cond-true _ _ (name-so name t) ∙ cond-true _ _ (lt-true h)) in
       subst (λ (z : Inner). NextAgree z (modelStep b (toRemove name))) (sym em)
-      (subst (λ (z : Model). NextAgree (removeAtM m (findM m name)) z) (sym eb) (remove-next (findM m name) (w .3) (omega arith))))
+      (subst (λ (z : Model). NextAgree (innerRemoveAt m (innerFind m name)) z) (sym eb) (remove-next (innerFind m name) (w .3) (omega arith))))
       (λ h.
-      let em : removeM m name .modelAfter ≡ m = ap (λ (c : ChangedM). c .modelAfter) (cond-true _ _ t ∙ cond-false _ _ (lt-false h)) in
+      let em : innerRemove m name .modelAfter ≡ m = ap (λ (c : InnerChanged). c .modelAfter) (cond-true _ _ t ∙ cond-false _ _ (lt-false h)) in
       let eb : modelStep b (toRemove name) ≡ b = ap (λ (c : ModelChanged). c .modelAfter) (cond-true _ _ (name-so name t) ∙ cond-false _ _ (lt-false h)) in
       subst (λ (z : Inner). NextAgree z (modelStep b (toRemove name))) (sym em) (subst (λ (z : Model). NextAgree m z) (sym eb) stay)))
       (λ t.
-      let em : removeM m name .modelAfter ≡ m = ap (λ (c : ChangedM). c .modelAfter) (cond-false _ _ t) in
+      let em : innerRemove m name .modelAfter ≡ m = ap (λ (c : InnerChanged). c .modelAfter) (cond-false _ _ t) in
       let eb : modelStep b (toRemove name) ≡ b = ap (λ (c : ModelChanged). c .modelAfter) (cond-false _ _ (name-so name t)) in
       subst (λ (z : Inner). NextAgree z (modelStep b (toRemove name))) (sym em) (subst (λ (z : Model). NextAgree m z) (sym eb) stay))
   next-agrees (toAdd x) =
       by-test (nameRight (x .name))
-      (λ t. by-order (findM m (x .name)) (suc (m .peak))
+      (λ t. by-order (innerFind m (x .name)) (suc (m .peak))
       (λ h.
-      let em : addM m x .modelAfter ≡ m = ap (λ (c : ChangedM). c .modelAfter) (cond-true _ _ t ∙ cond-true _ _ (lt-true h)) in
+      let em : innerAdd m x .modelAfter ≡ m = ap (λ (c : InnerChanged). c .modelAfter) (cond-true _ _ t ∙ cond-true _ _ (lt-true h)) in
       let eb : modelStep b (toAdd x) ≡ b = ap (λ (c : ModelChanged). c .modelAfter) (cond-true _ _ (name-so (x .name) t) ∙ cond-true _ _ (lt-true h)) in
       subst (λ (z : Inner). NextAgree z (modelStep b (toAdd x))) (sym em) (subst (λ (z : Model). NextAgree m z) (sym eb) stay))
       (λ h. by-test (roomFor m x)
       (λ s.
       let right : (1 ≤ length (x .name)) × (length (x .name) ≤ nameMost) = name-bounds (x .name) t in
-      let em : addM m x .modelAfter ≡ addAtM m (emptySlot m) x = ap (λ (c : ChangedM). c .modelAfter) (cond-true _ _ t ∙ cond-false _ _ (lt-false h) ∙ cond-true _ _ s) in
+      let em : innerAdd m x .modelAfter ≡ innerAddAt m (emptySlot m) x = ap (λ (c : InnerChanged). c .modelAfter) (cond-true _ _ t ∙ cond-false _ _ (lt-false h) ∙ cond-true _ _ s) in
       let eb : modelStep b (toAdd x) ≡ fill b (emptySlot m) x = ap (λ (c : ModelChanged). c .modelAfter) (cond-true _ _ (name-so (x .name) t) ∙ cond-false _ _ (lt-false h) ∙ cond-true _ _ s) in
       subst (λ (z : Inner). NextAgree z (modelStep b (toAdd x))) (sym em)
-      (subst (λ (z : Model). NextAgree (addAtM m (emptySlot m) x) z) (sym eb) (add-next x right h (true-le s))))
+      (subst (λ (z : Model). NextAgree (innerAddAt m (emptySlot m) x) z) (sym eb) (add-next x right h (true-le s))))
       (λ s.
-      let em : addM m x .modelAfter ≡ m = ap (λ (c : ChangedM). c .modelAfter) (cond-true _ _ t ∙ cond-false _ _ (lt-false h) ∙ cond-false _ _ s) in
+      let em : innerAdd m x .modelAfter ≡ m = ap (λ (c : InnerChanged). c .modelAfter) (cond-true _ _ t ∙ cond-false _ _ (lt-false h) ∙ cond-false _ _ s) in
       let eb : modelStep b (toAdd x) ≡ b = ap (λ (c : ModelChanged). c .modelAfter) (cond-true _ _ (name-so (x .name) t) ∙ cond-false _ _ (lt-false h) ∙ cond-false _ _ s) in
       subst (λ (z : Inner). NextAgree z (modelStep b (toAdd x))) (sym em) (subst (λ (z : Model). NextAgree m z) (sym eb) stay))))
       (λ t.
-      let em : addM m x .modelAfter ≡ m = ap (λ (c : ChangedM). c .modelAfter) (cond-false _ _ t) in
+      let em : innerAdd m x .modelAfter ≡ m = ap (λ (c : InnerChanged). c .modelAfter) (cond-false _ _ t) in
       let eb : modelStep b (toAdd x) ≡ b = ap (λ (c : ModelChanged). c .modelAfter) (cond-false _ _ (name-so (x .name) t)) in
       subst (λ (z : Inner). NextAgree z (modelStep b (toAdd x))) (sym em) (subst (λ (z : Model). NextAgree m z) (sym eb) stay))
 
@@ -271,39 +271,39 @@ unfolding withOwner
 peak-same b o = refl
 
 pub agree : (cs : List Call) (b : Model) (o : ℕ → Record) → Inv (withOwner b o) → BlocksListed (b .slots) (b .dir) o (partsOf (withOwner b o))
-    → (outsM (withOwner b o) cs ≡ modelOuts b cs) × (render (endM (withOwner b o) cs) ≡ modelDisk (modelEnd b cs)) × (endM (withOwner b o) cs .peak ≡ modelEnd b cs .peak)
-unfolding outsM modelOuts endM modelEnd
+    → (innerOuts (withOwner b o) cs ≡ modelOuts b cs) × (render (innerEnd (withOwner b o) cs) ≡ modelDisk (modelEnd b cs)) × (innerEnd (withOwner b o) cs .peak ≡ modelEnd b cs .peak)
+unfolding innerOuts modelOuts innerEnd modelEnd
 agree [] b o v r = (refl, image-same b o v r, peak-same b o)
 agree (c ∷ cs) b o v r =
     let m : Inner = withOwner b o in
-    let w : (o′ : ℕ → Record) × (stepM m c ≡ withOwner (modelStep b c) o′) × BlocksListed (modelStep b c .slots) (modelStep b c .dir) o′ (partsOf (stepM m c)) = next-agrees b o v r c in
+    let w : (o′ : ℕ → Record) × (innerStep m c ≡ withOwner (modelStep b c) o′) × BlocksListed (modelStep b c .slots) (modelStep b c .dir) o′ (partsOf (innerStep m c)) = next-agrees b o v r c in
     let v′ : Inv (withOwner (modelStep b c) (w .0)) = subst Inv (w .1) (step-inv m v c) in
     let r′ : BlocksListed (modelStep b c .slots) (modelStep b c .dir) (w .0) (partsOf (withOwner (modelStep b c) (w .0))) =
     subst (λ (z : Inner). BlocksListed (modelStep b c .slots) (modelStep b c .dir) (w .0) (partsOf z)) (w .1) (w .2) in
-    let ih : (outsM (withOwner (modelStep b c) (w .0)) cs ≡ modelOuts (modelStep b c) cs)
-    × (render (endM (withOwner (modelStep b c) (w .0)) cs) ≡ modelDisk (modelEnd (modelStep b c) cs))
-    × (endM (withOwner (modelStep b c) (w .0)) cs .peak ≡ modelEnd (modelStep b c) cs .peak) = agree cs (modelStep b c) (w .0) v′ r′ in (
-      ap₂ (λ (x : Outcome) (xs : List Outcome). x ∷ xs) (out-same b o v r c) (ap (λ (z : Inner). outsM z cs) (w .1) ∙ ih .0),
-      ap (λ (z : Inner). render (endM z cs)) (w .1) ∙ ih .1,
-      ap (λ (z : Inner). endM z cs .peak) (w .1) ∙ ih .2,
+    let ih : (innerOuts (withOwner (modelStep b c) (w .0)) cs ≡ modelOuts (modelStep b c) cs)
+    × (render (innerEnd (withOwner (modelStep b c) (w .0)) cs) ≡ modelDisk (modelEnd (modelStep b c) cs))
+    × (innerEnd (withOwner (modelStep b c) (w .0)) cs .peak ≡ modelEnd (modelStep b c) cs .peak) = agree cs (modelStep b c) (w .0) v′ r′ in (
+      ap₂ (λ (x : Outcome) (xs : List Outcome). x ∷ xs) (out-same b o v r c) (ap (λ (z : Inner). innerOuts z cs) (w .1) ∙ ih .0),
+      ap (λ (z : Inner). render (innerEnd z cs)) (w .1) ∙ ih .1,
+      ap (λ (z : Inner). innerEnd z cs .peak) (w .1) ∙ ih .2,
     )
 
 pub fresh-listed : (args : FormatArguments)
-    → BlocksListed (modelFormat args .slots) (modelFormat args .dir) freshOwner (partsOf (formatM args))
-unfolding modelFormat formatM partsOf dirBlocks heldBlocks emptySlots listedBlocks takenBy freshOwner
+    → BlocksListed (modelFormat args .slots) (modelFormat args .dir) freshOwner (partsOf (innerFormat args))
+unfolding modelFormat innerFormat partsOf dirBlocks heldBlocks emptySlots listedBlocks takenBy freshOwner
 fresh-listed args = record { sizes = sizes; each = each }
   where
-    sizes : (k : ℕ) → length (listedBlocks (modelFormat args .slots) (modelFormat args .dir) k) ≡ partsOf (formatM args) k
+    sizes : (k : ℕ) → length (listedBlocks (modelFormat args .slots) (modelFormat args .dir) k) ≡ partsOf (innerFormat args) k
     sizes zero = refl
     sizes (suc k) = refl
 
-    each : (k s : ℕ) → s < partsOf (formatM args) k
+    each : (k s : ℕ) → s < partsOf (innerFormat args) k
         → (getD (listedBlocks (modelFormat args .slots) (modelFormat args .dir) k) s 0 < blocks)
         × (freshOwner (getD (listedBlocks (modelFormat args .slots) (modelFormat args .dir) k) s 0) ≡ File k s)
     each zero zero h = (omega arith, refl)
     each zero (suc s) h = absurd (omega arith)
     each (suc k) s h = absurd (omega arith)
 
-pub start-is : (args : FormatArguments) → formatM args ≡ withOwner (modelFormat args) freshOwner
-unfolding formatM modelFormat withOwner emptySlots fileOf
+pub start-is : (args : FormatArguments) → innerFormat args ≡ withOwner (modelFormat args) freshOwner
+unfolding innerFormat modelFormat withOwner emptySlots fileOf
 start-is args = refl

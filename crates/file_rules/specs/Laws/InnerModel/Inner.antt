@@ -58,12 +58,12 @@ render m = diskWith (header m) (m .owner) (content (m .slots) (m .slots))
 unfoldable pub emptySlots : ℕ → HeldFile
 emptySlots k = none
 
-unfoldable pub formatM : FormatArguments → Inner
-formatM args = record { arguments = args; updates = 0; peak = 0; slots = emptySlots; owner = freshOwner }
+unfoldable pub innerFormat : FormatArguments → Inner
+innerFormat args = record { arguments = args; updates = 0; peak = 0; slots = emptySlots; owner = freshOwner }
 
 -- the slot of that name, or the first past the peak
-unfoldable pub findM : Inner → List ℕ → ℕ
-findM m name = lowest (λ (k : ℕ). hasName name (m .slots k)) (suc (m .peak))
+unfoldable pub innerFind : Inner → List ℕ → ℕ
+innerFind m name = lowest (λ (k : ℕ). hasName name (m .slots k)) (suc (m .peak))
 
 -- the lowest empty slot
 unfoldable pub emptySlot : Inner → ℕ
@@ -77,24 +77,24 @@ give owner f s (b ∷ bs) = give (upd owner b (File f s)) f (suc s) bs
 unfoldable pub freeOf : (ℕ → Record) → ℕ → Bool
 freeOf owner b = isFree (owner b)
 
-unfoldable pub listM : Inner → List ℕ → Outcome
-listM m buf = deliver (heldEntries (m .slots) (suc (m .peak))) buf
+unfoldable pub innerList : Inner → List ℕ → Outcome
+innerList m buf = deliver (heldEntries (m .slots) (suc (m .peak))) buf
 
-unfoldable pub readM : Inner → List ℕ → List ℕ → Outcome
-readM m name buf =
+unfoldable pub innerRead : Inner → List ℕ → List ℕ → Outcome
+innerRead m name buf =
     cond (nameRight name)
-    (cond (ltb (findM m name) (suc (m .peak))) (deliver (heldData (m .slots (findM m name))) buf) (bufferKept buf (refusal 14)))
+    (cond (ltb (innerFind m name) (suc (m .peak))) (deliver (heldData (m .slots (innerFind m name))) buf) (bufferKept buf (refusal 14)))
     (bufferKept buf (refusal 12))
 
-pub record ChangedM : Type 0 where
+pub record InnerChanged : Type 0 where
   pub answer : Reply
   pub modelAfter : Inner
 
-unfoldable pub refusedM : Inner → Reply → ChangedM
-refusedM m r = record { answer = r; modelAfter = m }
+unfoldable pub innerRefused : Inner → Reply → InnerChanged
+innerRefused m r = record { answer = r; modelAfter = m }
 
-unfoldable pub removeAtM : Inner → ℕ → Inner
-removeAtM m k =
+unfoldable pub innerRemoveAt : Inner → ℕ → Inner
+innerRemoveAt m k =
     record {
       arguments = m .arguments;
       updates = wrap (m .updates + 1);
@@ -103,12 +103,12 @@ removeAtM m k =
       owner = λ (b : ℕ). unowned k (m .owner b);
     }
 
-unfoldable pub removeM : Inner → List ℕ → ChangedM
-removeM m name =
+unfoldable pub innerRemove : Inner → List ℕ → InnerChanged
+innerRemove m name =
     cond (nameRight name)
-    (cond (ltb (findM m name) (suc (m .peak))) (record { answer = done; modelAfter = removeAtM m (findM m name) })
-    (refusedM m (refusal 14)))
-    (refusedM m (refusal 12))
+    (cond (ltb (innerFind m name) (suc (m .peak))) (record { answer = done; modelAfter = innerRemoveAt m (innerFind m name) })
+    (innerRefused m (refusal 14)))
+    (innerRefused m (refusal 12))
 
 unfoldable pub growOwner : Inner → ℕ → ℕ → Record
 growOwner m peak =
@@ -118,8 +118,8 @@ growOwner m peak =
 unfoldable pub peakAfter : Inner → ℕ
 peakAfter m = max (m .peak) (suc (presentCount m))
 
-unfoldable pub addAtM : Inner → ℕ → NamedFile → Inner
-addAtM m k x =
+unfoldable pub innerAddAt : Inner → ℕ → NamedFile → Inner
+innerAddAt m k x =
     let owner₁ : ℕ → Record = growOwner m (peakAfter m) in
     record {
       arguments = m .arguments;
@@ -133,31 +133,31 @@ addAtM m k x =
 unfoldable pub roomFor : Inner → NamedFile → Bool
 roomFor m x = leb (dirBlocks (peakAfter m) + (fileBlocks m + blocksFor (length (x .content)))) usable
 
-unfoldable pub addM : Inner → NamedFile → ChangedM
-addM m x =
+unfoldable pub innerAdd : Inner → NamedFile → InnerChanged
+innerAdd m x =
     cond (nameRight (x .name))
-    (cond (ltb (findM m (x .name)) (suc (m .peak))) (refusedM m (reply 13 (findM m (x .name)) 0 0))
-    (cond (roomFor m x) (record { answer = done; modelAfter = addAtM m (emptySlot m) x }) (refusedM m (refusal 15))))
-    (refusedM m (refusal 12))
+    (cond (ltb (innerFind m (x .name)) (suc (m .peak))) (innerRefused m (reply 13 (innerFind m (x .name)) 0 0))
+    (cond (roomFor m x) (record { answer = done; modelAfter = innerAddAt m (emptySlot m) x }) (innerRefused m (refusal 15))))
+    (innerRefused m (refusal 12))
 
 -- ---- histories
 
-unfoldable pub stepM : Inner → Call → Inner
-stepM m (toAdd x) = addM m x .modelAfter
-stepM m (toRemove name) = removeM m name .modelAfter
-stepM m (toList buf) = m
-stepM m (toRead name buf) = m
+unfoldable pub innerStep : Inner → Call → Inner
+innerStep m (toAdd x) = innerAdd m x .modelAfter
+innerStep m (toRemove name) = innerRemove m name .modelAfter
+innerStep m (toList buf) = m
+innerStep m (toRead name buf) = m
 
-unfoldable pub outM : Inner → Call → Outcome
-outM m (toAdd x) = bufferKept [] (addM m x .answer)
-outM m (toRemove name) = bufferKept [] (removeM m name .answer)
-outM m (toList buf) = listM m buf
-outM m (toRead name buf) = readM m name buf
+unfoldable pub innerOut : Inner → Call → Outcome
+innerOut m (toAdd x) = bufferKept [] (innerAdd m x .answer)
+innerOut m (toRemove name) = bufferKept [] (innerRemove m name .answer)
+innerOut m (toList buf) = innerList m buf
+innerOut m (toRead name buf) = innerRead m name buf
 
-unfoldable pub outsM : Inner → List Call → List Outcome
-outsM m [] = []
-outsM m (c ∷ cs) = outM m c ∷ outsM (stepM m c) cs
+unfoldable pub innerOuts : Inner → List Call → List Outcome
+innerOuts m [] = []
+innerOuts m (c ∷ cs) = innerOut m c ∷ innerOuts (innerStep m c) cs
 
-unfoldable pub endM : Inner → List Call → Inner
-endM m [] = m
-endM m (c ∷ cs) = endM (stepM m c) cs
+unfoldable pub innerEnd : Inner → List Call → Inner
+innerEnd m [] = m
+innerEnd m (c ∷ cs) = innerEnd (innerStep m c) cs

@@ -28,7 +28,7 @@ use Rattle.file_rules.specs.Calls.{Outcome, bufferKept, deliver, entries
 use Rattle.file_rules.specs.Directory.{nameEq, nameRight, entryOf, entryByte, nameOf, entryFor, slotByte, slotEntry, slotName, held, dirBytes}
 use Rattle.file_rules.specs.Directory.{dirEnd, findName, vacantSlot}
 use Rattle.file_rules.specs.Disk.{Disk}
-use Rattle.file_rules.specs.Laws.InnerModel.Inner.{Inner, fileBlocks, header, render, findM, emptySlot, freeOf, listM, readM}
+use Rattle.file_rules.specs.Laws.InnerModel.Inner.{Inner, fileBlocks, header, render, innerFind, emptySlot, freeOf, innerList, innerRead}
 use Rattle.file_rules.specs.Laws.InnerModel.Invariant.{partsOf, Inv}
 use Rattle.file_rules.specs.Laws.Base.Whole.{With, with-is, record-is, freeCount-is, partBlock-is}
 use Rattle.file_rules.specs.Map.{recordAt, isSystem, isPart, freeCount, partBlock, fileByte}
@@ -189,8 +189,8 @@ module _ (m : Inner) (v : Inv m) where
         ∙ tab-ext (slotByte d k) (entryByte (entryFor (x .name) (x .date) (length (x .content)))) slotBytes (entry-is x e)
 
   -- a name is found on the disk in the slot in which it is found in the model
-  pub findName-is : (name : List ℕ) → findName d name ≡ findM m name
-  unfolding findName findM
+  pub findName-is : (name : List ℕ) → findName d name ≡ innerFind m name
+  unfolding findName innerFind
   findName-is name =
       ap (λ (n : ℕ). lowest (λ (k : ℕ). (held d k && nameEq (slotName d k) name)) n) dirEnd-is
       ∙ lowest-cong (λ (k : ℕ). (held d k && nameEq (slotName d k) name)) (λ (k : ℕ). hasName name (m .slots k)) (suc (m .peak))
@@ -235,26 +235,26 @@ module _ (m : Inner) (v : Inv m) where
   -- ---- list and read
 
   -- a slot in which a name is found holds a file of that name and is not slot 0
-  pub found-slot : (name : List ℕ) → findM m name < suc (m .peak)
-      → (x : NamedFile) × (m .slots (findM m name) ≡ some x) × (nameEq (x .name) name ≡ true) × (0 < findM m name)
-  unfolding findM hasName isSome
+  pub found-slot : (name : List ℕ) → innerFind m name < suc (m .peak)
+      → (x : NamedFile) × (m .slots (innerFind m name) ≡ some x) × (nameEq (x .name) name ≡ true) × (0 < innerFind m name)
+  unfolding innerFind hasName isSome
   found-slot name h =
-      go (m .slots (findM m name)) refl (lowest-hit (λ (k : ℕ). hasName name (m .slots k)) (suc (m .peak)) h)
+      go (m .slots (innerFind m name)) refl (lowest-hit (λ (k : ℕ). hasName name (m .slots k)) (suc (m .peak)) h)
     where
-      pos : (x : NamedFile) → m .slots (findM m name) ≡ some x → 0 < findM m name
+      pos : (x : NamedFile) → m .slots (innerFind m name) ≡ some x → 0 < innerFind m name
       pos x e =
-          by-equal (findM m name) 0
-          (λ z. true≢false (isSome (m .slots (findM m name))) (ap isSome e) (ap (λ (j : ℕ). isSome (m .slots j)) z ∙ ap isSome (v .slot-zero)))
+          by-equal (innerFind m name) 0
+          (λ z. true≢false (isSome (m .slots (innerFind m name))) (ap isSome e) (ap (λ (j : ℕ). isSome (m .slots j)) z ∙ ap isSome (v .slot-zero)))
           (λ z. omega arith)
 
-      go : (l : HeldFile) → m .slots (findM m name) ≡ l → hasName name (m .slots (findM m name)) ≡ true
-          → (x : NamedFile) × (m .slots (findM m name) ≡ some x) × (nameEq (x .name) name ≡ true) × (0 < findM m name)
-      go none e t = true≢false (hasName name (m .slots (findM m name))) t (ap (hasName name) e)
+      go : (l : HeldFile) → m .slots (innerFind m name) ≡ l → hasName name (m .slots (innerFind m name)) ≡ true
+          → (x : NamedFile) × (m .slots (innerFind m name) ≡ some x) × (nameEq (x .name) name ≡ true) × (0 < innerFind m name)
+      go none e t = true≢false (hasName name (m .slots (innerFind m name))) t (ap (hasName name) e)
       go (some x) e t = (x, e, sym (ap (hasName name) e) ∙ t, pos x e)
 
   -- list gives on the disk what it gives in the model
-  pub list-is : (buf : List ℕ) → listSound d buf ≡ listM m buf
-  unfolding listSound listM
+  pub list-is : (buf : List ℕ) → listSound d buf ≡ innerList m buf
+  unfolding listSound innerList
   list-is buf = ap (λ (xs : List ℕ). deliver xs buf) entries-is
 
   data-is : (k : ℕ) (x : NamedFile) → 0 < k → k ≤ m .peak → m .slots k ≡ some x → dataOf d k ≡ heldData (m .slots k)
@@ -263,14 +263,14 @@ module _ (m : Inner) (v : Inv m) where
   data-is (suc k) x p h e = readAt-is k x h e ∙ sym (ap heldData e)
 
   -- read gives on the disk what it gives in the model
-  pub read-is : (name buf : List ℕ) → readSound d name buf ≡ readM m name buf
-  unfolding readSound readM
+  pub read-is : (name buf : List ℕ) → readSound d name buf ≡ innerRead m name buf
+  unfolding readSound innerRead
   read-is name buf =
       rw (findName-is name, dirEnd-is)
       (ap (λ (o : Outcome). cond (nameRight name) o (bufferKept buf (refusal 12)))
-      (by-order (findM m name) (suc (m .peak))
+      (by-order (innerFind m name) (suc (m .peak))
       (λ h.
-      let w : (x : NamedFile) × (m .slots (findM m name) ≡ some x) × (nameEq (x .name) name ≡ true) × (0 < findM m name) = found-slot name h in
-      ap (λ (xs : List ℕ). cond (ltb (findM m name) (suc (m .peak))) (deliver xs buf) (bufferKept buf (refusal 14)))
-      (data-is (findM m name) (w .0) (w .3) (omega arith) (w .1)))
+      let w : (x : NamedFile) × (m .slots (innerFind m name) ≡ some x) × (nameEq (x .name) name ≡ true) × (0 < innerFind m name) = found-slot name h in
+      ap (λ (xs : List ℕ). cond (ltb (innerFind m name) (suc (m .peak))) (deliver xs buf) (bufferKept buf (refusal 14)))
+      (data-is (innerFind m name) (w .0) (w .3) (omega arith) (w .1)))
       (λ h. cond-false _ _ (lt-false h) ∙ sym (cond-false _ _ (lt-false h)))))

@@ -22,8 +22,8 @@ use Rattle.file_rules.specs.Directory.{entryByte, entryFor, dirEnd}
 use Rattle.file_rules.specs.Disk.{Disk}
 use Rattle.file_rules.specs.Laws.InnerModel.Fields.{parts-none}
 use Rattle.file_rules.specs.Laws.InnerModel.Reads.{dirEnd-is}
-use Rattle.file_rules.specs.Laws.InnerModel.Inner.{Inner, fileBlocks, header, render, findM, emptySlot, give, freeOf, growOwner, peakAfter}
-use Rattle.file_rules.specs.Laws.InnerModel.Inner.{addAtM}
+use Rattle.file_rules.specs.Laws.InnerModel.Inner.{Inner, fileBlocks, header, render, innerFind, emptySlot, give, freeOf, growOwner, peakAfter}
+use Rattle.file_rules.specs.Laws.InnerModel.Inner.{innerAddAt}
 use Rattle.file_rules.specs.Laws.InnerModel.Invariant.{partsOf, Inv}
 use Rattle.file_rules.specs.Laws.InnerModel.Last.{end-step, finish, slot-step}
 use Rattle.file_rules.specs.Laws.Base.Whole.{With, with-is, with-only, free-is, with-same}
@@ -49,7 +49,7 @@ other-file E F G (File zero s) o e = refl
 other-file E F G (File (suc f) s) o e = ap (λ (x : HeldFile). part (heldBytes x) s o) (e (suc f) s refl)
 
 module _ (m : Inner) (v : Inv m) (x : NamedFile) (right : (1 ≤ length (x .name)) × (length (x .name) ≤ nameMost))
-    (new : suc (m .peak) ≤ findM m (x .name)) (room : dirBlocks (peakAfter m) + (fileBlocks m + blocksFor (length (x .content))) ≤ usable) where
+    (new : suc (m .peak) ≤ innerFind m (x .name)) (room : dirBlocks (peakAfter m) + (fileBlocks m + blocksFor (length (x .content))) ≤ usable) where
   abbrev kk : ℕ
   kk = emptySlot m
 
@@ -57,7 +57,7 @@ module _ (m : Inner) (v : Inv m) (x : NamedFile) (right : (1 ≤ length (x .name
   n = blocksFor (length (x .content))
 
   abbrev m′ : Inner
-  m′ = addAtM m kk x
+  m′ = innerAddAt m kk x
 
   abbrev owner₁ : ℕ → Record
   owner₁ = growOwner m (peakAfter m)
@@ -148,11 +148,11 @@ module _ (m : Inner) (v : Inv m) (x : NamedFile) (right : (1 ≤ length (x .name
   d₃ = setSlot d₂ kk entry
 
   in-dir : kk / blockSlots < partsOf m′ 0
-  unfolding partsOf addAtM dirBlocks
+  unfolding partsOf innerAddAt dirBlocks
   in-dir = omega (arith, k-in m v x right new room)
 
   slotted : With d₃ (header m) (m′ .owner) (content L′ L′)
-  unfolding addAtM slotOf
+  unfolding innerAddAt slotOf
   slotted = slot-step d₂ (header m) (m′ .owner) (partsOf m′) (owned₂ m v x right new room) (m .slots) L′ filled kk (some x) entry (λ i l. refl) in-dir
 
   abbrev d₄ : Disk
@@ -178,7 +178,7 @@ module _ (m : Inner) (v : Inv m) (x : NamedFile) (right : (1 ≤ length (x .name
 
   -- the image with the file added is that of the model with the file added
   pub add-image : addAt (render m) kk (entryFrom x) (x .content) ≡ render m′
-  unfolding addAt render addAtM header
+  unfolding addAt render innerAddAt header
   add-image =
       let w : freeSectors (count blocks (freeOf (m′ .owner))) ≡ freeWord (peakAfter m) (fileBlocks m′) =
       unfold freeWord in omega (arith, add-inv m v x right new room .free-sum) in

@@ -21,7 +21,7 @@ use Rattle.sector_rules.specs.Geometry.{blocks}
 use Rattle.file_rules.specs.declared.Record.{Record}
 use Rattle.file_rules.specs.Directory.{nameEq}
 use Rattle.file_rules.specs.Laws.InnerModel.Fields.{parts-none}
-use Rattle.file_rules.specs.Laws.InnerModel.Inner.{Inner, presentCount, fileBlocks, findM, emptySlot, give, freeOf, growOwner, peakAfter, addAtM}
+use Rattle.file_rules.specs.Laws.InnerModel.Inner.{Inner, presentCount, fileBlocks, innerFind, emptySlot, give, freeOf, growOwner, peakAfter, innerAddAt}
 use Rattle.file_rules.specs.Laws.InnerModel.Invariant.{partsOf, Owned, Inv}
 use Rattle.file_rules.specs.Laws.Base.Names.{name-sym}
 use Rattle.file_rules.specs.Laws.InnerModel.Owners.{owned-cong, give-owned, give-count}
@@ -34,7 +34,7 @@ some-same : (x y : NamedFile) → _≡_ {A = HeldFile} (some x) (some y) → x �
 some-same x y e = cc
 
 module _ (m : Inner) (v : Inv m) (x : NamedFile) (right : (1 ≤ length (x .name)) × (length (x .name) ≤ nameMost))
-    (new : suc (m .peak) ≤ findM m (x .name)) (room : dirBlocks (peakAfter m) + (fileBlocks m + blocksFor (length (x .content))) ≤ usable) where
+    (new : suc (m .peak) ≤ innerFind m (x .name)) (room : dirBlocks (peakAfter m) + (fileBlocks m + blocksFor (length (x .content))) ≤ usable) where
   abbrev kk : ℕ
   kk = emptySlot m
 
@@ -42,7 +42,7 @@ module _ (m : Inner) (v : Inv m) (x : NamedFile) (right : (1 ≤ length (x .name
   n = blocksFor (length (x .content))
 
   abbrev m′ : Inner
-  m′ = addAtM m kk x
+  m′ = innerAddAt m kk x
 
   abbrev owner₁ : ℕ → Record
   owner₁ = growOwner m (peakAfter m)
@@ -111,7 +111,7 @@ module _ (m : Inner) (v : Inv m) (x : NamedFile) (right : (1 ≤ length (x .name
 
   -- how many blocks each file has after the call
   pub parts-after : (f : ℕ) → upd parts₁ kk (0 + length rest) f ≡ partsOf m′ f
-  unfolding partsOf addAtM heldBlocks
+  unfolding partsOf innerAddAt heldBlocks
   parts-after zero = upd-other parts₁ kk (0 + length rest) 0 (omega (arith, k-pos m v)) ∙ upd-same (partsOf m) 0 (dirBlocks (peakAfter m)) 0 refl
   parts-after (suc f) =
       by-equal (suc f) kk
@@ -124,14 +124,14 @@ module _ (m : Inner) (v : Inv m) (x : NamedFile) (right : (1 ≤ length (x .name
 
   -- after the call every block has one owner
   pub owned₂ : Owned (m′ .owner) (partsOf m′)
-  unfolding addAtM
+  unfolding innerAddAt
   owned₂ =
       owned-cong (give owner₁ kk 0 rest) (upd parts₁ kk (0 + length rest)) (partsOf m′) parts-after
       (give-owned rest owner₁ parts₁ kk 0 0 owned₁ (firsts-picks blocks n (freeOf owner₁)) (omega (arith, k-le m v, v .peak-most)) parts₁-k
       (omega (arith, given-length)))
 
   count₂ : count blocks (freeOf (m′ .owner)) + n ≡ count blocks (freeOf owner₁)
-  unfolding addAtM
+  unfolding innerAddAt
   count₂ = omega (arith, give-count rest owner₁ kk 0 0 (firsts-picks blocks n (freeOf owner₁)), given-length)
 
   -- the blocks of all files
@@ -140,7 +140,7 @@ module _ (m : Inner) (v : Inv m) (x : NamedFile) (right : (1 ≤ length (x .name
   slot-n = ap heldBlocks (upd-same (m .slots) kk (some x) kk refl)
 
   blocks-after : fileBlocks m′ ≡ fileBlocks m + n
-  unfolding fileBlocks addAtM sum
+  unfolding fileBlocks innerAddAt sum
   blocks-after =
       by-order kk (suc (m .peak))
       (λ h.
@@ -171,7 +171,7 @@ module _ (m : Inner) (v : Inv m) (x : NamedFile) (right : (1 ≤ length (x .name
 
   -- no other file has the name
   no-such : (j : ℕ) (y : NamedFile) → m .slots j ≡ some y → nameEq (y .name) (x .name) ≡ true → ⊥
-  unfolding hasName findM isSome
+  unfolding hasName innerFind isSome
   no-such j y e q =
       by-order (m .peak) j
       (λ h. true≢false (isSome (m .slots j)) (ap isSome e) (ap isSome (v .slot-past j h)))
@@ -180,7 +180,7 @@ module _ (m : Inner) (v : Inv m) (x : NamedFile) (right : (1 ≤ length (x .name
 
   -- the invariant holds after a file is added
   pub add-inv : Inv m′
-  unfolding addAtM wrap dirBlocks
+  unfolding innerAddAt wrap dirBlocks
   add-inv =
       let at-k : L′ kk ≡ some x = upd-same (m .slots) kk (some x) kk refl in
       let off-k : (j : ℕ) → j ≢ kk → L′ j ≡ m .slots j = λ j q. upd-other (m .slots) kk (some x) j q in
@@ -215,7 +215,7 @@ module _ (m : Inner) (v : Inv m) (x : NamedFile) (right : (1 ≤ length (x .name
 
   -- one file more is present
   pub present-add : presentCount m′ ≡ suc (presentCount m)
-  unfolding presentCount addAtM isSome
+  unfolding presentCount innerAddAt isSome
   present-add =
       let at-k : isSome (L′ kk) ≡ true = ap isSome (upd-same (m .slots) kk (some x) kk refl) in
       let off-k : (j : ℕ) → j ≢ kk → isSome (L′ j) ≡ isSome (m .slots j) = λ j q. ap isSome (upd-other (m .slots) kk (some x) j q) in

@@ -17,7 +17,7 @@ use Rattle.file_rules.specs.declared.Record.{Record}
 use Rattle.file_rules.specs.declared.Record.the-variants.{Free, System, File, Other}
 use Rattle.file_rules.specs.Calls.{removeAt}
 use Rattle.file_rules.specs.Disk.{Disk}
-use Rattle.file_rules.specs.Laws.InnerModel.Inner.{Inner, presentCount, fileBlocks, header, render, freeOf, removeAtM}
+use Rattle.file_rules.specs.Laws.InnerModel.Inner.{Inner, presentCount, fileBlocks, header, render, freeOf, innerRemoveAt}
 use Rattle.file_rules.specs.Laws.InnerModel.Invariant.{partsOf, Owned, Inv}
 use Rattle.file_rules.specs.Laws.InnerModel.Last.{finish, slot-step}
 use Rattle.file_rules.specs.Laws.InnerModel.Owners.{unowned-file, freed-count, freed-owned}
@@ -32,7 +32,7 @@ kept-slot L k x y j e q = sym (upd-other L k y j q) ∙ e
 
 module _ (m : Inner) (v : Inv m) (k : ℕ) (pos : 0 < k) (low : k ≤ m .peak) where
   abbrev m′ : Inner
-  m′ = removeAtM m k
+  m′ = innerRemoveAt m k
 
   abbrev L′ : ℕ → HeldFile
   L′ = upd (m .slots) k none
@@ -41,7 +41,7 @@ module _ (m : Inner) (v : Inv m) (k : ℕ) (pos : 0 < k) (low : k ≤ m .peak) w
   own′ b = unowned k (m .owner b)
 
   pub parts-other : (f : ℕ) → f ≢ k → partsOf m′ f ≡ partsOf m f
-  unfolding partsOf removeAtM
+  unfolding partsOf innerRemoveAt
   parts-other zero q = refl
   parts-other (suc f) q = ap heldBlocks (upd-other (m .slots) k none (suc f) q)
 
@@ -50,10 +50,10 @@ module _ (m : Inner) (v : Inv m) (k : ℕ) (pos : 0 < k) (low : k ≤ m .peak) w
     where
       go : (j : ℕ) → j ≡ k → partsOf m′ j ≡ 0
       go zero e = absurd (omega arith)
-      go (suc j) e = unfold partsOf removeAtM heldBlocks in ap heldBlocks (upd-same (m .slots) k none (suc j) e)
+      go (suc j) e = unfold partsOf innerRemoveAt heldBlocks in ap heldBlocks (upd-same (m .slots) k none (suc j) e)
 
   owned : Owned (m′ .owner) (partsOf m′)
-  unfolding removeAtM
+  unfolding innerRemoveAt
   owned = freed-owned (m .owner) (partsOf m) (v .own) k (partsOf m′) parts-other parts-gone
 
   parts-at : partsOf m k ≡ heldBlocks (m .slots k)
@@ -71,11 +71,11 @@ module _ (m : Inner) (v : Inv m) (k : ℕ) (pos : 0 < k) (low : k ≤ m .peak) w
   zero-now = ap heldBlocks (upd-same (m .slots) k none k refl)
 
   in-dir : k / blockSlots < partsOf m′ 0
-  unfolding partsOf removeAtM dirBlocks
+  unfolding partsOf innerRemoveAt dirBlocks
   in-dir = omega arith
 
   pub remove-inv : Inv m′
-  unfolding removeAtM fileBlocks wrap
+  unfolding innerRemoveAt fileBlocks wrap
   remove-inv =
       record {
         own = owned;
@@ -112,7 +112,7 @@ module _ (m : Inner) (v : Inv m) (k : ℕ) (pos : 0 < k) (low : k ≤ m .peak) w
           ap (λ (x : HeldFile). part (heldBytes x) s o) (sym (upd-other (m .slots) k none (suc f) (unowned-file k (suc f) s (m .owner b) e .1)))
 
   pub remove-image : removeAt (render m) k ≡ render m′
-  unfolding removeAt render removeAtM header
+  unfolding removeAt render innerRemoveAt header
   remove-image =
       let h : ℕ → ℕ = header m in
       let c : Record → ℕ → ℕ = content (m .slots) (m .slots) in
@@ -130,7 +130,7 @@ module _ (m : Inner) (v : Inv m) (k : ℕ) (pos : 0 < k) (low : k ≤ m .peak) w
       (subst (λ (x : ℕ). With (removeAt (render m) k) (diskHeaderByte (m .arguments) (wrap (m .updates + 1)) x (suc (m .peak))) own′ (content L′ L′)) w p₄)
 
   pub present-remove : (x : NamedFile) → m .slots k ≡ some x → presentCount m ≡ suc (presentCount m′)
-  unfolding presentCount removeAtM isSome
+  unfolding presentCount innerRemoveAt isSome
   present-remove x e =
       count-drop (suc (m .peak)) k (λ (j : ℕ). isSome (m .slots j)) (λ (j : ℕ). isSome (L′ j)) (omega arith) (ap isSome e)
       (ap isSome (upd-same (m .slots) k none k refl)) (λ j l q. ap isSome (sym (upd-other (m .slots) k none j q)))

@@ -30,7 +30,7 @@ use Rattle.file_rules.specs.Laws.Base.Disk.{length-image, disk-image}
 use Rattle.file_rules.specs.Laws.Base.OnSound.{sound-passed}
 use Rattle.file_rules.specs.Laws.InnerModel.Reads.{dirEnd-is, findName-is, vacantSlot-is, found-slot, list-is, read-is}
 use Rattle.file_rules.specs.Laws.InnerModel.Judgements.{disk-refusal-none}
-use Rattle.file_rules.specs.Laws.InnerModel.Inner.{Inner, fileBlocks, header, render, emptySlots, formatM, findM, emptySlot, freeOf, ChangedM, refusedM, removeAtM, removeM, addAtM, roomFor, addM, stepM, outM, outsM, endM}
+use Rattle.file_rules.specs.Laws.InnerModel.Inner.{Inner, fileBlocks, header, render, emptySlots, innerFormat, innerFind, emptySlot, freeOf, InnerChanged, innerRefused, innerRemoveAt, innerRemove, innerAddAt, roomFor, innerAdd, innerStep, innerOut, innerOuts, innerEnd}
 use Rattle.file_rules.specs.Laws.InnerModel.Invariant.{partsOf, Inv}
 use Rattle.file_rules.specs.Laws.Base.Names.{name-bounds}
 use Rattle.file_rules.specs.Laws.OnImages.Remove.{remove-inv, remove-image}
@@ -56,8 +56,8 @@ blank Other o = refl
 blank (File zero s) o = refl
 blank (File (suc f) s) o = by-test (ltb o blockBytes) (λ t. cond-true _ _ t) (λ t. cond-false _ _ t)
 
-pub format-is : (args : FormatArguments) → formatDisk args ≡ render (formatM args)
-unfolding formatDisk render formatM header freeWord fileBlocks dirBlocks sum heldBlocks emptySlots
+pub format-is : (args : FormatArguments) → formatDisk args ≡ render (innerFormat args)
+unfolding formatDisk render innerFormat header freeWord fileBlocks dirBlocks sum heldBlocks emptySlots
 format-is args =
     with-only (freshHeader args) freshOwner (content emptySlots emptySlots) (formatDisk args)
     (with-same (formatDisk args) (freshHeader args) freshOwner (λ (r : Record) (o : ℕ). 0)
@@ -83,13 +83,13 @@ fresh-file zero f s e = true≢false (isSystem System) refl (ap isSystem e)
 fresh-file (suc zero) f s e = (refl, cc, cc)
 fresh-file (suc (suc b)) f s e = true≢false (isFree Free) refl (ap isFree e)
 
-fresh-part : (args : FormatArguments) (f s : ℕ) → s < partsOf (formatM args) f → (b : ℕ) × (b < blocks) × (freshOwner b ≡ File f s)
-unfolding freshOwner partsOf formatM dirBlocks heldBlocks emptySlots
+fresh-part : (args : FormatArguments) (f s : ℕ) → s < partsOf (innerFormat args) f → (b : ℕ) × (b < blocks) × (freshOwner b ≡ File f s)
+unfolding freshOwner partsOf innerFormat dirBlocks heldBlocks emptySlots
 fresh-part args zero s h = (1, omega arith, ap (File 0) (omega arith))
 fresh-part args (suc f) s h = absurd (omega arith)
 
-pub format-inv : (args : FormatArguments) → Inv (formatM args)
-unfolding formatM partsOf dirBlocks fileBlocks heldBlocks emptySlots sum count freeOf freshOwner isFree isSome
+pub format-inv : (args : FormatArguments) → Inv (innerFormat args)
+unfolding innerFormat partsOf dirBlocks fileBlocks heldBlocks emptySlots sum count freeOf freshOwner isFree isSome
 format-inv args =
     record {
       own =
@@ -99,7 +99,7 @@ format-inv args =
             own-system = λ b l e. fresh-system b e;
             own-below = λ b f s l e.
                 let w : (b ≡ 1) × (f ≡ 0) × (s ≡ 0) = fresh-file b f s e in
-                subst (λ (g : ℕ). s < partsOf (formatM args) g) (sym (w .1)) (omega (arith, w .2));
+                subst (λ (g : ℕ). s < partsOf (innerFormat args) g) (sym (w .1)) (omega (arith, w .2));
             own-part = λ f s h. fresh-part args f s h;
             own-once = λ b b′ f s l l′ e e′. fresh-file b f s e .0 ∙ sym (fresh-file b′ f s e′ .0);
           };
@@ -114,67 +114,67 @@ format-inv args =
 
 -- ---- one call
 
-disked : ChangedM → DiskChanged
+disked : InnerChanged → DiskChanged
 disked c = record { answer = c .answer; diskAfter = render (c .modelAfter) }
 
 module _ (m : Inner) (v : Inv m) where
-  remove-is : (name : List ℕ) → (removeSound (render m) name ≡ disked (removeM m name)) × Inv (removeM m name .modelAfter)
-  unfolding removeSound removeM diskKept refusedM disked
+  remove-is : (name : List ℕ) → (removeSound (render m) name ≡ disked (innerRemove m name)) × Inv (innerRemove m name .modelAfter)
+  unfolding removeSound innerRemove diskKept innerRefused disked
   remove-is name =
       by-test (nameRight name)
-      (λ t. by-order (findM m name) (suc (m .peak))
+      (λ t. by-order (innerFind m name) (suc (m .peak))
       (λ h.
-      let w : (x : NamedFile) × (m .slots (findM m name) ≡ some x) × (nameEq (x .name) name ≡ true) × (0 < findM m name) = found-slot m v name h in
-      let e : removeM m name ≡ record { answer = done; modelAfter = removeAtM m (findM m name) } = cond-true _ _ t ∙ cond-true _ _ (lt-true h) in (
+      let w : (x : NamedFile) × (m .slots (innerFind m name) ≡ some x) × (nameEq (x .name) name ≡ true) × (0 < innerFind m name) = found-slot m v name h in
+      let e : innerRemove m name ≡ record { answer = done; modelAfter = innerRemoveAt m (innerFind m name) } = cond-true _ _ t ∙ cond-true _ _ (lt-true h) in (
         rw (findName-is m v name, dirEnd-is m v)
             (cond-true _ _ t ∙ cond-true _ _ (lt-true h)
-            ∙ ap (λ (d : Disk). record { answer = done; diskAfter = d }) (remove-image m v (findM m name) (w .3) (omega arith))
+            ∙ ap (λ (d : Disk). record { answer = done; diskAfter = d }) (remove-image m v (innerFind m name) (w .3) (omega arith))
             ∙ ap disked (sym e)),
-        subst (λ (c : ChangedM). Inv (c .modelAfter)) (sym e) (remove-inv m v (findM m name) (w .3) (omega arith)),
+        subst (λ (c : InnerChanged). Inv (c .modelAfter)) (sym e) (remove-inv m v (innerFind m name) (w .3) (omega arith)),
       ))
       (λ h.
-      let e : removeM m name ≡ refusedM m (refusal 14) = cond-true _ _ t ∙ cond-false _ _ (lt-false h) in (
+      let e : innerRemove m name ≡ innerRefused m (refusal 14) = cond-true _ _ t ∙ cond-false _ _ (lt-false h) in (
         rw (findName-is m v name, dirEnd-is m v)
             (cond-true _ _ t ∙ cond-false _ _ (lt-false h) ∙ ap disked (sym e)),
-        subst (λ (c : ChangedM). Inv (c .modelAfter)) (sym e) v,
+        subst (λ (c : InnerChanged). Inv (c .modelAfter)) (sym e) v,
       )))
       (λ t.
-      let e : removeM m name ≡ refusedM m (refusal 12) = cond-false _ _ t in (
+      let e : innerRemove m name ≡ innerRefused m (refusal 12) = cond-false _ _ t in (
         cond-false _ _ t ∙ ap disked (sym e),
-        subst (λ (c : ChangedM). Inv (c .modelAfter)) (sym e) v,
+        subst (λ (c : InnerChanged). Inv (c .modelAfter)) (sym e) v,
       ))
 
-  add-is : (x : NamedFile) → (addSound (render m) (x .name) (x .date) (x .content) ≡ disked (addM m x)) × Inv (addM m x .modelAfter)
-  unfolding addSound addM diskKept refusedM disked nameRight roomFor
+  add-is : (x : NamedFile) → (addSound (render m) (x .name) (x .date) (x .content) ≡ disked (innerAdd m x)) × Inv (innerAdd m x .modelAfter)
+  unfolding addSound innerAdd diskKept innerRefused disked nameRight roomFor
   add-is x =
       by-test (nameRight (x .name))
-      (λ t. by-order (findM m (x .name)) (suc (m .peak))
+      (λ t. by-order (innerFind m (x .name)) (suc (m .peak))
       (λ h.
-      let e : addM m x ≡ refusedM m (reply 13 (findM m (x .name)) 0 0) = cond-true _ _ t ∙ cond-true _ _ (lt-true h) in (
+      let e : innerAdd m x ≡ innerRefused m (reply 13 (innerFind m (x .name)) 0 0) = cond-true _ _ t ∙ cond-true _ _ (lt-true h) in (
         rw (findName-is m v (x .name), dirEnd-is m v) (cond-true _ _ t ∙ cond-true _ _ (lt-true h) ∙ ap disked (sym e)),
-        subst (λ (c : ChangedM). Inv (c .modelAfter)) (sym e) v,
+        subst (λ (c : InnerChanged). Inv (c .modelAfter)) (sym e) v,
       ))
       (λ h. by-test (roomFor m x)
       (λ r.
       let right : (1 ≤ length (x .name)) × (length (x .name) ≤ nameMost) = name-bounds (x .name) t in
-      let e : addM m x ≡ record { answer = done; modelAfter = addAtM m (emptySlot m) x } =
+      let e : innerAdd m x ≡ record { answer = done; modelAfter = innerAddAt m (emptySlot m) x } =
       cond-true _ _ t ∙ cond-false _ _ (lt-false h) ∙ cond-true _ _ r in (
         rw (findName-is m v (x .name), dirEnd-is m v, vacantSlot-is m v)
             (cond-true _ _ t ∙ cond-false _ _ (lt-false h) ∙ cond-true _ _ (sym (room-is m v x) ∙ r)
             ∙ ap (λ (d : Disk). record { answer = done; diskAfter = d }) (add-image m v x right h (true-le r))
             ∙ ap disked (sym e)),
-        subst (λ (c : ChangedM). Inv (c .modelAfter)) (sym e) (add-inv m v x right h (true-le r)),
+        subst (λ (c : InnerChanged). Inv (c .modelAfter)) (sym e) (add-inv m v x right h (true-le r)),
       ))
       (λ r.
-      let e : addM m x ≡ refusedM m (refusal 15) = cond-true _ _ t ∙ cond-false _ _ (lt-false h) ∙ cond-false _ _ r in (
+      let e : innerAdd m x ≡ innerRefused m (refusal 15) = cond-true _ _ t ∙ cond-false _ _ (lt-false h) ∙ cond-false _ _ r in (
         rw (findName-is m v (x .name), dirEnd-is m v, vacantSlot-is m v)
             (cond-true _ _ t ∙ cond-false _ _ (lt-false h) ∙ cond-false _ _ (sym (room-is m v x) ∙ r) ∙ ap disked (sym e)),
-        subst (λ (c : ChangedM). Inv (c .modelAfter)) (sym e) v,
+        subst (λ (c : InnerChanged). Inv (c .modelAfter)) (sym e) v,
       ))))
       (λ t.
-      let e : addM m x ≡ refusedM m (refusal 12) = cond-false _ _ t in (
+      let e : innerAdd m x ≡ innerRefused m (refusal 12) = cond-false _ _ t in (
         cond-false _ _ t ∙ ap disked (sym e),
-        subst (λ (c : ChangedM). Inv (c .modelAfter)) (sym e) v,
+        subst (λ (c : InnerChanged). Inv (c .modelAfter)) (sym e) v,
       ))
 
   -- ---- the same on the image
@@ -192,32 +192,32 @@ module _ (m : Inner) (v : Inv m) where
   pub img-sound : {A : Type 0} (refuse : Reply → A) (act : Disk → A) → onSound img refuse act ≡ act (render m)
   img-sound refuse act = sound-passed img refuse act (length-image (render m)) (ap diskRefusal img-disk ∙ disk-refusal-none m v) ∙ ap act img-disk
 
-  add-image-is : (x : NamedFile) → add img (x .name) (x .date) (x .content) ≡ record { answer = addM m x .answer; image = imageOf (render (addM m x .modelAfter)) }
+  add-image-is : (x : NamedFile) → add img (x .name) (x .date) (x .content) ≡ record { answer = innerAdd m x .answer; image = imageOf (render (innerAdd m x .modelAfter)) }
   unfolding add imaged disked
   add-image-is x =
       img-sound _ _ ∙ ap imaged (add-is x .0)
 
-  remove-image-is : (name : List ℕ) → remove img name ≡ record { answer = removeM m name .answer; image = imageOf (render (removeM m name .modelAfter)) }
+  remove-image-is : (name : List ℕ) → remove img name ≡ record { answer = innerRemove m name .answer; image = imageOf (render (innerRemove m name .modelAfter)) }
   unfolding remove imaged disked
   remove-image-is name =
       img-sound _ _ ∙ ap imaged (remove-is name .0)
 
-  pub out-is : (c : Call) → imageOut img c ≡ outM m c
-  unfolding imageOut outM list read
+  pub out-is : (c : Call) → imageOut img c ≡ innerOut m c
+  unfolding imageOut innerOut list read
   out-is (toAdd x) = ap (λ (w : ImageChanged). bufferKept [] (w .answer)) (add-image-is x)
   out-is (toRemove name) = ap (λ (w : ImageChanged). bufferKept [] (w .answer)) (remove-image-is name)
   out-is (toList buf) = img-sound _ _ ∙ list-is m v buf
   out-is (toRead name buf) = img-sound _ _ ∙ read-is m v name buf
 
-  pub step-is : (c : Call) → imageStep img c ≡ imageOf (render (stepM m c))
-  unfolding imageStep stepM
+  pub step-is : (c : Call) → imageStep img c ≡ imageOf (render (innerStep m c))
+  unfolding imageStep innerStep
   step-is (toAdd x) = ap (λ (w : ImageChanged). w .image) (add-image-is x)
   step-is (toRemove name) = ap (λ (w : ImageChanged). w .image) (remove-image-is name)
   step-is (toList buf) = refl
   step-is (toRead name buf) = refl
 
-  pub step-inv : (c : Call) → Inv (stepM m c)
-  unfolding stepM
+  pub step-inv : (c : Call) → Inv (innerStep m c)
+  unfolding innerStep
   step-inv (toAdd x) = add-is x .1
   step-inv (toRemove name) = remove-is name .1
   step-inv (toList buf) = v
@@ -226,17 +226,17 @@ module _ (m : Inner) (v : Inv m) where
 -- ---- a history
 
 pub runs : (cs : List Call) (m : Inner) → Inv m
-    → (imageOuts (imageOf (render m)) cs ≡ outsM m cs) × (imageEnd (imageOf (render m)) cs ≡ imageOf (render (endM m cs)))
-unfolding imageOuts outsM imageEnd endM
+    → (imageOuts (imageOf (render m)) cs ≡ innerOuts m cs) × (imageEnd (imageOf (render m)) cs ≡ imageOf (render (innerEnd m cs)))
+unfolding imageOuts innerOuts imageEnd innerEnd
 runs [] m v = (refl, refl)
 runs (c ∷ cs) m v =
-    let ih : (imageOuts (imageOf (render (stepM m c))) cs ≡ outsM (stepM m c) cs) × (imageEnd (imageOf (render (stepM m c))) cs ≡ imageOf (render (endM (stepM m c) cs))) =
-    runs cs (stepM m c) (step-inv m v c) in (
+    let ih : (imageOuts (imageOf (render (innerStep m c))) cs ≡ innerOuts (innerStep m c) cs) × (imageEnd (imageOf (render (innerStep m c))) cs ≡ imageOf (render (innerEnd (innerStep m c) cs))) =
+    runs cs (innerStep m c) (step-inv m v c) in (
       ap₂ (λ (o : Outcome) (os : List Outcome). o ∷ os) (out-is m v c) (ap (λ (l : List ℕ). imageOuts l cs) (step-is m v c) ∙ ih .0),
       ap (λ (l : List ℕ). imageEnd l cs) (step-is m v c) ∙ ih .1,
     )
 
-pub end-inv : (cs : List Call) (m : Inner) → Inv m → Inv (endM m cs)
-unfolding endM
+pub end-inv : (cs : List Call) (m : Inner) → Inv m → Inv (innerEnd m cs)
+unfolding innerEnd
 end-inv [] m v = v
-end-inv (c ∷ cs) m v = end-inv cs (stepM m c) (step-inv m v c)
+end-inv (c ∷ cs) m v = end-inv cs (innerStep m c) (step-inv m v c)

@@ -25,8 +25,8 @@ use Rattle.file_rules.specs.History.{dataFound, HasEntry, Belongs, Holds
 use Rattle.file_rules.specs.Laws.InModel.Agree.{agree, fresh-listed, start-is}
 use Rattle.file_rules.specs.Laws.Base.Disk.{block-lt, offset-lt, byte-is, length-image}
 use Rattle.file_rules.specs.Laws.InnerModel.Reads.{dirEnd-is, word20, held-is, found-slot}
-use Rattle.file_rules.specs.Laws.InnerModel.Inner.{Inner, presentCount, fileBlocks, render, emptySlots, formatM, findM, readM}
-use Rattle.file_rules.specs.Laws.InnerModel.Inner.{ChangedM, refusedM, peakAfter, roomFor, addM, outM, outsM, endM}
+use Rattle.file_rules.specs.Laws.InnerModel.Inner.{Inner, presentCount, fileBlocks, render, emptySlots, innerFormat, innerFind, innerRead}
+use Rattle.file_rules.specs.Laws.InnerModel.Inner.{InnerChanged, innerRefused, peakAfter, roomFor, innerAdd, innerOut, innerOuts, innerEnd}
 use Rattle.file_rules.specs.Laws.InnerModel.Invariant.{partsOf, Inv}
 use Rattle.file_rules.specs.Laws.FilesLeft.Left.{count-is, left-is}
 use Rattle.file_rules.specs.Laws.InModel.Listed.{withOwner, BlocksListed}
@@ -41,16 +41,16 @@ use Rattle.file_rules.specs.Written.{blocksFor}
 
 -- ---- the accepted format
 
-fresh-fills : (args : FormatArguments) → Fills (formatM args .slots) []
-unfolding formatM emptySlots
+fresh-fills : (args : FormatArguments) → Fills (innerFormat args .slots) []
+unfolding innerFormat emptySlots
 fresh-fills args k = refl
 
-fresh-few : (args : FormatArguments) → presentCount (formatM args) ≤ formatM args .peak
-unfolding formatM emptySlots isSome presentCount count
+fresh-few : (args : FormatArguments) → presentCount (innerFormat args) ≤ innerFormat args .peak
+unfolding innerFormat emptySlots isSome presentCount count
 fresh-few args = omega arith
 
-fresh-peak : (args : FormatArguments) → formatM args .peak ≡ 0
-unfolding formatM
+fresh-peak : (args : FormatArguments) → innerFormat args .peak ≡ 0
+unfolding innerFormat
 fresh-peak args = refl
 
 -- ---- what is read of the inner model at the end
@@ -61,25 +61,25 @@ module _ (m : Inner) (v : Inv m) (fs : List NamedFile) (r : Fills (m .slots) fs)
   present-blocks = fills-blocks fs (m .slots) (suc (m .peak)) (λ k h. v .slot-past k h) r
 
   -- a name that no slot has
-  no-slot : (name : List ℕ) → suc (m .peak) ≤ findM m name → (k : ℕ) (x : NamedFile) → m .slots k ≡ some x → nameEq (x .name) name ≡ false
-  unfolding findM hasName
+  no-slot : (name : List ℕ) → suc (m .peak) ≤ innerFind m name → (k : ℕ) (x : NamedFile) → m .slots k ≡ some x → nameEq (x .name) name ≡ false
+  unfolding innerFind hasName
   no-slot name h k x e =
       ap (hasName name) (sym e)
       ∙ lowest-low (λ (j : ℕ). hasName name (m .slots j)) (suc (m .peak)) k (omega (arith, filled-below m v fs r k x e .1))
 
   -- by whether a slot has it
   by-name : {X : Type 0} (name : List ℕ)
-      → ((x : NamedFile) → findM m name < suc (m .peak) → m .slots (findM m name) ≡ some x → fileNamed name fs ≡ some x → X)
-      → (suc (m .peak) ≤ findM m name → fileNamed name fs ≡ none → X) → X
+      → ((x : NamedFile) → innerFind m name < suc (m .peak) → m .slots (innerFind m name) ≡ some x → fileNamed name fs ≡ some x → X)
+      → (suc (m .peak) ≤ innerFind m name → fileNamed name fs ≡ none → X) → X
   by-name name f g =
-      by-order (findM m name) (suc (m .peak))
+      by-order (innerFind m name) (suc (m .peak))
       (λ h.
-      let w : (x : NamedFile) × (m .slots (findM m name) ≡ some x) × (nameEq (x .name) name ≡ true) × (0 < findM m name) = found-slot m v name h in
-      f (w .0) h (w .1) (fills-named fs (m .slots) (λ i j y z a b n. v .slot-once i j y z a b n) (findM m name) (w .0) name (w .1) (w .2) r))
+      let w : (x : NamedFile) × (m .slots (innerFind m name) ≡ some x) × (nameEq (x .name) name ≡ true) × (0 < innerFind m name) = found-slot m v name h in
+      f (w .0) h (w .1) (fills-named fs (m .slots) (λ i j y z a b n. v .slot-once i j y z a b n) (innerFind m name) (w .0) name (w .1) (w .2) r))
       (λ h. g h (fills-not-named fs (m .slots) name (no-slot name h) r))
 
-  read-found : (name buf : List ℕ) → 1 ≤ length name → length name ≤ nameMost → readM m name buf ≡ dataFound (fileNamed name fs) buf
-  unfolding readM dataFound heldData bufferKept
+  read-found : (name buf : List ℕ) → 1 ≤ length name → length name ≤ nameMost → innerRead m name buf ≡ dataFound (fileNamed name fs) buf
+  unfolding innerRead dataFound heldData bufferKept
   read-found name buf p q =
       cond-true _ _ (bounds-name name p q)
       ∙ by-name name
@@ -88,15 +88,15 @@ module _ (m : Inner) (v : Inv m) (fs : List NamedFile) (r : Fills (m .slots) fs)
       (λ h f. cond-false _ _ (lt-false h) ∙ ap (λ (l : HeldFile). dataFound l buf) (sym f))
 
   add-found : (x : NamedFile) → 1 ≤ length (x .name) → length (x .name) ≤ nameMost → fileNamed (x .name) fs ≡ none
-      → addM m x .answer ≡ cond (roomFor m x) done (refusal 15)
-  unfolding addM refusedM
+      → innerAdd m x .answer ≡ cond (roomFor m x) done (refusal 15)
+  unfolding innerAdd innerRefused
   add-found x p q n =
       let t : nameRight (x .name) ≡ true = bounds-name (x .name) p q in
       by-name (x .name)
       (λ y h e f. absurd (none-some y (sym n ∙ f)))
       (λ h f. by-test (roomFor m x)
-      (λ s. ap (λ (c : ChangedM). c .answer) (cond-true _ _ t ∙ cond-false _ _ (lt-false h) ∙ cond-true _ _ s) ∙ sym (cond-true _ _ s))
-      (λ s. ap (λ (c : ChangedM). c .answer) (cond-true _ _ t ∙ cond-false _ _ (lt-false h) ∙ cond-false _ _ s) ∙ sym (cond-false _ _ s)))
+      (λ s. ap (λ (c : InnerChanged). c .answer) (cond-true _ _ t ∙ cond-false _ _ (lt-false h) ∙ cond-true _ _ s) ∙ sym (cond-true _ _ s))
+      (λ s. ap (λ (c : InnerChanged). c .answer) (cond-true _ _ t ∙ cond-false _ _ (lt-false h) ∙ cond-false _ _ s) ∙ sym (cond-false _ _ s)))
 
   room-by : (x : NamedFile) → roomFor m x ≡ leb (dirBlocks (max (m .peak) (suc (length fs))) + (blocksOfFiles fs + blocksFor (length (x .content)))) usable
   unfolding roomFor peakAfter
@@ -121,16 +121,16 @@ module _ (m : Inner) (v : Inv m) (fs : List NamedFile) (r : Fills (m .slots) fs)
 
 module _ (args : FormatArguments) (calls : List Call) where
   abbrev m₀ : Inner
-  m₀ = formatM args
+  m₀ = innerFormat args
 
   abbrev b₀ : Model
   b₀ = modelFormat args
 
   abbrev m : Inner
-  m = endM m₀ calls
+  m = innerEnd m₀ calls
 
   abbrev os : List Outcome
-  os = outsM m₀ calls
+  os = innerOuts m₀ calls
 
   abbrev fs : List NamedFile
   fs = filesLeft [] calls os
@@ -153,12 +153,12 @@ module _ (args : FormatArguments) (calls : List Call) where
       let w : Inv (withOwner b₀ freshOwner) = subst Inv e (format-inv args) in
       let l : BlocksListed (b₀ .slots) (b₀ .dir) freshOwner (partsOf (withOwner b₀ freshOwner)) =
       subst (λ (z : Inner). BlocksListed (b₀ .slots) (b₀ .dir) freshOwner (partsOf z)) e (fresh-listed args) in
-      let h : (outsM (withOwner b₀ freshOwner) calls ≡ modelOuts b₀ calls)
-      × (render (endM (withOwner b₀ freshOwner) calls) ≡ modelDisk (modelEnd b₀ calls))
-      × (endM (withOwner b₀ freshOwner) calls .peak ≡ modelEnd b₀ calls .peak) = agree calls b₀ freshOwner w l in (
-        ap (λ (z : Inner). outsM z calls) e ∙ h .0,
-        ap (λ (z : Inner). render (endM z calls)) e ∙ h .1,
-        ap (λ (z : Inner). endM z calls .peak) e ∙ h .2,
+      let h : (innerOuts (withOwner b₀ freshOwner) calls ≡ modelOuts b₀ calls)
+      × (render (innerEnd (withOwner b₀ freshOwner) calls) ≡ modelDisk (modelEnd b₀ calls))
+      × (innerEnd (withOwner b₀ freshOwner) calls .peak ≡ modelEnd b₀ calls .peak) = agree calls b₀ freshOwner w l in (
+        ap (λ (z : Inner). innerOuts z calls) e ∙ h .0,
+        ap (λ (z : Inner). render (innerEnd z calls)) e ∙ h .1,
+        ap (λ (z : Inner). innerEnd z calls .peak) e ∙ h .2,
       )
 
   abbrev img : List ℕ
@@ -192,11 +192,11 @@ module _ (args : FormatArguments) (calls : List Call) where
             subst (λ (d : Disk). (b o : ℕ) → (Belongs d fs b o → ⊥) → d b o ≡ 0) (sym on-disk) (zero-outside m v fs (both .0));
       }
     where
-      read-at : (name buf : List ℕ) → read img name buf ≡ readM m name buf
-      read-at name buf = unfold imageOut outM in out-is m v (toRead name buf)
+      read-at : (name buf : List ℕ) → read img name buf ≡ innerRead m name buf
+      read-at name buf = unfold imageOut innerOut in out-is m v (toRead name buf)
 
-      add-at : (x : NamedFile) → add img (x .name) (x .date) (x .content) .answer ≡ addM m x .answer
-      add-at x = unfold imageOut outM bufferKept in ap (λ (o : Outcome). o .answer) (out-is m v (toAdd x))
+      add-at : (x : NamedFile) → add img (x .name) (x .date) (x .content) .answer ≡ innerAdd m x .answer
+      add-at x = unfold imageOut innerOut bufferKept in ap (λ (o : Outcome). o .answer) (out-is m v (toAdd x))
 
       room-left : dirBlocks P + blocksOfFiles fs ≤ usable
       room-left = omega (arith, v .free-sum, ap dirBlocks peak-most-is, present-blocks m v fs (both .0))
@@ -205,20 +205,20 @@ module _ (args : FormatArguments) (calls : List Call) where
 pub history : EveryHistory
 history old args calls long short =
     let f : format old args ≡ record { answer = done; image = imageOf (formatDisk args) } = format-done old args long short in
-    let start : formatted old args ≡ imageOf (render (formatM args)) =
+    let start : formatted old args ≡ imageOf (render (innerFormat args)) =
     ap (λ (w : ImageChanged). w .image) f ∙ ap imageOf (format-is args) in
-    let run : (imageOuts (imageOf (render (formatM args))) calls ≡ outsM (formatM args) calls)
-    × (imageEnd (imageOf (render (formatM args))) calls ≡ imageOf (render (endM (formatM args) calls))) =
-    runs calls (formatM args) (format-inv args) in
-    let e : imageEnd (formatted old args) calls ≡ imageOf (render (endM (formatM args) calls)) =
+    let run : (imageOuts (imageOf (render (innerFormat args))) calls ≡ innerOuts (innerFormat args) calls)
+    × (imageEnd (imageOf (render (innerFormat args))) calls ≡ imageOf (render (innerEnd (innerFormat args) calls))) =
+    runs calls (innerFormat args) (format-inv args) in
+    let e : imageEnd (formatted old args) calls ≡ imageOf (render (innerEnd (innerFormat args) calls)) =
     ap (λ (l : List ℕ). imageEnd l calls) start ∙ run .1 in
-    let o : imageOuts (formatted old args) calls ≡ outsM (formatM args) calls =
+    let o : imageOuts (formatted old args) calls ≡ innerOuts (innerFormat args) calls =
     ap (λ (l : List ℕ). imageOuts l calls) start ∙ run .0 in (
       ap (λ (w : ImageChanged). w .answer) f,
       subst (λ (im : List ℕ). Holds args calls im (imageOuts (formatted old args) calls)
           (filesLeft [] calls (imageOuts (formatted old args) calls)) (mostPresent [] calls (imageOuts (formatted old args) calls))) (sym e)
           (subst (λ (xs : List Outcome).
-          Holds args calls (imageOf (render (endM (formatM args) calls))) xs (filesLeft [] calls xs) (mostPresent [] calls xs)) (sym o)
+          Holds args calls (imageOf (render (innerEnd (innerFormat args) calls))) xs (filesLeft [] calls xs) (mostPresent [] calls xs)) (sym o)
           (holds args calls)),
     )
 
@@ -226,12 +226,12 @@ history old args calls long short =
 pub history-check : HistoryCheck
 unfolding check
 history-check old args calls long short =
-    let n : Inner = endM (formatM args) calls in
-    let w : Inv n = end-inv calls (formatM args) (format-inv args) in
+    let n : Inner = innerEnd (innerFormat args) calls in
+    let w : Inv n = end-inv calls (innerFormat args) (format-inv args) in
     let f : format old args ≡ record { answer = done; image = imageOf (formatDisk args) } = format-done old args long short in
     let e : imageEnd (formatted old args) calls ≡ imageOf (render n) =
     ap (λ (l : List ℕ). imageEnd l calls) (ap (λ (x : ImageChanged). x .image) f ∙ ap imageOf (format-is args))
-    ∙ runs calls (formatM args) (format-inv args) .1 in
+    ∙ runs calls (innerFormat args) (format-inv args) .1 in
     ap check e ∙ img-sound n w _ _
 
 -- each byte of an image is a byte of its disk
