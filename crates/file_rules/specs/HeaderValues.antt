@@ -175,8 +175,9 @@ format-is old long =
     ∙ fresh
   where
     fresh : tab (λ (i : ℕ). formatDisk (argumentsOf title 0x1234) (blockOf i) (offsetOf i)) 96 ≡ diskHeader
-    fresh = unfold tab formatDisk diskWith diskHeaderByte fixedByte patch highByte diskSignature sidePlace backward blockOf offsetOf runningSector title diskHeader
-        in refl
+    fresh =
+        unfold tab formatDisk diskWith diskHeaderByte fixedByte patch highByte diskSignature sidePlace backward blockOf offsetOf runningSector title
+        diskHeader in refl
 
 refused-is : (old : List ℕ) (args : FormatArguments) → length old ≡ imageBytes → 11 ≤ length (args .title) → format old args .answer ≡ refusal 12
 unfolding format imageRight imageKept

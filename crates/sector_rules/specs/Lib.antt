@@ -12,6 +12,7 @@ pub mod Damage
 pub mod Values
 pub mod HeaderValues
 pub mod ReplyValues
+pub mod WrittenValues
 pub mod Theorems
 pub mod Caught
 pub mod Laws

@@ -1,4 +1,5 @@
--- reply-values: the lengths that 1 refuses and its places, what 3 judges of a track table, and the numbers 4 to 7 with their places, by value.
+-- reply-values: the lengths that 1 refuses and its places, what 3 judges of a track table, the numbers 4 to 7 with their places, and 12 of the placement call,
+-- by value.
 -- Assumes nothing.
 use mathlib.Core.Bool.{cond}
 use mathlib.Core.List.{List, [], _∷_, _++_, map}
@@ -17,6 +18,7 @@ use Rattle.cells.specs.Sync.{syncAt, threeSync}
 use Rattle.sector_rules.specs.declared.Reply.{Reply}
 use Rattle.sector_rules.specs.declared.Sector.the-variants.{Missing, Repeated, NoField, Damaged}
 use Rattle.sector_rules.specs.Faults.{faultBelow, lowestFault}
+use Rattle.sector_rules.specs.Geometry.{sidePlace, imageSector, placeReply}
 use Rattle.sector_rules.specs.HeaderValues.{hfeHeader}
 use Rattle.sector_rules.specs.Hfe.{hfeSignature, formatFault, flagFault, hfeHeaderFault}
 use Rattle.sector_rules.specs.Hfe.{entryPlace, trackStart, trackLength, trackUnitBytes, trackGood, tableFault, trackPart, sideStream}
@@ -64,6 +66,8 @@ pub record ReplyValues : Type 0 where
   pub sectors-named : map (sectorReply 1439) (Missing ∷ Repeated ∷ NoField ∷ Damaged ∷ [])
       ≡ reply 4 79 1 9 ∷ reply 5 79 1 9 ∷ reply 6 79 1 9 ∷ reply 7 79 1 9 ∷ []
   pub places-named : map (λ (m : ℕ). sectorReply m Missing) (0 ∷ 8 ∷ 9 ∷ 18 ∷ []) ≡ reply 4 0 0 1 ∷ reply 4 0 0 9 ∷ reply 4 0 1 1 ∷ reply 4 1 0 1 ∷ []
+  -- 12 of the placement call: blocks are 0 to 479, sectors of a block 0 to 2
+  pub place-judged : (placeReply 479 2 ≡ reply 0 1438 0 0) × (placeReply 480 0 ≡ reply 12 0 0 0) × (placeReply 0 3 ≡ reply 12 0 0 0)
 
 -- ---- the proof
 
@@ -84,7 +88,7 @@ unfolding packReply
 pack-length-is n w = cond-false _ _ (eq-false w)
 
 pub reply-values : ReplyValues
-unfolding tableReply withTable hfeHeader unpackReply unless orElse hfeHeaderFault formatFault flagFault hfeSignature standsAt bytesAre
+unfolding imageSector sidePlace tableReply withTable hfeHeader unpackReply unless orElse hfeHeaderFault formatFault flagFault hfeSignature standsAt bytesAre
     same tab lowFirst tableFault lowestFault faultBelow lowest trackGood entryPlace trackStart trackLength trackUnitBytes quotientUp
     goodEntries sectorsReply firstBad sectorAt sideStream trackPart sectorOf sectorFound findSector foundOf placesBelow headerAt headerOf isHeader
     stream cellAt bytePlace from threeSync syncAt
@@ -99,4 +103,5 @@ reply-values =
       tracks-judged = (refl, refl);
       sectors-named = refl;
       places-named = refl;
+      place-judged = (refl, refl, refl);
     }

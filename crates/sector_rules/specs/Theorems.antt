@@ -9,6 +9,8 @@ pub use Rattle.sector_rules.specs.Values.{placement-values}
 pub use Rattle.sector_rules.specs.Laws.Trip.RoundTrip.{round-trip}
 -- hfe-header-values: the packed HFE header as a row of bytes, and for each byte of it what 2 names where that byte is another
 pub use Rattle.sector_rules.specs.HeaderValues.{hfe-header-values}
+-- written-values: the bytes and marks that pack writes beside headers and data, the track table and the unused bytes, by value
+pub use Rattle.sector_rules.specs.WrittenValues.{written-values}
 -- reply-values: the lengths that 1 refuses, what 3 judges of a track table, the numbers 4 to 7, each with its places
 pub use Rattle.sector_rules.specs.ReplyValues.{reply-values}
 -- ---- damage (Caught.antt)
