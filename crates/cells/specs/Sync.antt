@@ -1,4 +1,4 @@
--- Sync bytes, over the cells from a place on. Document 01, "Cells and sectors".
+-- Sync bytes, in the cells from a place on (docs/RULES.md, section 3).
 -- Assumes nothing: these are definitions.
 use mathlib.Core.List.{List}
 use mathlib.Core.Bool.{Bool, _&&_}
@@ -7,14 +7,14 @@ use lib.Dec.{leb, eqb}
 use lib.ListN.{length}
 use Rattle.cells.specs.Stream.{word}
 
--- the cells of a sync byte, first cell highest
+-- the cells of a sync mark, first cell highest (§3.5)
 abbrev pub syncWord : ℕ
 syncWord = 0x4489
 
--- a sync byte at cell k, all of it before the end
+-- a sync byte stands at cell k, all of it before the end (§3.7)
 unfoldable pub syncAt : List ℕ → ℕ → Bool
 syncAt c k = leb (k + 16) (length c) && eqb (word c k) syncWord
 
--- three sync bytes, one after the other, at the list's start
+-- a run, three sync bytes with nothing between them, at the list's beginning (§3.7)
 unfoldable pub threeSync : List ℕ → Bool
 threeSync c = syncAt c 0 && syncAt c 16 && syncAt c 32

@@ -1,4 +1,4 @@
--- A written row of bytes and marks, and its cells. Document 01, "Cells and sectors", first paragraph and the written side.
+-- A written row of bytes and marks, and its cells (docs/RULES.md, section 3).
 -- Assumes nothing: these are definitions.
 use mathlib.Core.List.{List}
 use mathlib.Core.Path.{_≡_}
@@ -11,41 +11,41 @@ use Rattle.cells.specs.Mfm.{bitOf, mfmCell}
 use Rattle.cells.specs.declared.Item.{Item}
 use Rattle.cells.specs.declared.Item.the-variants.{Plain, Sync, Index}
 
--- the byte that an item spells: the marks are A1 and C2
+-- the byte of an item: that of the sync mark is A1, that of the index mark C2 (§3.5)
 abbrev pub itemByte : Item → ℕ
 itemByte (Plain x) = x
 itemByte Sync = 0xA1
 itemByte Index = 0xC2
 
--- which of an item's 16 cells is a clock that is left out, so that the marks have the cells 4489 and 5224 (sync-cells, index-cells in Theorems);
--- 16, so none, for a plain byte
+-- which of the 16 cells of an item is a clock cell that is left out, so that the marks have the cells 4489 and 5224 (sync-cells, index-cells in
+-- Theorems); 16, so none, for a plain byte (§3.5)
 abbrev pub leftOut : Item → ℕ
 leftOut (Plain x) = 16
 leftOut Sync = 10
 leftOut Index = 8
 
--- cell j of an item that follows the bit p
+-- cell j of an item that follows the bit p: 0 where the clock cell is left out, and else as MFM has it (§3.5)
 unfoldable pub itemCell : ℕ → Item → ℕ → ℕ
 itemCell p a j = cond (eqb j (leftOut a)) 0 (mfmCell p (itemByte a) j)
 
--- an item's 16 cells as a number, first cell highest
+-- the 16 cells of an item as a number, first cell highest (§3.5)
 unfoldable pub itemWord : ℕ → Item → ℕ
 itemWord p a = word (tab (itemCell p a) 16) 0
 
--- the bit before item q of a row; before the first it counts as 0
+-- the bit before item q of a row: the lowest of the item before, and 0 before the first item (§3.4)
 unfoldable pub bitBefore : (ℕ → Item) → ℕ → ℕ
 bitBefore items zero = 0
 bitBefore items (suc q) = bitOf (itemByte (items q)) 7
 
--- cell m of a row of items
+-- cell m of a row of items, 16 cells each (§3.3 §3.4)
 unfoldable pub writtenCell : (ℕ → Item) → ℕ → ℕ
 writtenCell items m = itemCell (bitBefore items (m / 16)) (items (m / 16)) (m % 16)
 
--- the cells of a row of n items
+-- the cells of a row of n items (§3.3)
 unfoldable pub written : (ℕ → Item) → ℕ → List ℕ
 written items n = tab (writtenCell items) (16 * n)
 
--- three sync marks, one after the other, from item q on
+-- a run: three sync marks with nothing between them, from item q on (§3.7)
 pub record Triple (items : ℕ → Item) (q : ℕ) : Type 0 where
   pub first : items q ≡ Sync
   pub second : items (q + 1) ≡ Sync
