@@ -1,4 +1,4 @@
--- Faults: the lowest wrong place that a judgement finds, and the refusal that names it. Document 01, "Numbered replies", places of 2, 3, 8, 9 and 10.
+-- Faults: the lowest wrong place that a judgement finds, and the refusal that names it (docs/RULES.md, section 7: places of 2, 3, 8, 9 and 10).
 -- Assumes nothing: these are definitions.
 use mathlib.Core.Bool.{Bool, cond}
 use mathlib.Core.Option.{Option, none, some}
@@ -10,24 +10,24 @@ use Rattle.sector_rules.specs.declared.Fault.the-variants.{At, Sound}
 use Rattle.sector_rules.specs.declared.Reply.{Reply}
 use Rattle.sector_rules.specs.Replies.{reply}
 
--- a field at offset o that is right or wrong
+-- the fault of a field at offset o: none if it is right, and else this field (§7.18)
 abbrev pub wrongAt : ℕ → Bool → Fault
 wrongAt o right = cond right Sound (At o)
 
--- the first of two faults
+-- the first of two faults, if there is one (§7.18)
 abbrev pub orFault : Fault → Fault → Fault
 orFault (At o) f = At o
 orFault Sound f = f
 
--- a number below n is at fault, and n stands for none
+-- the fault of a number: this number if it is below n, and none else (§7.18)
 unfoldable pub faultBelow : ℕ → ℕ → Fault
 faultBelow n m = cond (ltb m n) (At m) Sound
 
--- the lowest number below n at which the test holds
+-- the lowest number below n at which the test holds, if there is one (§7.18)
 unfoldable pub lowestFault : (ℕ → Bool) → ℕ → Fault
 lowestFault p n = faultBelow n (lowest p n)
 
--- the refusal with this number and the place that is at fault
+-- the refusal with this number that names the place at fault, or none (§7.17 §7.18)
 abbrev pub refusalAt : ℕ → Fault → Option Reply
 refusalAt n (At o) = some (reply n o 0 0)
 refusalAt n Sound = none

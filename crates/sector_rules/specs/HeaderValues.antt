@@ -1,4 +1,4 @@
--- header-values: the bytes of a packed HFE header, and what unpacking says of an image in whose header one byte is another. Computed, so that each number
+-- hfe-header-values: the bytes of a packed HFE header, and what unpacking says of an image in whose header one byte is another. Computed, so that each number
 -- of the header and each offset that 2 names is stated twice: in the definitions by rule, here by value.
 -- Assumes nothing.
 use mathlib.Core.Bool.{true, cond}
@@ -27,7 +27,8 @@ use Rattle.sector_rules.specs.Packed.{hfeBytes, hfeHeaderRest, hfeHeader
 use Rattle.sector_rules.specs.Replies.{done, unless}
 use Rattle.sector_rules.specs.Unpacked.{sectorAt, sectorReply, firstBad, sectorsReply, unpackReply}
 
--- the 26 bytes up to the last that is judged: HXCPICFE; revision, tracks, sides, encoding; rate 250 and rpm 300, low byte first; mode, unused; table offset 1
+-- the 26 bytes up to the last that is judged: HXCPICFE; revision, tracks, sides, encoding; bit rate 250 and turns a minute 300, low byte first; mode, FF;
+-- the table's unit 1; FF (§5.4 §5.5)
 unfoldable pub hfeHeader : List ℕ
 hfeHeader =
     0x48 ∷ 0x58 ∷ 0x43 ∷ 0x50 ∷ 0x49 ∷ 0x43 ∷ 0x46 ∷ 0x45
@@ -35,32 +36,36 @@ hfeHeader =
     ∷ 0x07 ∷ 0xFF ∷ 0x01 ∷ 0x00 ∷ 0xFF ∷ 0xFF ∷ 0xFF ∷ 0xFF
     ∷ 0xFF ∷ 0xFF ∷ []
 
--- the place that a reply of this number names, or `other` where its number is another
+-- the place that a reply of this number names, or `other` where its number is another (§7.17)
 unfoldable pub placeNamed : ℕ → ℕ → Reply → ℕ
 placeNamed number other r = cond (eqb (r .number) number) (r .first) other
 
--- what unpacking names with 2 in an image that begins with these bytes, or 26
+-- what unpacking names with 2 in an image that begins with these bytes, or 26 (§7.2)
 unfoldable pub named : List ℕ → List ℕ → ℕ
 named start rest = placeNamed 2 26 (unpackReply (start ++ rest) imageBytes)
 
--- a byte one more and one less; FF and 00 follow each other
+-- a byte one more; 00 follows FF (§7.2 §7.8)
 unfoldable pub oneMore : ℕ → ℕ
 oneMore v = (v + 1) % 256
 
+-- a byte one less; FF follows 00 (§7.2 §7.8)
 unfoldable pub oneLess : ℕ → ℕ
 oneLess v = (v + 255) % 256
 
--- a header of which byte o is changed so, and one of which each byte from o on is
+-- a header of which byte o is changed by g (§7.2 §7.8)
 unfoldable pub changedAt : (ℕ → ℕ) → List ℕ → ℕ → List ℕ
 changedAt g start o = set start o (g (getD start o 0))
 
+-- a header of which each byte from o on is changed by g (§7.2 §7.8)
 unfoldable pub changedFrom : (ℕ → ℕ) → List ℕ → ℕ → List ℕ
 changedFrom g start o = take o start ++ map g (drop o start)
 
+-- a header of which one byte is changed is as long as before
 pub changed-length : (g : ℕ → ℕ) (start : List ℕ) (o : ℕ) → length (changedAt g start o) ≡ length start
 unfolding changedAt
 changed-length g start o = length-set start o _
 
+-- a header of which each byte from o on is changed is as long as before
 pub from-length : (g : ℕ → ℕ) (start : List ℕ) (o : ℕ) → o < length start → length (changedFrom g start o) ≡ length start
 unfolding changedFrom
 from-length g start o l =
@@ -68,6 +73,7 @@ from-length g start o l =
 
 -- ---- what is promised
 
+-- by value: the header that pack writes, and what 2 names where bytes of it are others (§5.4 §5.5 §7.2)
 pub record HfeHeaderValues : Type 0 where
   -- the header that pack writes: the 26 bytes, and FF in the rest of its unit
   pub packed-header : (image hfe : List ℕ) → length image ≡ imageBytes → length hfe ≡ hfeBytes
@@ -161,6 +167,7 @@ header-length : length hfeHeader ≡ 26
 unfolding hfeHeader
 header-length = refl
 
+-- hfe-header-values: all of these hold
 pub hfe-header-values : HfeHeaderValues
 unfolding tab hfeHeaderFault formatFault flagFault hfeSignature hfeHeader changedAt changedFrom oneMore oneLess lowFirst standsAt bytesAre same
 hfe-header-values =

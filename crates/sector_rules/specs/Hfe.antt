@@ -1,4 +1,4 @@
--- The HFE image to read: its header, track table and sides. Document 01, "The HFE image", and refusals 2 and 3.
+-- The HFE image to read: its header, track table and sides (docs/RULES.md, section 2), and what 2 and 3 judge (section 7).
 -- Assumes nothing: these are definitions.
 use mathlib.Core.Bool.{Bool, _&&_, _||_, not}
 use mathlib.Core.List.{List, [], _∷_}
@@ -14,23 +14,23 @@ use Rattle.sector_rules.specs.Geometry.{tracks, sides}
 
 -- ---- the header
 
--- bytes 0 to 7: HXCPICFE
+-- the letters of bytes 0 to 7: HXCPICFE (§2.2)
 unfoldable pub hfeSignature : List ℕ
 hfeSignature = 0x48 ∷ 0x58 ∷ 0x43 ∷ 0x50 ∷ 0x49 ∷ 0x43 ∷ 0x46 ∷ 0x45 ∷ []
 
--- byte o
+-- byte o of an image, where fields of the header are one byte (§2.2 §2.3)
 abbrev pub byteAt : List ℕ → ℕ → ℕ
 byteAt h o = getD h o 0
 
--- bytes 22 and 24 are FF or 00
+-- a flag, byte 22 or 24, is FF or 00 (§2.3)
 abbrev pub flagRight : List ℕ → ℕ → Bool
 flagRight h o = eqb (byteAt h o) 0xFF || eqb (byteAt h o) 0
 
--- where such a byte is 00, the one after it is 0
+-- where a flag is 00, the byte after it, 23 or 25, is 0 (§2.3)
 abbrev pub afterFlagRight : List ℕ → ℕ → Bool
 afterFlagRight h o = not (eqb (byteAt h o) 0) || eqb (byteAt h (o + 1)) 0
 
--- revision 0, 80 to 255 tracks, 2 sides, encoding 0, bit rate 250
+-- fields 8 to 12: revision 0, 80 to 255 tracks, 2 sides, encoding 0, bit rate 250 (§2.2 §2.3)
 unfoldable pub formatFault : List ℕ → Fault
 formatFault h =
     orFault (wrongAt 8 (eqb (byteAt h 8) 0))
@@ -38,11 +38,11 @@ formatFault h =
     (orFault (wrongAt 10 (eqb (byteAt h 10) sides))
     (orFault (wrongAt 11 (eqb (byteAt h 11) 0)) (wrongAt 12 (eqb (lowFirst h 12 2) 250)))))
 
--- such a byte at o, and the one after it
+-- a flag at o, and the byte after it (§2.3)
 unfoldable pub flagFault : List ℕ → ℕ → Fault
 flagFault h o = orFault (wrongAt o (flagRight h o)) (wrongAt (o + 1) (afterFlagRight h o))
 
--- the lowest wrong field: signature, format, table offset of at least 1, flags
+-- the lowest wrong field: letters, fields 8 to 12, the table's unit, which is 1 or more, and both flags (§2.2 §2.3 §7.2)
 unfoldable pub hfeHeaderFault : List ℕ → Fault
 hfeHeaderFault h =
     orFault (wrongAt 0 (standsAt h 0 hfeSignature))
@@ -52,42 +52,42 @@ hfeHeaderFault h =
 
 -- ---- the track table
 
--- table and tracks stand at units of 512 bytes
+-- bytes of a unit, by which the places of the table and of tracks are counted (§2.1)
 abbrev pub unitBytes : ℕ
 unitBytes = 512
 
--- where the four bytes of a track stand in the image
+-- where the four bytes of the entry of track t begin in the image (§2.4)
 unfoldable pub entryPlace : List ℕ → ℕ → ℕ
 entryPlace h t = unitBytes * lowFirst h 18 2 + 4 * t
 
--- the track's offset, in units in the table
+-- where track t begins in the image: its entry has the unit, low byte first (§2.1 §2.4)
 unfoldable pub trackStart : List ℕ → ℕ → ℕ
 trackStart h t = unitBytes * lowFirst h (entryPlace h t) 2
 
--- its length in bytes
+-- the length of track t in bytes, both sides together, low byte first (§2.1 §2.4)
 unfoldable pub trackLength : List ℕ → ℕ → ℕ
 trackLength h t = lowFirst h (entryPlace h t + 2) 2
 
--- the bytes of its units, rounded up
+-- the bytes of all units that the length needs (§2.5)
 unfoldable pub trackUnitBytes : List ℕ → ℕ → ℕ
 trackUnitBytes h t = unitBytes * quotientUp (trackLength h t) unitBytes
 
--- an entry is good if it is wholly within the image, the length is even and not 0, and the track's units end within the image
+-- the entry of track t is good: it is wholly within the image, the length is even and not 0, and the track's units end within the image (§2.5)
 unfoldable pub trackGood : List ℕ → ℕ → Bool
 trackGood h t =
     leb (entryPlace h t + 4) (length h) && eqb (trackLength h t % 2) 0 && ltb 0 (trackLength h t)
     && leb (trackStart h t + trackUnitBytes h t) (length h)
 
--- the lowest track whose entry is not good
+-- the lowest track of 0 to 79 whose entry is not good (§2.4 §7.3)
 unfoldable pub tableFault : List ℕ → Fault
 tableFault h = lowestFault (λ (t : ℕ). not (trackGood h t)) tracks
 
 -- ---- the sides
 
--- the part of the image that begins at the track's offset
+-- the track's part of the image: its units (§2.6)
 unfoldable pub trackPart : List ℕ → ℕ → List ℕ
 trackPart h t = take (trackUnitBytes h t) (drop (trackStart h t) h)
 
--- the stream of a side of a track
+-- the cells of side s of track t (§2.6)
 unfoldable pub sideStream : List ℕ → ℕ → ℕ → List ℕ
 sideStream h t s = stream (trackPart h t) (hfeSide s (trackLength h t))

@@ -24,18 +24,19 @@ use Rattle.sector_rules.specs.Packed.{packReply}
 use Rattle.sector_rules.specs.Replies.{reply, unless}
 use Rattle.sector_rules.specs.Unpacked.{sectorReply, unpackReply}
 
--- an image of 1,024 bytes with the header that pack writes and a track table that begins with these bytes; the rest is 0
+-- an image of 1,024 bytes with the header that pack writes and a track table that begins with these bytes; the rest is 0 (§2.4)
 unfoldable pub withTable : List ℕ → List ℕ
 withTable bytes = hfeHeader ++ (replicate 486 0 ++ (bytes ++ replicate (512 - length bytes) 0))
 
--- what unpacking it says
+-- the reply of unpack for such an image (§7.3)
 unfoldable pub tableReply : List ℕ → Reply
 tableReply bytes = unpackReply (withTable bytes) 737280
 
--- n good entries: two bytes at the image's beginning
+-- n good entries: each of two bytes from the image's first byte on (§2.4 §2.5)
 unfoldable pub goodEntries : ℕ → List ℕ
 goodEntries n = tab (λ (j : ℕ). cond (eqb (j % 4) 2) 2 0) (4 * n)
 
+-- by value: the lengths that 1 refuses, what 3 judges of a track table, and the numbers 4 to 7, each with its places (§7.1 §7.3 §7.4 §7.5 §7.6 §7.7)
 pub record ReplyValues : Type 0 where
   -- 1: an HFE image to read has 1,024 bytes or more, one to write 2,008,064, and a block image 737,280; the HFE image is judged first
   pub unpack-short : (hfe : List ℕ) (n : ℕ) → length hfe < 1024 → unpackReply hfe n ≡ reply 1 1 0 0
@@ -84,6 +85,7 @@ pack-length-is : (n : ℕ) → n ≢ 737280 → packReply n 2008064 ≡ reply 1 
 unfolding packReply
 pack-length-is n w = cond-false _ _ (eq-false w)
 
+-- reply-values: all of these hold
 pub reply-values : ReplyValues
 unfolding imageSector sidePlace tableReply withTable hfeHeader unpackReply unless orElse hfeHeaderFault formatFault flagFault hfeSignature standsAt bytesAre
     same tab lowFirst tableFault lowestFault faultBelow lowest trackGood entryPlace trackStart trackLength trackUnitBytes quotientUp

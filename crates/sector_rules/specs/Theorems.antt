@@ -39,7 +39,7 @@ use Rattle.sector_rules.specs.Laws.Base.Geometry.{forth-back, back-forth
 
 -- ---- stated here
 
--- the placement maps the 1,440 running sectors onto the 1,440 image sectors, and its inverse undoes it both ways
+-- the placement maps the 1,440 running sectors onto the 1,440 image sectors, and its inverse undoes it both ways (§1.6)
 pub record Bijective : Type 0 where
   pub forth : (n : ℕ) → n < allSectors → imageSector n < allSectors
   pub back : (m : ℕ) → m < allSectors → runningSector m < allSectors

@@ -1,4 +1,4 @@
--- Unpacking an HFE image to a block image. Document 01, "Numbered replies" 1 to 7.
+-- Unpacking an HFE image to a block image (docs/RULES.md, section 8), and the replies 1 and 4 to 7 (section 7).
 -- Assumes nothing: these are definitions.
 use mathlib.Core.Bool.{Bool, true, false, cond}
 use mathlib.Core.List.{List}
@@ -17,24 +17,27 @@ use Rattle.sector_rules.specs.Geometry.{sectors, trackSectors, allSector
 use Rattle.sector_rules.specs.Search.{sectorOf, deliveredBytes}
 use Rattle.sector_rules.specs.Hfe.{hfeHeaderFault, tableFault, sideStream}
 
--- track, side and R of an image sector: image sectors go side 0, R 1 to 9, then side 1
+-- the track of an image sector (§1.2)
 abbrev pub trackOf : ℕ → ℕ
 trackOf m = m / trackSectors
 
+-- the side of an image sector: side 0 comes before side 1 (§1.2)
 abbrev pub sideOf : ℕ → ℕ
 sideOf m = m % trackSectors / sectors
 
+-- R of an image sector: 1 to 9 (§1.2)
 abbrev pub rOf : ℕ → ℕ
 rOf m = m % sectors + 1
 
--- what image sector m gives, judged alone, and its bytes
+-- what image sector m gives, judged alone (§4.6)
 unfoldable pub sectorAt : List ℕ → ℕ → Sector
 sectorAt h m = sectorOf (sideStream h (trackOf m) (sideOf m)) (trackOf m) (sideOf m) (rOf m)
 
+-- the bytes that image sector m gives (§4.6)
 unfoldable pub sectorBytesAt : List ℕ → ℕ → List ℕ
 sectorBytesAt h m = deliveredBytes (sideStream h (trackOf m) (sideOf m)) (sectorAt h m)
 
--- the number for each case: 4 no header, 5 two or more, 6 no data field, 7 data CRC wrong; with track, side and R
+-- the reply for what image sector m gives: 4 no header, 5 two or more, 6 no field, 7 its CRC does not hold; with track, side and R (§7.4 §7.5 §7.6 §7.7)
 abbrev pub sectorReply : ℕ → Sector → Reply
 sectorReply m (Delivered p) = done
 sectorReply m Missing = reply 4 (trackOf m) (sideOf m) (rOf m)
@@ -42,7 +45,7 @@ sectorReply m Repeated = reply 5 (trackOf m) (sideOf m) (rOf m)
 sectorReply m NoField = reply 6 (trackOf m) (sideOf m) (rOf m)
 sectorReply m Damaged = reply 7 (trackOf m) (sideOf m) (rOf m)
 
--- whether it is bad: it gives a refusal
+-- whether a sector is bad: its reply is a refusal (§7.18)
 abbrev pub isBad : Sector → Bool
 isBad (Delivered p) = false
 isBad Missing = true
@@ -50,19 +53,19 @@ isBad Repeated = true
 isBad NoField = true
 isBad Damaged = true
 
--- the first bad sector by track, side, R, or 1440
+-- the first bad sector by track, side and R, or 1,440 (§7.18)
 unfoldable pub firstBad : List ℕ → ℕ
 firstBad h = lowest (λ (m : ℕ). isBad (sectorAt h m)) allSectors
 
--- its reply; done where no sector is bad
+-- the reply for the first bad sector; done where no sector is bad (§7.18)
 unfoldable pub sectorsReply : List ℕ → Reply
 sectorsReply h = cond (ltb (firstBad h) allSectors) (sectorReply (firstBad h) (sectorAt h (firstBad h))) done
 
--- an HFE image to read has at least 1024 bytes (1)
+-- an HFE image that is read has at least so many bytes (§7.1)
 abbrev pub leastHfe : ℕ
 leastHfe = 1024
 
--- the reply for an HFE image h and a block image of n bytes: tests run from 1 upwards, HFE first
+-- the reply of unpack for an HFE image h and a block image of n bytes: 1 to 7 are judged in their order, in 1 the HFE image first (§8.1 §7.1 §7.18)
 unfoldable pub unpackReply : List ℕ → ℕ → Reply
 unpackReply h n =
     cond (ltb (length h) leastHfe) wrongHfe
@@ -70,10 +73,10 @@ unpackReply h n =
     (unless (orElse (refusalAt 2 (hfeHeaderFault h)) (refusalAt 3 (tableFault h))) (λ (r : Reply). r) (sectorsReply h))
     wrongLength)
 
--- byte k of the block image: the sectors' bytes in image-sector order
+-- byte k of the unpacked block image: the bytes of all sectors in the order of image sectors (§8.1 §1.2)
 unfoldable pub unpackedByte : List ℕ → ℕ → ℕ
 unpackedByte h k = getD (sectorBytesAt h (k / sectorBytes)) (k % sectorBytes) 0
 
--- the lent block image afterwards: unchanged on a refusal
+-- the lent block image after unpack: as it was on a refusal (§8.1 §7.19)
 unfoldable pub unpackImage : List ℕ → List ℕ → List ℕ
 unpackImage h image = cond (eqb (unpackReply h (length image) .number) 0) (tab (unpackedByte h) imageBytes) image

@@ -1,19 +1,21 @@
--- The placements of document 01, "Values to check": one table, and one statement of the definition.
+-- placement-values: the image sectors of eleven sectors, by value (the table of docs/RULES.md, §1.5), are those that the definition gives.
 -- Assumes nothing.
 use mathlib.Core.Path.{_≡_, refl}
 use mathlib.Core.List.{List, [], _∷_, map}
 use Prim.Native.Nat.{ℕ}
 use Rattle.sector_rules.specs.Geometry.{running, imageSector, sidePlace}
 
--- a block, a sector of it, and the image sector that it has
+-- a block, a sector of it, and the image sector that it has (§1.5)
 pub record Placement : Type 0 where
   pub block : ℕ
   pub sector : ℕ
   pub image : ℕ
 
+-- a row of the table: block, sector, image sector (§1.5)
 unfoldable pub placedAt : ℕ → ℕ → ℕ → Placement
 placedAt b s i = record { block = b; sector = s; image = i }
 
+-- the eleven rows of the table (§1.5)
 unfoldable pub placements : List Placement
 placements =
     placedAt 0 0 0
@@ -29,13 +31,15 @@ placements =
     ∷ placedAt 479 2 1438
     ∷ []
 
--- the image sectors that the definition gives for the rows, and those that the table has
+-- the image sectors that the definition gives for the rows (§1.5)
 unfoldable pub definedSectors : List Placement → List ℕ
 definedSectors ps = map (λ (p : Placement). imageSector (running (p .block) (p .sector))) ps
 
+-- the image sectors that the rows have (§1.5)
 unfoldable pub tableSectors : List Placement → List ℕ
 tableSectors ps = map (λ (p : Placement). p .image) ps
 
+-- placement-values: the definition gives the image sector of each row
 pub placement-values : definedSectors placements ≡ tableSectors placements
 unfolding definedSectors tableSectors placements placedAt imageSector sidePlace
 placement-values = refl
