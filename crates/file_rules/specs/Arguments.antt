@@ -3,11 +3,11 @@
 use mathlib.Core.List.{List}
 use Prim.Native.Nat.{ℕ}
 
--- what the caller of a format gives besides the image: the disk's name and its number
+-- what the caller of a format gives besides the image: the disk's name and its number (§8.4)
 pub record FormatArguments : Type 0 where
   pub title : List ℕ
   pub number : ℕ
 
--- the record of a name and a number, as contracts build it
+-- the record of a name and a number, as contracts build it (§8.4)
 abbrev pub argumentsOf : List ℕ → ℕ → FormatArguments
 argumentsOf title number = record { title = title; number = number }

@@ -1,4 +1,4 @@
--- Directory entries, slots and names. Document 01, "Header, map, directory": file 0 is the directory, 64 bytes a slot.
+-- Directory entries, slots and names (docs/RULES.md, section 6).
 -- Assumes nothing: these are definitions.
 use mathlib.Core.Bool.{Bool, not, _&&_}
 use mathlib.Core.List.{List}
@@ -16,21 +16,21 @@ use Rattle.file_rules.specs.Map.{partBlock}
 
 -- ---- names
 
--- whether two names are equal: their lengths and their bytes are
+-- whether two names are equal: their lengths and their bytes are (§6.14)
 unfoldable pub nameEq : List ℕ → List ℕ → Bool
 nameEq a b = same a b
 
--- whether a file's name has 1 to 36 bytes (12)
+-- whether a file's name has 1 to 36 bytes (§6.15)
 unfoldable pub nameRight : List ℕ → Bool
 nameRight name = leb 1 (length name) && leb (length name) nameMost
 
 -- ---- entries
 
--- the entry in 64 bytes: 0-3 length, 14-15 name length, 16-51 name, 52-55 date
+-- the entry in 64 bytes: 0-3 the file's length, 14-15 the name's length, 16-51 the name, 52-55 the date (§6.13)
 unfoldable pub entryOf : (ℕ → ℕ) → Entry
 entryOf f = record { name = tab (λ (i : ℕ). f (16 + i)) nameMost; length = at32 f 0; namelen = at16 f 14; date = at32 f 52 }
 
--- byte i of an entry as written: the rest is zero
+-- byte i of an entry as written: all else is zero (§6.13)
 unfoldable pub entryByte : Entry → ℕ → ℕ
 entryByte e =
     patch (patch (patch (patch (λ (i : ℕ). 0)
@@ -39,45 +39,45 @@ entryByte e =
     16 nameMost (λ (i : ℕ). getD (e .name) i 0))
     52 4 (highByte 4 (e .date))
 
--- the name in an entry: as many of the 36 bytes as its length says
+-- the name in an entry: as many of the 36 bytes as its length says (§6.13)
 unfoldable pub nameOf : Entry → List ℕ
 nameOf e = take (e .namelen) (e .name)
 
--- the entry of a file with this name and date and so many bytes of data
+-- the entry of a file with this name and date and so many bytes of data (§6.13)
 unfoldable pub entryFor : List ℕ → ℕ → ℕ → Entry
 entryFor name date size =
     record { name = tab (λ (i : ℕ). getD name i 0) nameMost; length = slotBytes + size; namelen = length name; date = date }
 
 -- ---- slots
 
--- byte i of slot k, by the directory's sequence
+-- byte i of slot k, by the sequence of the directory's blocks (§6.11)
 unfoldable pub slotByte : Disk → ℕ → ℕ → ℕ
 slotByte d k i = d (partBlock d 0 (k / blockSlots)) (k % blockSlots * slotBytes + i)
 
--- the entry of slot k
+-- the entry in slot k (§6.13)
 unfoldable pub slotEntry : Disk → ℕ → Entry
 slotEntry d k = entryOf (slotByte d k)
 
--- its name
+-- the name of the entry in slot k (§6.13)
 unfoldable pub slotName : Disk → ℕ → List ℕ
 slotName d k = nameOf (slotEntry d k)
 
--- a slot is held unless it is 64 zero bytes; slot 0 never is
+-- whether slot k is held: its 64 bytes are not all zero; slot 0 never is (§6.12)
 unfoldable pub held : Disk → ℕ → Bool
 held d k = ltb 0 k && not (all (λ (i : ℕ). eqb (slotByte d k i) 0) slotBytes)
 
--- the directory's length in bytes, from whole blocks and bytes over
+-- the length of the directory in bytes, from whole blocks and bytes more (§6.6)
 unfoldable pub dirBytes : Disk → ℕ
 dirBytes d = at16 (d 0) 34 * blockBytes + at16 (d 0) 36
 
--- the directory's end: the first slot past it
+-- the directory's end: the number of the first slot that it does not have (§6.11)
 unfoldable pub dirEnd : Disk → ℕ
 dirEnd d = dirBytes d / slotBytes
 
--- the held slot of that name, or the directory's end
+-- the lowest held slot that has this name, or the directory's end (§6.12 §7.13 §7.14)
 unfoldable pub findName : Disk → List ℕ → ℕ
 findName d name = lowest (λ (k : ℕ). held d k && nameEq (slotName d k) name) (dirEnd d)
 
--- the lowest vacant slot, or the directory's end
+-- the lowest vacant slot from 1 on, or the directory's end (§8.9)
 unfoldable pub vacantSlot : Disk → ℕ
 vacantSlot d = lowest (λ (k : ℕ). ltb 0 k && not (held d k)) (dirEnd d)

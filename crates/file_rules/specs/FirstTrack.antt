@@ -1,4 +1,4 @@
--- The judgement of track 0 alone: 1, 8, 9 and 11, and three counts. Document 01, "Values to check", the program.
+-- The judgement of track 0 alone: 1, 8, 9 and 11, and three counts (docs/RULES.md, section 8).
 -- Assumes nothing: these are definitions.
 use mathlib.Core.Bool.{cond, not}
 use mathlib.Core.List.{List}
@@ -19,15 +19,15 @@ use Rattle.file_rules.specs.Map.{freeAt}
 use Rattle.file_rules.specs.Check.{refusal8, refusal9, refusal11}
 use Rattle.file_rules.specs.Calls.{unless, wrongLength}
 
--- a refusal has no counts
+-- a refusal has no counts (§8.14)
 abbrev pub refusedTrack : Reply → FirstTrack
 refusedTrack r = record { reply = r; free = 0; good = 0; held = 0 }
 
--- the free word, the good word, and the records that are not free
+-- the free word, the good sectors of the header, and the number of records that are not free (§8.14)
 unfoldable pub counted : Disk → FirstTrack
 counted d = record { reply = done; free = at16 (d 0) 20; good = at16 (d 0) 22; held = count blocks (λ (b : ℕ). not (freeAt d b)) }
 
--- block 0 lies on track 0 by the placement, and these judgements read nothing but block 0
+-- the call first track: block 0 lies on track 0 by the placement, and these judgements read nothing but block 0 (§8.14 §7.1)
 unfoldable pub firstTrack : List ℕ → FirstTrack
 firstTrack track =
     cond (eqb (length track) firstTrackBytes)

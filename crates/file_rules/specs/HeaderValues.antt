@@ -33,11 +33,12 @@ use Rattle.file_rules.specs.Laws.OnImages.Run.{format-done}
 use Rattle.file_rules.specs.Sizes.{blockBytes, slotCount}
 use Rattle.file_rules.specs.Written.{fixedByte, diskHeaderByte, diskWith}
 
--- a disk's name of nine bytes, and the header of a disk that is formatted with it and the number 1234 (hex): QL5A; the name and a space, the number; update
--- count, free word; sizes; the directory's length, the track offset; the two tables; FF
+-- a disk's name of nine bytes (§6.2)
 unfoldable pub title : List ℕ
 title = 0x51 ∷ 0x4C ∷ 0x20 ∷ 0x64 ∷ 0x69 ∷ 0x73 ∷ 0x6B ∷ 0x20 ∷ 0x31 ∷ []
 
+-- the header of a disk that is formatted with that name and the number 1234 (hex): QL5A; the name and a space, the number; update count, free word; sizes;
+-- the directory's length, the track offset; the two tables; FF (§6.1 §6.2 §6.3 §6.4 §6.5 §6.6 §6.7)
 unfoldable pub diskHeader : List ℕ
 diskHeader =
     0x51 ∷ 0x4C ∷ 0x35 ∷ 0x41 ∷ 0x51 ∷ 0x4C ∷ 0x20 ∷ 0x64 ∷ 0x69 ∷ 0x73 ∷ 0x6B ∷ 0x20 ∷ 0x31 ∷ 0x20 ∷ 0x12 ∷ 0x34
@@ -47,12 +48,13 @@ diskHeader =
     ∷ 0x02 ∷ 0x08 ∷ 0x0E ∷ 0x03 ∷ 0x09 ∷ 0x0F ∷ 0x04 ∷ 0x0A ∷ 0x10 ∷ 0x05 ∷ 0x0B ∷ 0x11 ∷ 0xFF ∷ 0xFF ∷ 0xFF ∷ 0xFF
     ∷ 0xFF ∷ 0xFF ∷ 0xFF ∷ 0xFF ∷ 0xFF ∷ 0xFF ∷ 0xFF ∷ 0xFF ∷ 0xFF ∷ 0xFF ∷ 0xFF ∷ 0xFF ∷ 0xFF ∷ 0xFF ∷ 0xFF ∷ 0xFF ∷ []
 
--- what the check names with 8 in an image that begins with these bytes, or 96
+-- what check names with 8 in an image that begins with these bytes, or 96 (§7.8)
 unfoldable pub named : List ℕ → List ℕ → ℕ
 named start rest = placeNamed 8 96 (check (start ++ rest))
 
 -- ---- what is promised
 
+-- by value: the header that format writes, what 8 names where bytes of it are others, and the names that 12 refuses (§6.7 §7.8 §7.12 §8.4)
 pub record DiskHeaderValues : Type 0 where
   -- what format writes
   pub format-header : (old : List ℕ) → length old ≡ imageBytes → take 96 (format old (argumentsOf title 0x1234) .image) ≡ diskHeader
@@ -183,6 +185,7 @@ refused-is : (old : List ℕ) (args : FormatArguments) → length old ≡ imageB
 unfolding format imageRight imageKept
 refused-is old args long h = ap (λ (w : ImageChanged). w .answer) (cond-true _ _ (eq-true long) ∙ cond-false _ _ (le-false h))
 
+-- disk-header-values: all of these hold
 pub disk-header-values : DiskHeaderValues
 unfolding tab diskHeaderFault dimensionsFault lengthRight dirBytes at16 bigEndian bytesAre same diskSignature sidePlace backward diskHeader
     changedAt changedFrom oneMore oneLess

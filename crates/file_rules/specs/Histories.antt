@@ -1,5 +1,5 @@
--- Histories: a list of calls, each on what the last left, on an image and in the model; and what the calls and their replies alone say.
--- Document 01, "The book of demand 3".
+-- Histories: a list of calls, each on what the one before left, on an image and in the model; and what the calls and their replies alone say
+-- (docs/RULES.md, section 9).
 -- Assumes nothing: these are definitions.
 use mathlib.Core.Path.{_≡_}
 use mathlib.Core.Logic.{_⊎_}
@@ -14,7 +14,7 @@ use Rattle.file_rules.specs.Directory.{nameEq}
 use Rattle.file_rules.specs.Model.{NamedFile, Model, modelList, modelRead, modelAdd, modelRemove}
 use Rattle.file_rules.specs.Written.{blocksFor}
 
--- a call with its arguments; list and read have their result buffer as it is before
+-- a call with its arguments; list and read have their buffer as it is before (§9.1)
 pub data Call : Type 0 where
   toAdd : NamedFile → Call
   toRemove : List ℕ → Call
@@ -23,93 +23,97 @@ pub data Call : Type 0 where
 
 -- ---- on an image
 
--- the reply of one call and the result buffer after it, which add and remove have none of
+-- the reply of one call on an image, and the buffer after it, which add and remove have none of (§9.1)
 unfoldable pub imageOut : List ℕ → Call → Outcome
 imageOut image (toAdd x) = bufferKept [] (add image (x .name) (x .date) (x .content) .answer)
 imageOut image (toRemove name) = bufferKept [] (remove image name .answer)
 imageOut image (toList buf) = list image buf
 imageOut image (toRead name buf) = read image name buf
 
--- the image after it
+-- the image after one call (§9.1)
 unfoldable pub imageStep : List ℕ → Call → List ℕ
 imageStep image (toAdd x) = add image (x .name) (x .date) (x .content) .image
 imageStep image (toRemove name) = remove image name .image
 imageStep image (toList buf) = image
 imageStep image (toRead name buf) = image
 
--- all of them in order, each call on what the last left
+-- the replies and buffers of all calls in order, each call on what the one before left (§9.1)
 unfoldable pub imageOuts : List ℕ → List Call → List Outcome
 imageOuts image [] = []
 imageOuts image (c ∷ cs) = imageOut image c ∷ imageOuts (imageStep image c) cs
 
--- the image at the end
+-- the image after all calls (§9.1)
 unfoldable pub imageEnd : List ℕ → List Call → List ℕ
 imageEnd image [] = image
 imageEnd image (c ∷ cs) = imageEnd (imageStep image c) cs
 
 -- ---- in the model
 
+-- the reply of one call in the model, and the buffer after it (§9.2)
 unfoldable pub modelOut : Model → Call → Outcome
 modelOut m (toAdd x) = record { answer = modelAdd m x .answer; buffer = [] }
 modelOut m (toRemove name) = record { answer = modelRemove m name .answer; buffer = [] }
 modelOut m (toList buf) = modelList m buf
 modelOut m (toRead name buf) = modelRead m name buf
 
+-- the model after one call (§9.2)
 unfoldable pub modelStep : Model → Call → Model
 modelStep m (toAdd x) = modelAdd m x .modelAfter
 modelStep m (toRemove name) = modelRemove m name .modelAfter
 modelStep m (toList buf) = m
 modelStep m (toRead name buf) = m
 
+-- the replies and buffers of all calls in order, in the model (§9.2)
 unfoldable pub modelOuts : Model → List Call → List Outcome
 modelOuts m [] = []
 modelOuts m (c ∷ cs) = modelOut m c ∷ modelOuts (modelStep m c) cs
 
+-- the model after all calls (§9.2)
 unfoldable pub modelEnd : Model → List Call → Model
 modelEnd m [] = m
 modelEnd m (c ∷ cs) = modelEnd (modelStep m c) cs
 
 -- ---- by the calls and their replies alone
 
--- a reply of 0
+-- whether a call is accepted: its reply has the number 0 (§9.6 §7.17)
 unfoldable pub accepted : Outcome → Bool
 accepted o = eqb (o .answer .number) 0
 
--- the files without that of a name
+-- these files without the one of this name (§9.6)
 unfoldable pub without : List ℕ → List NamedFile → List NamedFile
 without name [] = []
 without name (x ∷ xs) = cond (nameEq (x .name) name) xs (x ∷ without name xs)
 
--- the files present after a call: an accepted add brings one, an accepted remove takes one away
+-- the files present after a call: an accepted add brings one, an accepted remove takes one away (§9.6)
 unfoldable pub leftBy : List NamedFile → Call → Outcome → List NamedFile
 leftBy fs (toAdd x) o = cond (accepted o) (x ∷ fs) fs
 leftBy fs (toRemove name) o = cond (accepted o) (without name fs) fs
 leftBy fs (toList buf) o = fs
 leftBy fs (toRead name buf) o = fs
 
--- the files that the accepted calls leave
+-- the files that the accepted calls leave (§9.6)
 unfoldable pub filesLeft : List NamedFile → List Call → List Outcome → List NamedFile
 filesLeft fs [] os = fs
 filesLeft fs (c ∷ cs) [] = fs
 filesLeft fs (c ∷ cs) (o ∷ os) = filesLeft (leftBy fs c o) cs os
 
--- the greatest number of files present at once
+-- the greatest number of files present at once (§9.6)
 unfoldable pub mostPresent : List NamedFile → List Call → List Outcome → ℕ
 mostPresent fs [] os = length fs
 mostPresent fs (c ∷ cs) [] = length fs
 mostPresent fs (c ∷ cs) (o ∷ os) = max (length fs) (mostPresent (leftBy fs c o) cs os)
 
--- S of demand 3: (64 + length of data) / 1536, rounded up, over these files
+-- S: the blocks of these files, each (64 + length of data) / 1,536, rounded up (§9.7)
 unfoldable pub blocksOfFiles : List NamedFile → ℕ
 blocksOfFiles [] = 0
 blocksOfFiles (x ∷ xs) = blocksOfFiles xs + blocksFor (length (x .content))
 
--- the file of a name
+-- the file of this name, if there is one (§9.6)
 unfoldable pub fileNamed : List ℕ → List NamedFile → Option NamedFile
 fileNamed name [] = none
 fileNamed name (x ∷ xs) = cond (nameEq (x .name) name) (some x) (fileNamed name xs)
 
--- whether a file is one of these
+-- whether a file is one of these (§9.6)
 abbrev pub IsPresent : NamedFile → List NamedFile → Type 0
 IsPresent x [] = ⊥
 IsPresent x (y ∷ ys) = (x ≡ y) ⊎ IsPresent x ys

@@ -1,4 +1,4 @@
--- history: demand 3 as one statement, for every format that is accepted, whatever the image held, and every list of calls.
+-- history (docs/PROMISES.md; docs/RULES.md, section 9): one statement, for every format that is accepted, whatever the image held, and every list of calls.
 -- Beside it history-check: the check passes after every history; and every-byte: blocks and offsets reach every byte of an image.
 -- Assumes nothing: these are definitions. The proofs are `history`, `history-check` and `every-byte` in Laws/Theorem/History.antt.
 use mathlib.Core.Path.{_≡_}
@@ -22,16 +22,16 @@ use Rattle.file_rules.specs.Model.{NamedFile, entryFrom, dirBlocks, usab
 use Rattle.file_rules.specs.Sizes.{blockBytes, slotBytes, blockSlots, titleMost}
 use Rattle.file_rules.specs.Written.{blocksFor}
 
--- what a read gives of the file that was found: its data and then the buffer's rest, or 16; where none was found 14, and the buffer as it was
+-- what a read gives of the file that was found: its data and then the buffer's rest, or 16; where none was found 14, and the buffer as it was (§9.6)
 unfoldable pub dataFound : Option NamedFile → List ℕ → Outcome
 dataFound none buf = record { answer = refusal 14; buffer = buf }
 dataFound (some x) buf = resultOf (x .content) buf
 
--- slot k has the entry of file x
+-- slot k has the entry of file x (§9.6)
 abbrev pub HasEntry : Disk → ℕ → NamedFile → Type 0
 HasEntry d k x = (i : ℕ) → i < slotBytes → slotByte d k i ≡ entryByte (entryFrom x) i
 
--- byte o of block b is in the header or the map, in the directory slot of a present file, or in such a file
+-- byte o of block b is in the header or the map, in the slot of a file present, or in the entry and data of such a file in its blocks (§9.8)
 pub data Belongs (d : Disk) (files : List NamedFile) : ℕ → ℕ → Type 0 where
   inHead : (o : ℕ) → Belongs d files 0 o
   inSlot : (b o k : ℕ) (x : NamedFile) → IsPresent x files → 0 < k → k < dirEnd d → HasEntry d k x
@@ -39,11 +39,11 @@ pub data Belongs (d : Disk) (files : List NamedFile) : ℕ → ℕ → Type 0 wh
   inFile : (b o k s : ℕ) (x : NamedFile) → IsPresent x files → 0 < k → k < dirEnd d → HasEntry d k x
       → recordAt d b ≡ File k s → o < blockBytes → s * blockBytes + o < slotBytes + length (x .content) → Belongs d files b o
 
--- `image` is the image at the end, `outs` the replies and result buffers in order, `files` those that the accepted calls leave,
--- `most` the greatest number of them present at once
+-- what holds after a history: `image` is the image at the end, `outs` the replies and buffers in order, `files` those that the accepted calls leave, `most`
+-- the greatest number of them present at once (§9.5 §9.6 §9.7 §9.8)
 pub record Holds (args : FormatArguments) (calls : List Call)
     (image : List ℕ) (outs : List Outcome) (files : List NamedFile) (most : ℕ) : Type 0 where
-  -- each reply, the whole result buffer after each list and read, and the whole image at the end are the model's
+  -- each reply, the whole buffer after each list and read, and the whole image at the end are the model's
   pub same-outs : outs ≡ modelOuts (modelFormat args) calls
   pub same-image : image ≡ imageOf (modelDisk (modelEnd (modelFormat args) calls))
   pub whole : length image ≡ imageBytes
@@ -66,11 +66,11 @@ pub record Holds (args : FormatArguments) (calls : List Call)
   -- the disk's byte at block `blockOf i`, offset `offsetOf i` (EveryByte, below; the law image-disk says it of whole images)
   pub zero-else : (b o : ℕ) → (Belongs (diskOf image) files b o → ⊥) → diskOf image b o ≡ 0
 
--- the image after the format
+-- the image after the format, with which a history begins (§9.1)
 abbrev pub formatted : List ℕ → FormatArguments → List ℕ
 formatted old args = format old args .image
 
--- a history: an accepted format of an image that held anything, then the calls, each on the image that the last left
+-- history: an accepted format of an image that held anything, then the calls, each on the image that the one before left (§9.1)
 abbrev pub EveryHistory : Type 0
 EveryHistory =
     (old : List ℕ) (args : FormatArguments) (calls : List Call) → length old ≡ imageBytes → length (args .title) ≤ titleMost
@@ -81,13 +81,13 @@ EveryHistory =
     (filesLeft [] calls (imageOuts (formatted old args) calls))
     (mostPresent [] calls (imageOuts (formatted old args) calls))
 
--- after every history the image is sound: none of 1 and 8 to 11 is found
+-- history-check: after every history check accepts the image, so that none of 1 and 8 to 11 is found (§9.5)
 abbrev pub HistoryCheck : Type 0
 HistoryCheck =
     (old : List ℕ) (args : FormatArguments) (calls : List Call) → length old ≡ imageBytes → length (args .title) ≤ titleMost
     → check (imageEnd (formatted old args) calls) ≡ done
 
--- byte i of an image is the byte of its disk at the block and offset that i belongs to
+-- every-byte: byte i of an image is the byte of its disk at the block and offset that i belongs to (§1.3 §1.6)
 abbrev pub EveryByte : Type 0
 EveryByte =
     (image : List ℕ) (i : ℕ) → i < imageBytes

@@ -1,4 +1,4 @@
--- The definitions, in the order of document 01; then what is promised of them alone; then their laws.
+-- The definitions, in the order of docs/RULES.md; then what is promised of them alone; then their laws.
 pub mod Sizes
 pub mod Disk
 pub mod Map

@@ -1,4 +1,4 @@
--- Map records. Document 01, "Header, map, directory": from 96 on, three bytes a block, 12 bits file and 12 bits sequence.
+-- Map records (docs/RULES.md, section 6).
 -- Assumes nothing: these are definitions.
 use mathlib.Core.Bool.{Bool, true, false, cond, _&&_}
 use Prim.Native.Nat.{ℕ, _+_, _*_, _/_, _%_}
@@ -13,86 +13,86 @@ use Rattle.file_rules.specs.Disk.{Disk}
 
 -- ---- a record's number: its three bytes, highest first
 
--- first byte below F8: a file with its sequence
+-- the numbers below it, whose first byte is below F8, are files' records (§6.9)
 abbrev pub fileBound : ℕ
 fileBound = 0xF80000
 
--- FD FF FF: free
+-- the number of a free record: FD FF FF (§6.9)
 abbrev pub freeNumber : ℕ
 freeNumber = 0xFDFFFF
 
--- F8 00 00: the system's
+-- the number of the system's record: F8 00 00 (§6.9)
 abbrev pub systemNumber : ℕ
 systemNumber = 0xF80000
 
--- how many sequences, and file numbers, 12 bits have
+-- how many sequences, and file numbers, 12 bits have (§6.8)
 abbrev pub sequences : ℕ
 sequences = 4096
 
--- what a number says: 12 bits of file and 12 of sequence, free, the system's, or none of these
+-- the record of a number: a file's with 12 bits of file number and 12 of sequence, free, the system's, or of no kind (§6.8 §6.9)
 unfoldable pub decode : ℕ → Record
 decode n =
     cond (ltb n fileBound) (File (n / sequences) (n % sequences))
     (cond (eqb n freeNumber) Free
     (cond (eqb n systemNumber) System Other))
 
--- the number of a record as written; one of none of the kinds never is
+-- the number of a record as written; one of no kind never is (§6.8 §6.9)
 unfoldable pub numberOf : Record → ℕ
 numberOf Free = freeNumber
 numberOf System = systemNumber
 numberOf (File f s) = f * sequences + s
 numberOf Other = 0xFFFFFF
 
--- byte i of a record as written
+-- byte i of a record as written, high byte first (§6.8)
 unfoldable pub encode : Record → ℕ → ℕ
 encode r = highByte recordBytes (numberOf r)
 
--- the number of block b's record
+-- the number of block b's record (§6.8)
 unfoldable pub numberAt : Disk → ℕ → ℕ
 numberAt d b = bigEndian (λ (i : ℕ). d 0 (mapStart + recordBytes * b + i)) recordBytes
 
--- the record of block b
+-- the record of block b (§6.8)
 unfoldable pub recordAt : Disk → ℕ → Record
 recordAt d b = decode (numberAt d b)
 
 -- ---- what a record is asked
 
--- whether it is free
+-- whether a record is free (§6.9)
 unfoldable pub isFree : Record → Bool
 isFree Free = true
 isFree System = false
 isFree (File f s) = false
 isFree Other = false
 
--- whether it is system
+-- whether a record is the system's (§6.9)
 unfoldable pub isSystem : Record → Bool
 isSystem Free = false
 isSystem System = true
 isSystem (File f s) = false
 isSystem Other = false
 
--- whether it is of none of the kinds
+-- whether a record is of no kind (§6.9)
 unfoldable pub isOther : Record → Bool
 isOther Free = false
 isOther System = false
 isOther (File f s) = false
 isOther Other = true
 
--- whether it bears file f
+-- whether a record bears the number of file f (§6.8)
 unfoldable pub bears : ℕ → Record → Bool
 bears f Free = false
 bears f System = false
 bears f (File g s) = eqb g f
 bears f Other = false
 
--- whether it is sequence s of file f
+-- whether a record is sequence s of file f (§6.10)
 unfoldable pub isPart : ℕ → ℕ → Record → Bool
 isPart f s Free = false
 isPart f s System = false
 isPart f s (File g t) = eqb g f && eqb t s
 isPart f s Other = false
 
--- whether, if it bears file f, its sequence is below n
+-- whether a record, if it bears the number of file f, has a sequence below n (§7.20)
 unfoldable pub within : ℕ → ℕ → Record → Bool
 within f n Free = true
 within f n System = true
@@ -101,18 +101,18 @@ within f n Other = true
 
 -- ---- the whole map
 
--- whether block b's record is free
+-- whether block b's record is free (§6.4)
 unfoldable pub freeAt : Disk → ℕ → Bool
 freeAt d b = isFree (recordAt d b)
 
--- the free records
+-- how many records of the map are free (§6.4)
 unfoldable pub freeCount : Disk → ℕ
 freeCount d = count blocks (freeAt d)
 
--- the block that is sequence s of file f, the lowest if there are several
+-- the block whose record is sequence s of file f, the lowest if there are several (§6.10)
 unfoldable pub partBlock : Disk → ℕ → ℕ → ℕ
 partBlock d f s = lowest (λ (b : ℕ). isPart f s (recordAt d b)) blocks
 
--- byte i of file f, by sequence
+-- byte i of file f, by the sequence of its blocks (§6.10)
 unfoldable pub fileByte : Disk → ℕ → ℕ → ℕ
 fileByte d f i = d (partBlock d f (i / blockBytes)) (i % blockBytes)

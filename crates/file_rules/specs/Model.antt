@@ -1,6 +1,6 @@
--- The model: document 01's book ("The book of demand 3"). It is fed with the arguments of the format and of the calls, never with an image.
+-- The model (docs/RULES.md, section 9). It is given the arguments of the format and of the calls, and never an image.
 -- It shares with the calls the sizes, what an Outcome is, and the layout: header, entry, record and file bytes (diskHeaderByte, entryFor, entryByte,
--- diskWith, storedByte, part), isFree of a record, blocksFor as 01's count of blocks, and equality of names. The decisions are its own.
+-- diskWith, storedByte, part), isFree of a record, blocksFor as the number of blocks of a file (§6.17), and equality of names. The decisions are its own.
 -- Assumes nothing: these are definitions.
 use mathlib.Core.Bool.{Bool, false, not, cond, _&&_}
 use mathlib.Core.List.{List, [], _∷_, _++_}
@@ -26,24 +26,24 @@ use Rattle.file_rules.specs.Map.{isFree}
 use Rattle.file_rules.specs.Sizes.{slotBytes, blockSlots}
 use Rattle.file_rules.specs.Written.{diskHeaderByte, diskWith, storedByte, part, blocksFor}
 
--- ---- slots: 01's lines of the book
+-- ---- slots
 
--- a file as it is given to add
+-- a file as it is given to add: name, date and data (§9.2)
 pub record NamedFile : Type 0 where
   pub name : List ℕ
   pub date : ℕ
   pub content : List ℕ
 
--- what a slot holds: a file, or none
+-- what a slot holds: a file, or none (§9.2)
 abbrev pub HeldFile : Type 0
 HeldFile = Option NamedFile
 
--- a filled slot: a file and its blocks, in sequence
+-- a filled slot: a file and its blocks, in sequence (§9.2)
 pub record FilledSlot : Type 0 where
   pub file : NamedFile
   pub taken : List ℕ
 
--- the model's state
+-- the model's state (§9.2)
 pub record Model : Type 0 where
   -- given at format
   pub arguments : FormatArguments
@@ -56,62 +56,64 @@ pub record Model : Type 0 where
   -- the directory's blocks, in sequence
   pub dir : List ℕ
 
--- a slot's file, and its blocks
+-- the file of a slot (§9.2)
 unfoldable pub fileOf : Option FilledSlot → HeldFile
 fileOf none = none
 fileOf (some h) = some (h .file)
 
+-- the blocks of the file of a slot (§9.2)
 unfoldable pub takenBy : Option FilledSlot → List ℕ
 takenBy none = []
 takenBy (some h) = h .taken
 
--- the entry that add writes for a file
+-- the entry that add writes for a file (§6.13)
 abbrev pub entryFrom : NamedFile → Entry
 entryFrom x = entryFor (x .name) (x .date) (length (x .content))
 
--- ---- the sizes of demand 3
+-- ---- blocks of files and of the directory, and the free word
 
--- the blocks of a slot's file: (64 + length of data) / 1536, rounded up
+-- how many blocks the file of a slot takes: (64 + length of data) / 1,536, rounded up (§9.7)
 unfoldable pub heldBlocks : HeldFile → ℕ
 heldBlocks none = 0
 heldBlocks (some x) = blocksFor (length (x .content))
 
--- how many files are present
+-- how many files are present (§9.6)
 unfoldable pub presentIn : Model → ℕ
 presentIn m = count (suc (m .peak)) (λ (k : ℕ). isSome (fileOf (m .slots k)))
 
--- S: the blocks of all files present
+-- S: the blocks of all files present (§9.7)
 unfoldable pub blocksPresent : Model → ℕ
 blocksPresent m = sum (suc (m .peak)) (λ (k : ℕ). heldBlocks (fileOf (m .slots k)))
 
--- D: 1 + P / 24, rounded down
+-- D: 1 + P / 24, rounded down (§9.7)
 unfoldable pub dirBlocks : ℕ → ℕ
 dirBlocks peak = suc (peak / blockSlots)
 
--- blocks that the directory and files can have: all but the header's
+-- blocks that directory and files can have: all but block 0 (§9.7)
 abbrev pub usable : ℕ
 usable = blocks - 1
 
--- the free word: 3 x (479 - D - S)
+-- the free word: 3 x (479 - D - S) (§9.7)
 unfoldable pub freeWord : ℕ → ℕ → ℕ
 freeWord peak taken = blockSectors * (usable - (dirBlocks peak + taken))
 
 -- ---- the model's image
 
--- byte i of a slot, and of its file with the entry in front
+-- byte i of a slot: its entry, or zero (§9.5)
 unfoldable pub slotOf : HeldFile → ℕ → ℕ
 slotOf none i = 0
 slotOf (some x) i = entryByte (entryFrom x) i
 
+-- byte i of the file of a slot: its entry and its data (§9.5)
 unfoldable pub heldBytes : HeldFile → ℕ → ℕ
 heldBytes none i = 0
 heldBytes (some x) i = storedByte (entryFrom x) (x .content) i
 
--- byte o of block s of the directory: entries in their slots
+-- byte o of block s of the directory: entries in their slots (§9.5)
 unfoldable pub dirByte : (ℕ → HeldFile) → ℕ → ℕ → ℕ
 dirByte entries s o = slotOf (entries (s * blockSlots + o / slotBytes)) (o % slotBytes)
 
--- byte o of a block with this record, where the directory has these entries and the files are these
+-- byte o of a block with this record, where the directory has these entries and the files are these (§9.5)
 unfoldable pub content : (ℕ → HeldFile) → (ℕ → HeldFile) → Record → ℕ → ℕ
 content entries files Free o = 0
 content entries files System o = 0
@@ -119,30 +121,30 @@ content entries files Other o = 0
 content entries files (File zero s) o = dirByte entries s o
 content entries files (File (suc f) s) o = part (heldBytes (files (suc f))) s o
 
--- where b stands in a list of blocks
+-- the place of b in a list of blocks, counted from i, if it is there (§9.5)
 unfoldable pub position : ℕ → ℕ → List ℕ → Option ℕ
 position b i [] = none
 position b i (x ∷ xs) = cond (eqb x b) (some i) (position b (suc i) xs)
 
--- file k with that sequence, or the other record
+-- the record of file k with this sequence, or the other record where there is none (§9.5)
 unfoldable pub orRecord : ℕ → Option ℕ → Record → Record
 orRecord k none r = r
 orRecord k (some s) r = File k s
 
--- the record of block b by the slots below n: the slot that has it, and its place there
+-- the record of block b by the slots below n: the slot that has it, and its place there (§9.5)
 unfoldable pub slotRecord : (ℕ → Option FilledSlot) → ℕ → ℕ → Record
 slotRecord slots zero b = Free
 slotRecord slots (suc k) b = orRecord k (position b 0 (takenBy (slots k))) (slotRecord slots k b)
 
--- the record of block b: block 0 is system, the directory is file 0
+-- the record of block b: that of block 0 is the system's, the directory's have file 0 (§9.5)
 unfoldable pub modelRecord : (ℕ → Option FilledSlot) → List ℕ → ℕ → ℕ → Record
 modelRecord slots dir peak b = cond (eqb b 0) System (orRecord 0 (position b 0 dir) (slotRecord slots (suc peak) b))
 
--- the header, with the free word by demand 3
+-- byte o of the header, with the free word by the files present (§9.5)
 unfoldable pub modelHeader : Model → ℕ → ℕ
 modelHeader m = diskHeaderByte (m .arguments) (m .updates) (freeWord (m .peak) (blocksPresent m)) (suc (m .peak))
 
--- the formatted disk with map and header, entries in their slots, files in their blocks
+-- the disk of the model's image: header and map, entries in their slots, files in their blocks (§9.5)
 unfoldable pub modelDisk : Model → Disk
 modelDisk m =
     diskWith (modelHeader m) (modelRecord (m .slots) (m .dir) (m .peak))
@@ -150,17 +152,17 @@ modelDisk m =
 
 -- ---- format
 
--- no file, and block 1 for the directory
+-- the model after a format: no file, and block 1 for the directory (§9.2)
 unfoldable pub modelFormat : FormatArguments → Model
 modelFormat args = record { arguments = args; updates = 0; peak = 0; slots = λ (k : ℕ). none; dir = 1 ∷ [] }
 
 -- ---- names and result buffers
 
--- whether a name has 1 to 36 bytes; written out, as the model's own rule
+-- whether a name has 1 to 36 bytes; written out, as a decision of the model's own (§6.15)
 unfoldable pub acceptable : List ℕ → Bool
 acceptable name = leb 1 (length name) && leb (length name) 36
 
--- the count of the bytes, and the buffer with them first and the rest as it was; or 16 with the count, and the buffer as it was
+-- the number of bytes, and the buffer with them first and the rest as it was; or 16 with that number, and the buffer as it was (§8.8 §9.3)
 unfoldable pub resultOf : List ℕ → List ℕ → Outcome
 resultOf bytes buf =
     cond (leb (length bytes) (length buf))
@@ -169,41 +171,41 @@ resultOf bytes buf =
 
 -- ---- which slot
 
--- whether a slot has the file of that name
+-- whether a slot has the file of that name (§9.3)
 unfoldable pub hasName : List ℕ → HeldFile → Bool
 hasName name none = false
 hasName name (some x) = nameEq (x .name) name
 
--- the slot with the file of that name, or the first past the peak
+-- the slot with the file of that name, or the first past the peak (§9.3)
 unfoldable pub slotNamed : Model → List ℕ → ℕ
 slotNamed m name = lowest (λ (k : ℕ). hasName name (fileOf (m .slots k))) (suc (m .peak))
 
--- the lowest empty slot from 1 on
+-- the lowest empty slot from 1 on, or the first past the peak (§8.9 §9.4)
 unfoldable pub slotVacant : Model → ℕ
 slotVacant m = lowest (λ (k : ℕ). ltb 0 k && not (isSome (fileOf (m .slots k)))) (suc (m .peak))
 
 -- ---- list and read
 
--- the 64 bytes of its entry
+-- the 64 bytes of the entry of a slot with a file (§9.3)
 unfoldable pub heldEntry : HeldFile → List ℕ
 heldEntry none = []
 heldEntry (some x) = tab (entryByte (entryFrom x)) slotBytes
 
--- the entries of the filled slots below n, in order
+-- the entries of the filled slots below n, in order (§9.3)
 unfoldable pub heldEntries : (ℕ → HeldFile) → ℕ → List ℕ
 heldEntries slots zero = []
 heldEntries slots (suc n) = heldEntries slots n ++ heldEntry (slots n)
 
--- 16 or the entries
+-- the call list in the model: 16, or the entries (§9.3)
 unfoldable pub modelList : Model → List ℕ → Outcome
 modelList m buf = resultOf (heldEntries (λ (k : ℕ). fileOf (m .slots k)) (suc (m .peak))) buf
 
--- its data
+-- the data of the file of a slot (§9.3)
 unfoldable pub heldData : HeldFile → List ℕ
 heldData none = []
 heldData (some x) = x .content
 
--- 12, 14, 16 or the slot's data
+-- the call read in the model: 12, 14, 16, or the data (§9.3)
 unfoldable pub modelRead : Model → List ℕ → List ℕ → Outcome
 modelRead m name buf =
     cond (acceptable name)
@@ -213,29 +215,29 @@ modelRead m name buf =
 
 -- ---- add and remove
 
--- counts wrap at 32 bits
+-- a number of 32 bits: 0 follows 2^32 - 1 (§6.3)
 unfoldable pub wrap : ℕ → ℕ
 wrap n = n % 4294967296
 
--- the peak once a file more is present
+-- the peak once a file more is present (§9.6)
 unfoldable pub peakThen : Model → ℕ
 peakThen m = max (m .peak) (suc (presentIn m))
 
--- whether demand 3's word, this file counted, stays at zero or above
+-- whether directory and files, with this file counted, take no more than the usable blocks (§9.7)
 unfoldable pub fits : Model → NamedFile → Bool
 fits m x = leb (dirBlocks (peakThen m) + (blocksPresent m + blocksFor (length (x .content)))) usable
 
--- whether no slot and not the directory has block b
+-- whether no slot and not the directory has block b (§8.11 §9.4)
 unfoldable pub freeIn : (ℕ → Option FilledSlot) → List ℕ → ℕ → ℕ → Bool
 freeIn slots dir peak b = isFree (modelRecord slots dir peak b)
 
--- the directory's blocks once a file more is present: a new one is the lowest free
+-- the directory's blocks once a file more is present: a new one is the lowest free (§8.10 §9.4)
 unfoldable pub dirThen : Model → List ℕ
 dirThen m =
     cond (ltb (dirBlocks (m .peak)) (dirBlocks (peakThen m)))
     (m .dir ++ firsts blocks 1 (freeIn (m .slots) (m .dir) (m .peak))) (m .dir)
 
--- slot k is filled; the file's blocks are the lowest free, in sequence
+-- the model with the file x in slot k; its blocks are the lowest free, in sequence (§8.11 §9.4)
 unfoldable pub fill : Model → ℕ → NamedFile → Model
 fill m k x =
     record {
@@ -248,7 +250,7 @@ fill m k x =
       dir = dirThen m;
     }
 
--- slot k is emptied; the directory keeps its blocks
+-- the model with slot k empty; the directory keeps its blocks (§9.4)
 unfoldable pub clear : Model → ℕ → Model
 clear m k =
     record {
@@ -259,12 +261,12 @@ clear m k =
       dir = m .dir;
     }
 
--- a reply, and the model after it
+-- what a call that writes leaves: its reply and the model (§9.4)
 pub record ModelChanged : Type 0 where
   pub answer : Reply
   pub modelAfter : Model
 
--- 12, 13 with the slot, 15 or done
+-- the call add in the model: 12, 13 with the slot, 15, or done (§9.4)
 unfoldable pub modelAdd : Model → NamedFile → ModelChanged
 modelAdd m x =
     cond (acceptable (x .name))
@@ -272,7 +274,7 @@ modelAdd m x =
     (cond (fits m x) (record { answer = done; modelAfter = fill m (slotVacant m) x }) (record { answer = refusal 15; modelAfter = m })))
     (record { answer = refusal 12; modelAfter = m })
 
--- 12, 14 or done
+-- the call remove in the model: 12, 14, or done (§9.4)
 unfoldable pub modelRemove : Model → List ℕ → ModelChanged
 modelRemove m name =
     cond (acceptable name)

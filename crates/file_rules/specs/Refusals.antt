@@ -12,11 +12,11 @@ use Rattle.sector_rules.specs.Unpacked.{unpackReply, unpackImage}
 use Rattle.file_rules.specs.Arguments.{FormatArguments}
 use Rattle.file_rules.specs.Calls.{format, list, read, add, remove}
 
--- every number but 0 is a refusal
+-- every number but 0 is a refusal (§7.17)
 abbrev pub Refuses : Reply → Type 0
 Refuses r = r .number ≢ 0
 
--- lists of any length and any numbers: nothing is asked of a lent image, buffer, name or file
+-- refusals-keep, for lists of any length and any numbers: nothing is asked of a lent image, buffer, name or file (§7.19)
 pub record RefusalsKeep : Type 0 where
   pub unpack-keeps : (hfe image : List ℕ) → Refuses (unpackReply hfe (length image)) → unpackImage hfe image ≡ image
   pub pack-keeps : (image hfe : List ℕ) → Refuses (packReply (length image) (length hfe)) → packHfe image hfe ≡ hfe

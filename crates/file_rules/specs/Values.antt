@@ -1,5 +1,5 @@
--- values-to-check: the values that document 01, "Values to check", has proved together, as one statement of the definitions.
--- The table of placements is the sector layer's. record-values: the kinds of map record by their bytes.
+-- values-to-check: the placements of the table of docs/RULES.md, §1.5, which is the sector layer's, and the record that §6.8 has as its example.
+-- record-values: the kinds of map record by their bytes (§6.9).
 -- Assumes nothing.
 use mathlib.Core.Path.{_≡_, refl}
 use mathlib.Core.List.{[], _∷_}
@@ -10,7 +10,7 @@ use Rattle.file_rules.specs.declared.Record.the-variants.{Free, System, 
 use Rattle.file_rules.specs.Map.{decode, numberOf, encode}
 use Rattle.file_rules.specs.Sizes.{recordBytes}
 
--- every row's image sector is the definition's, and the record reads as the paper says
+-- values-to-check: the definition gives the image sector of each row, and the record is that of file 2A5, sequence 013 (hex)
 pub values-to-check : (definedSectors placements ≡ tableSectors placements) × (decode (highFirst (0x2A ∷ 0x50 ∷ 0x13 ∷ []) 0 recordBytes) ≡ File 0x2A5 0x013)
 unfolding decode highFirst bigEndian elementAt
 values-to-check = (placement-values, refl)

@@ -1,4 +1,4 @@
--- What is written: the header, whole disks, files, and the single steps of add and remove. Document 01, "Header, map, directory".
+-- What is written: the header, whole disks, files, and the single steps of add and remove (docs/RULES.md, sections 6 and 8).
 -- Assumes nothing: these are definitions.
 use mathlib.Core.Bool.{cond, _&&_}
 use mathlib.Core.List.{List, [], _∷_}
@@ -20,7 +20,8 @@ use Rattle.file_rules.specs.Check.{diskSignature}
 
 -- ---- the header
 
--- byte o of the header but for update count, free word and directory length: the disk's name padded with spaces, its number, and what is fixed
+-- byte o of the header but for update count, free word and length of the directory: the disk's name filled with spaces, its number, and what is fixed
+-- (§6.1 §6.2 §6.5 §6.7)
 unfoldable pub fixedByte : FormatArguments → ℕ → ℕ
 fixedByte args =
     let f₀ : ℕ → ℕ = patch (λ (o : ℕ). 0xFF) 0 4 (λ (i : ℕ). getD diskSignature i 0) in
@@ -31,7 +32,7 @@ fixedByte args =
     let f₅ : ℕ → ℕ = patch f₄ 38 2 (highByte 2 trackOffset) in
     patch (patch f₅ 40 trackSectors (λ (i : ℕ). getD sidePlace i 0)) 58 trackSectors (λ (i : ℕ). getD backward i 0)
 
--- byte o of the header, with the directory's end in slots
+-- byte o of the header, with this update count, free word and end of the directory in slots (§6.3 §6.4 §6.6)
 unfoldable pub diskHeaderByte : FormatArguments → ℕ → ℕ → ℕ → ℕ → ℕ
 diskHeaderByte args updates word end =
     patch (patch (patch (patch (fixedByte args)
@@ -42,7 +43,7 @@ diskHeaderByte args updates word end =
 
 -- ---- a whole disk
 
--- the disk with this header, these records, and in each block what its record says
+-- the disk with this header, these records, and in each block what its record says (§8.4 §9.5)
 unfoldable pub diskWith : (ℕ → ℕ) → (ℕ → Record) → (Record → ℕ → ℕ) → Disk
 diskWith header owner content b o =
     cond (ltb b blocks && ltb o blockBytes)
@@ -53,64 +54,64 @@ diskWith header owner content b o =
 
 -- ---- a file's bytes
 
--- its entry, its data, and then zeros
+-- byte i of a file as written: its entry, its data, and then zeros (§6.16)
 unfoldable pub storedByte : Entry → List ℕ → ℕ → ℕ
 storedByte e content i = cond (ltb i slotBytes) (entryByte e i) (getD content (i - slotBytes) 0)
 
--- block s of a row of bytes
+-- byte o of block s of a row of bytes (§6.16)
 unfoldable pub part : (ℕ → ℕ) → ℕ → ℕ → ℕ
 part c s o = cond (ltb o blockBytes) (c (s * blockBytes + o)) 0
 
--- the blocks of a file with so many bytes of data
+-- the blocks of a file with so many bytes of data (§6.17)
 unfoldable pub blocksFor : ℕ → ℕ
 blocksFor size = blocksOf (slotBytes + size)
 
--- zero bytes
+-- a row of zero bytes (§8.13)
 unfoldable pub zeros : ℕ → ℕ
 zeros o = 0
 
 -- ---- single steps
 
--- block b has the bytes f
+-- the disk, with the bytes f in block b (§8.12)
 unfoldable pub setBlock : Disk → ℕ → (ℕ → ℕ) → Disk
 setBlock d b f = upd d b f
 
--- block b's record is r
+-- the disk, with r as the record of block b (§8.12)
 unfoldable pub setRecord : Disk → ℕ → Record → Disk
 setRecord d b r = upd d 0 (patch (d 0) (mapStart + recordBytes * b) recordBytes (encode r))
 
--- slot k has the 64 bytes e
+-- the disk, with the 64 bytes e in slot k (§8.12)
 unfoldable pub setSlot : Disk → ℕ → (ℕ → ℕ) → Disk
 setSlot d k e =
     upd d (partBlock d 0 (k / blockSlots))
     (patch (d (partBlock d 0 (k / blockSlots))) (k % blockSlots * slotBytes) slotBytes e)
 
--- the two bytes at o of the header have the number v
+-- the disk, with the number v in the two bytes at o of the header (§8.12)
 unfoldable pub setWord : Disk → ℕ → ℕ → Disk
 setWord d o v = upd d 0 (patch (d 0) o 2 (highByte 2 v))
 
--- the free word becomes 3 x the free records
+-- the disk, with 3 x its free records as the free word (§6.4)
 unfoldable pub setFree : Disk → Disk
 setFree d = setWord d 20 (freeSectors (freeCount d))
 
--- the directory's length becomes k slots
+-- the disk, with a directory that has the length of k slots (§6.6)
 unfoldable pub setEnd : Disk → ℕ → Disk
 setEnd d k = setWord (setWord d 34 (wholeBlocks k)) 36 (bytesOver k)
 
--- the update count grows by 1, wrapping at 32 bits
+-- the disk, with an update count that is one more; 0 follows 2^32 - 1 (§6.3)
 unfoldable pub stepUpdate : Disk → Disk
 stepUpdate d = upd d 0 (patch (d 0) 16 4 (highByte 4 (at32 (d 0) 16 + 1)))
 
--- the blocks are given to file f, from sequence s on, with the bytes c of the file
+-- the disk, with these blocks given to file f, from sequence s on, and in them the bytes c of the file (§8.11)
 unfoldable pub giveBlocks : Disk → ℕ → (ℕ → ℕ) → ℕ → List ℕ → Disk
 giveBlocks d f c s [] = d
 giveBlocks d f c s (b ∷ bs) = giveBlocks (setRecord (setBlock d b (part c s)) b (File f s)) f c (suc s) bs
 
--- block b is zeroed and its record freed if it bears file f
+-- the disk, with block b filled with zeros and its record free if it bears the number of file f (§8.13)
 unfoldable pub freeBlock : Disk → ℕ → ℕ → Disk
 freeBlock d f b = cond (bears f (recordAt d b)) (setRecord (setBlock d b zeros) b Free) d
 
--- so for the blocks below n
+-- the disk, with this done for the blocks below n (§8.13)
 unfoldable pub freeBlocks : ℕ → Disk → ℕ → Disk
 freeBlocks zero d f = d
 freeBlocks (suc n) d f = freeBlock (freeBlocks n d f) f n
