@@ -1,5 +1,5 @@
--- Laws of the disk in block order: an image and its disk determine each other, and a byte written in the one is written in the other.
--- Assumes nothing.
+-- The disk in block order (§1.3): an image and its disk determine each other, and a byte written in the one is written in the other.
+-- Rests on placement being one to one (sector_rules, Laws.Base.Geometry).
 use mathlib.Core.Path.{_≡_, sym, ap, ap₂, _∙_, fun-ext}
 use mathlib.Core.Logic.{_≢_}
 use mathlib.Core.List.{List}
@@ -28,6 +28,7 @@ module _ (b o : ℕ) (hb : b < blocks) (ho : o < blockBytes) where
   run-lt : run < allSectors
   run-lt = omega arith
 
+  -- the place of a block's byte is within the image
   pub image-place-lt : imagePlace b o < imageBytes
   unfolding imagePlace
   image-place-lt = omega (arith, image-lt run run-lt)
@@ -38,6 +39,7 @@ module _ (b o : ℕ) (hb : b < blocks) (ho : o < blockBytes) where
       let e : (imageSector run * sectorBytes + o % sectorBytes) / sectorBytes ≡ imageSector run = omega arith in
       ap runningSector e ∙ running-image run run-lt
 
+  -- the image byte at the place of a block's byte is that block's
   pub block-byte : blockOf (imagePlace b o) ≡ b
   unfolding blockOf
   block-byte = ap (λ (x : ℕ). x / blockSectors) byte-run ∙ omega arith
@@ -46,19 +48,23 @@ module _ (b o : ℕ) (hb : b < blocks) (ho : o < blockBytes) where
   unfolding imagePlace
   byte-low = omega arith
 
+  -- the image byte at the place of a block's byte has that byte's offset
   pub offset-byte : offsetOf (imagePlace b o) ≡ o
   unfolding offsetOf
   offset-byte = ap₂ (λ (x y : ℕ). x % blockSectors * sectorBytes + y) byte-run byte-low ∙ omega arith
 
 module _ (i : ℕ) (h : i < imageBytes) where
+  -- a byte of the image is in one of the 480 blocks
   pub block-lt : blockOf i < blocks
   unfolding blockOf
   block-lt = omega (arith, running-lt (i / sectorBytes) (omega arith))
 
+  -- a byte of the image has an offset within a block
   pub offset-lt : offsetOf i < blockBytes
   unfolding offsetOf
   offset-lt = omega arith
 
+  -- block and offset of an image byte give its place back
   pub byte-is : imagePlace (blockOf i) (offsetOf i) ≡ i
   unfolding imagePlace blockOf offsetOf
   byte-is =
@@ -69,11 +75,12 @@ module _ (i : ℕ) (h : i < imageBytes) where
       ∙ ap (λ (x : ℕ). x * sectorBytes + i % sectorBytes) (image-running (i / sectorBytes) (omega arith))
       ∙ omega arith
 
+-- the image of a disk has 737,280 bytes
 pub length-image : (d : Disk) → length (imageOf d) ≡ imageBytes
 unfolding imageOf
 length-image d = tab-length (λ (i : ℕ). d (blockOf i) (offsetOf i)) imageBytes
 
--- a disk with nothing outside its blocks is the disk of its image
+-- a disk that is zero outside its blocks is the disk of its image
 pub disk-image : (d : Disk) → ((b o : ℕ) → blocks ≤ b → d b o ≡ 0) → ((b o : ℕ) → blockBytes ≤ o → d b o ≡ 0) → diskOf (imageOf d) ≡ d
 unfolding diskOf imageOf
 disk-image d far out =
@@ -87,6 +94,7 @@ disk-image d far out =
     (λ k. cond-false _ _ (and-false-right (ltb b blocks) (lt-false k)) ∙ sym (out b o k)))
     (λ k. cond-false _ _ (and-false-left (ltb o blockBytes) (lt-false k)) ∙ sym (far b o k))))
 
+-- an image of the right length is the image of its disk
 pub image-disk : (l : List ℕ) → length l ≡ imageBytes → imageOf (diskOf l) ≡ l
 unfolding diskOf imageOf
 image-disk l e =
@@ -97,12 +105,14 @@ image-disk l e =
 
 -- ---- one byte written
 
+-- disks with the same bytes in all blocks have one image
 pub image-cong : (d d′ : Disk) → ((b o : ℕ) → b < blocks → o < blockBytes → d b o ≡ d′ b o) → imageOf d ≡ imageOf d′
 unfolding imageOf
 image-cong d d′ e =
     tab-ext (λ (i : ℕ). d (blockOf i) (offsetOf i)) (λ (i : ℕ). d′ (blockOf i) (offsetOf i)) imageBytes
     (λ i h. e (blockOf i) (offsetOf i) (block-lt i h) (offset-lt i h))
 
+-- a byte set in the image at the place of block and offset is that byte set on the disk
 pub image-set : (d : Disk) (b o v : ℕ) → b < blocks → o < blockBytes → set (imageOf d) (imagePlace b o) v ≡ imageOf (setByte d b o v)
 unfolding imageOf setByte
 image-set d b o v hb ho =

@@ -1,5 +1,5 @@
--- A call that judges a disk first, by its three cases: another length, a refusal by 8 to 11, and a sound disk.
--- Assumes nothing.
+-- A call that judges a disk first (§8.5), by its three cases: another length, a refusal by 8 to 11, and a sound disk.
+-- Rests on the definition of `onSound` alone.
 use mathlib.Core.Path.{_≡_, refl, sym, _∙_, subst}
 use mathlib.Core.Logic.{_≢_}
 use mathlib.Core.List.{List}
@@ -15,18 +15,18 @@ use Rattle.file_rules.specs.Check.{diskRefusal}
 use Rattle.file_rules.specs.Disk.{Disk, diskOf}
 
 module _ {A : Type 0} (image : List ℕ) (refuse : Reply → A) (act : Disk → A) where
-  -- another length is refused before anything is judged
+  -- an image of another length is refused before anything is judged
   pub sound-length : length image ≢ imageBytes → onSound image refuse act ≡ refuse wrongLength
   unfolding onSound imageRight
   sound-length h = cond-false _ _ (eq-false h)
 
   module _ (long : length image ≡ imageBytes) where
-    -- what 8 to 11 refuse is refused so
+    -- what 8 to 11 refuse is refused with their reply
     pub sound-refused : (r : Reply) → diskRefusal (diskOf image) ≡ some r → onSound image refuse act ≡ refuse r
     unfolding onSound imageRight unless
     sound-refused r e = cond-true _ _ (eq-true long) ∙ rw e
 
-    -- a sound disk is acted on
+    -- on a sound disk the call acts
     pub sound-passed : diskRefusal (diskOf image) ≡ none → onSound image refuse act ≡ act (diskOf image)
     unfolding onSound imageRight unless
     sound-passed e = cond-true _ _ (eq-true long) ∙ rw e

@@ -1,5 +1,5 @@
--- What a call that reads leaves in its result buffer is what the model says.
--- Assumes nothing.
+-- What list and read leave in the result buffer is what the model says (§8.8).
+-- Rests on the laws of written rows (laws, Overlay).
 use mathlib.Core.Path.{_≡_, sym, ap, _∙_}
 use mathlib.Core.List.{List, _++_}
 use Prim.Native.Nat.{ℕ, _+_, _-_, _≤_, _<_}
@@ -17,7 +17,7 @@ use Rattle.file_rules.specs.Calls.{bufferKept, deliver}
 use Rattle.file_rules.specs.Model.{resultOf}
 
 module _ (bytes buf : List ℕ) where
-  -- written from the beginning on: the bytes, then what stood behind them
+  -- written from the beginning on: the bytes, then what stood after them
   put-front : length bytes ≤ length buf → put buf 0 bytes ≡ bytes ++ drop (length bytes) buf
   unfolding put elementAt
   put-front h =
@@ -39,7 +39,7 @@ module _ (bytes buf : List ℕ) where
           ∙ getD-drop (length bytes) buf (k - length bytes) 0
           ∙ ap (λ (j : ℕ). getD buf j 0) (sym z)
 
-  -- the model's rule is that of the calls
+  -- reply and buffer of a result are those of the model
   pub result-is : deliver bytes buf ≡ resultOf bytes buf
   unfolding deliver resultOf bufferKept
   result-is =

@@ -1,5 +1,5 @@
 -- What is read of a disk that is given by its header, records and contents (`diskWith`), and which such disk the single steps leave.
--- Assumes nothing.
+-- Rests on the laws of numbers in bytes and of changed rows (laws, Numbers and Changes).
 use mathlib.Core.Path.{_≡_, refl, sym, ap, ap₂, _∙_, subst, fun-ext}
 use mathlib.Core.Logic.{_≢_}
 use mathlib.Core.Bool.{Bool, true, cond}
@@ -18,21 +18,21 @@ use Rattle.laws.specs.Laws.Numbers.{high-is}
 use Rattle.sector_rules.specs.Geometry.{blocks}
 use Rattle.file_rules.specs.declared.Record.{Record}
 use Rattle.file_rules.specs.declared.Record.the-variants.{Free, System, File, Other}
-use Rattle.file_rules.specs.Calls.{read}
 use Rattle.file_rules.specs.Disk.{Disk}
 use Rattle.file_rules.specs.Map.{fileBound, sequences, decode, numberOf, encode, numberAt, recordAt, isFree, bears, isPart, freeAt, freeCount, partBlock}
-use Rattle.file_rules.specs.Model.{content}
 use Rattle.file_rules.specs.Sizes.{blockBytes, mapStart, recordBytes}
 use Rattle.file_rules.specs.Written.{diskWith, part, zeros, setBlock, setRecord, freeBlock, freeBlocks}
 
 -- ---- a record's three bytes say the record
 
+-- a record that a step can write: of a kind, with file number and sequence that fit its 24 bits (§6.8, §6.9)
 abbrev pub Valid : Record → Type 0
 Valid Free = Unit {0}
 Valid System = Unit {0}
-Valid (File f s) = (f < 3968) × (s < 4096)
+Valid (File f s) = (f < fileBound / sequences) × (s < sequences)
 Valid Other = ⊥
 
+-- a record's number says the record
 pub decode-number : (r : Record) → Valid r → decode (numberOf r) ≡ r
 unfolding decode numberOf
 decode-number Free v = refl
@@ -60,6 +60,7 @@ decode-bytes f r v e =
 
 -- ---- a disk by its places
 
+-- disk d has the header h, the records `owner` in its map and `content` of each record in its block, and is zero outside its blocks
 pub record With (d : Disk) (h : ℕ → ℕ) (owner : ℕ → Record) (content : Record → ℕ → ℕ) : Type 0 where
   pub head : (o : ℕ) → o < mapStart → d 0 o ≡ h o
   pub map : (b i : ℕ) → b < blocks → i < recordBytes → d 0 (mapStart + recordBytes * b + i) ≡ encode (owner b) i
@@ -75,6 +76,7 @@ module _ (h : ℕ → ℕ) (owner : ℕ → Record) (content : Record → ℕ �
   unfolding diskWith zeroPart
   zero-block o k = cond-true _ _ (and-true {a = ltb 0 blocks} refl (lt-true k))
 
+  -- the disk given by header, records and contents has them
   pub with-is : With (diskWith h owner content) h owner content
   unfolding diskWith zeroPart
   with-is =
@@ -91,7 +93,7 @@ module _ (h : ℕ → ℕ) (owner : ℕ → Record) (content : Record → ℕ �
         out = λ b o k. cond-false _ _ (and-false-right (ltb b blocks) (lt-false k));
       }
 
-  -- the places determine the disk
+  -- header, records and contents determine the disk
   pub with-only : (d : Disk) → With d h owner content → d ≡ diskWith h owner content
   with-only d p =
       fun-ext (λ (b : ℕ). fun-ext (λ (o : ℕ).
@@ -103,7 +105,8 @@ module _ (h : ℕ → ℕ) (owner : ℕ → Record) (content : Record → ℕ �
       (λ k.
       let e : mapStart + recordBytes * ((o - mapStart) / recordBytes) + (o - mapStart) % recordBytes ≡ o = omega arith in
       subst (λ (x : ℕ). d 0 x ≡ diskWith h owner content 0 x) e
-      (p .map ((o - mapStart) / recordBytes) ((o - mapStart) % recordBytes) (omega arith) (omega arith) ∙ sym (with-is .map ((o - mapStart) / recordBytes) ((o - mapStart) % recordBytes) (omega arith) (omega arith))))))
+      (p .map ((o - mapStart) / recordBytes) ((o - mapStart) % recordBytes) (omega arith) (omega arith)
+      ∙ sym (with-is .map ((o - mapStart) / recordBytes) ((o - mapStart) % recordBytes) (omega arith) (omega arith))))))
       (λ (z : b ≢ 0). p .block b o (omega arith) hb ho ∙ sym (with-is .block b o (omega arith) hb ho)))
       (λ (k : blockBytes ≤ o). p .out b o k ∙ sym (with-is .out b o k)))
       (λ (k : blocks ≤ b). p .far b o k ∙ sym (with-is .far b o k))))
@@ -111,19 +114,23 @@ module _ (h : ℕ → ℕ) (owner : ℕ → Record) (content : Record → ℕ �
 -- ---- what is read
 
 module _ (d : Disk) (h : ℕ → ℕ) (owner : ℕ → Record) (content : Record → ℕ → ℕ) (p : With d h owner content) where
+  -- the record that is read of a block is the one given
   pub record-is : (b : ℕ) → b < blocks → Valid (owner b) → recordAt d b ≡ owner b
   unfolding recordAt numberAt
   record-is b k v = decode-bytes (λ (i : ℕ). d 0 (mapStart + recordBytes * b + i)) (owner b) v (λ i l. p .map b i k l)
 
   module _ (v : (b : ℕ) → b < blocks → Valid (owner b)) where
+    -- a block is read as free if its record is the free one
     pub free-is : (b : ℕ) → b < blocks → freeAt d b ≡ isFree (owner b)
     unfolding freeAt
     free-is b k = ap isFree (record-is b k (v b k))
 
+    -- as many blocks are free on the disk as have the free record
     pub freeCount-is : freeCount d ≡ count blocks (λ (b : ℕ). isFree (owner b))
     unfolding freeCount
     freeCount-is = count-cong blocks (freeAt d) (λ (b : ℕ). isFree (owner b)) free-is
 
+    -- the block of a file's part is the lowest whose record says so
     pub partBlock-is : (f s : ℕ) → partBlock d f s ≡ lowest (λ (b : ℕ). isPart f s (owner b)) blocks
     unfolding partBlock
     partBlock-is f s =
@@ -132,7 +139,7 @@ module _ (d : Disk) (h : ℕ → ℕ) (owner : ℕ → Record) (content : Record
 -- ---- what the steps leave
 
 module _ (d : Disk) (h : ℕ → ℕ) (owner : ℕ → Record) (content : Record → ℕ → ℕ) (p : With d h owner content) where
-  -- a block is written and given to r
+  -- a block that is written and given a record has that record and its content
   pub give-block : (b : ℕ) (r : Record) (g : ℕ → ℕ) → 0 < b → b < blocks → ((o : ℕ) → o < blockBytes → g o ≡ content r o) → ((o : ℕ) → blockBytes ≤ o → g o ≡ 0)
       → With (setRecord (setBlock d b g) b r) h (upd owner b r) content
   unfolding setRecord setBlock
@@ -166,7 +173,7 @@ module _ (d : Disk) (h : ℕ → ℕ) (owner : ℕ → Record) (content : Record
             ∙ by-equal b′ b (λ q. upd₂-same d b g b′ o q ∙ outside o k) (λ q. upd₂-other d b g b′ o q ∙ p .out b′ o k));
       }
 
-  -- n bytes of the header are written
+  -- n bytes written in the header change the header alone
   pub write-head : (o n : ℕ) (g : ℕ → ℕ) → o + n ≤ mapStart → With (upd d 0 (patch (d 0) o n g)) (patch h o n g) owner content
   write-head o n g f =
       let F : ℕ → ℕ = patch (d 0) o n g in
@@ -177,7 +184,9 @@ module _ (d : Disk) (h : ℕ → ℕ) (owner : ℕ → Record) (content : Record
             (λ a b. patch-in (d 0) o n g i a b ∙ sym (patch-in h o n g i a b))
             (λ a. patch-below (d 0) o n g i a ∙ p .head i k ∙ sym (patch-below h o n g i a))
             (λ a. patch-above (d 0) o n g i a ∙ p .head i k ∙ sym (patch-above h o n g i a));
-        map = λ b i k l. upd₂-same d 0 F 0 (mapStart + recordBytes * b + i) refl ∙ patch-above (d 0) o n g (mapStart + recordBytes * b + i) (omega arith) ∙ p .map b i k l;
+        map = λ b i k l.
+            upd₂-same d 0 F 0 (mapStart + recordBytes * b + i) refl
+            ∙ patch-above (d 0) o n g (mapStart + recordBytes * b + i) (omega arith) ∙ p .map b i k l;
         block = λ b i j k l. upd₂-other d 0 F b i (omega arith) ∙ p .block b i j k l;
         far = λ b i k. upd₂-other d 0 F b i (omega arith) ∙ p .far b i k;
         out = λ b i k.
@@ -185,7 +194,7 @@ module _ (d : Disk) (h : ℕ → ℕ) (owner : ℕ → Record) (content : Record
             (λ e. upd₂-other d 0 F b i e ∙ p .out b i k);
       }
 
-  -- block b₀ is written, and what the others say stays
+  -- a block that is written has the new content, if all other contents stay
   pub write-block : (content′ : Record → ℕ → ℕ) (b₀ : ℕ) (g : ℕ → ℕ) → 0 < b₀ → b₀ < blocks
       → ((o : ℕ) → o < blockBytes → g o ≡ content′ (owner b₀) o) → ((o : ℕ) → blockBytes ≤ o → g o ≡ 0)
       → ((b o : ℕ) → b ≢ b₀ → b < blocks → o < blockBytes → content (owner b) o ≡ content′ (owner b) o)
@@ -201,7 +210,7 @@ module _ (d : Disk) (h : ℕ → ℕ) (owner : ℕ → Record) (content : Record
         out = λ b i k. by-equal b b₀ (λ e. upd₂-same d b₀ g b i e ∙ outside i k) (λ e. upd₂-other d b₀ g b i e ∙ p .out b i k);
       }
 
-  -- the same disk, said otherwise
+  -- header, records and contents that agree wherever the disk has them describe the same disk
   pub with-same : (h′ : ℕ → ℕ) (owner′ : ℕ → Record) (content′ : Record → ℕ → ℕ)
       → ((o : ℕ) → o < mapStart → h o ≡ h′ o) → ((b : ℕ) → b < blocks → owner b ≡ owner′ b)
       → ((b o : ℕ) → 0 < b → b < blocks → o < blockBytes → content (owner b) o ≡ content′ (owner b) o) → With d h′ owner′ content′
@@ -214,29 +223,34 @@ module _ (d : Disk) (h : ℕ → ℕ) (owner : ℕ → Record) (content : Record
         out = p .out;
       }
 
--- file f's record becomes free
+-- the record after file f is removed: free, if it was the file's
 unfoldable pub unowned : ℕ → Record → Record
 unowned f r = cond (bears f r) Free r
 
 -- ---- the blocks of a file are freed
 
+-- past the end of a block a part has no bytes
 pub part-out : (c : ℕ → ℕ) (s o : ℕ) → blockBytes ≤ o → part c s o ≡ 0
 unfolding part
 part-out c s o h = cond-false _ _ (lt-false h)
 
+-- a record that bears a file is not the system's
 pub bears-not-system : (f : ℕ) (r : Record) → bears f r ≡ true → r ≡ System → ⊥
 unfolding bears
 bears-not-system f r t e = true≢false (bears f r) t (ap (bears f) e)
 
--- so below n
+-- the records after file f is removed from the blocks below n
 unfoldable pub unownedBelow : ℕ → ℕ → (ℕ → Record) → ℕ → Record
 unownedBelow n f owner b = cond (ltb b n) (unowned f (owner b)) (owner b)
 
 module _ (h : ℕ → ℕ) (owner : ℕ → Record) (content : Record → ℕ → ℕ) (f : ℕ)
     (valid : (b : ℕ) → b < blocks → Valid (owner b)) (first : owner 0 ≡ System) (blank : (o : ℕ) → content Free o ≡ 0) where
+  -- freeing file f's blocks below n leaves a disk whose records below n are freed
   pub free-below : (d : Disk) → With d h owner content → (n : ℕ) → n ≤ blocks → With (freeBlocks n d f) h (unownedBelow n f owner) content
   unfolding freeBlocks freeBlock unownedBelow unowned zeros
-  free-below d p zero k = with-same d h owner content p h (unownedBelow 0 f owner) content (λ o q. refl) (λ b q. sym (cond-false _ _ (lt-false {a = b} {b = 0} (omega arith)))) (λ b o i j l. refl)
+  free-below d p zero k =
+      with-same d h owner content p h (unownedBelow 0 f owner) content (λ o q. refl)
+      (λ b q. sym (cond-false _ _ (lt-false {a = b} {b = 0} (omega arith)))) (λ b o i j l. refl)
   free-below d p (suc n) k =
       let ow : ℕ → Record = unownedBelow n f owner in
       let ow′ : ℕ → Record = unownedBelow (suc n) f owner in
@@ -267,6 +281,7 @@ module _ (h : ℕ → ℕ) (owner : ℕ → Record) (content : Record → ℕ �
       (λ e. other b e))
       (λ b o i j l. refl)))
 
+  -- freeing all blocks of file f leaves a disk whose records of f are free
   pub free-all : (d : Disk) → With d h owner content → With (freeBlocks blocks d f) h (λ (b : ℕ). unowned f (owner b)) content
   unfolding unownedBelow
   free-all d p =

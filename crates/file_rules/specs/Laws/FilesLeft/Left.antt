@@ -1,5 +1,5 @@
--- Each call keeps the files that the accepted calls leave in the inner model's slots, and the peak is the greatest number of them.
--- Assumes nothing.
+-- Each call keeps the files that the accepted calls leave in the inner model's slots, and the peak is the greatest number of them (§9.6).
+-- Rests on filled slots (Present), on the invariant after each call (OnImages.Run) and on files counted (OnImages.Remove, Added).
 use mathlib.Core.Path.{_≡_, refl, sym, _∙_, subst}
 use mathlib.Core.Bool.{true, false, cond}
 use mathlib.Core.List.{List, [], _∷_}
@@ -18,7 +18,8 @@ use Rattle.file_rules.specs.Histories.{Call, accepted, without, leftBy, 
 use Rattle.file_rules.specs.Laws.OnImages.Slot.{k-none, room-fits}
 use Rattle.file_rules.specs.Laws.OnImages.Added.{present-add}
 use Rattle.file_rules.specs.Laws.InnerModel.Reads.{found-slot}
-use Rattle.file_rules.specs.Laws.InnerModel.Inner.{Inner, presentCount, innerFind, emptySlot, InnerChanged, innerRefused, innerRemoveAt, innerRemove, peakAfter, innerAddAt, roomFor, innerAdd, innerStep, innerOut, innerOuts, innerEnd}
+use Rattle.file_rules.specs.Laws.InnerModel.Inner.{Inner, presentCount, innerFind, emptySlot, InnerChanged, innerRefused, innerRemoveAt, innerRemove}
+use Rattle.file_rules.specs.Laws.InnerModel.Inner.{peakAfter, innerAddAt, roomFor, innerAdd, innerStep, innerOut, innerOuts, innerEnd}
 use Rattle.file_rules.specs.Laws.InnerModel.Invariant.{Inv}
 use Rattle.file_rules.specs.Laws.Base.Names.{name-bounds}
 use Rattle.file_rules.specs.Laws.FilesLeft.Present.{Fills, Once, fills-add, fills-remove, fills-count}
@@ -33,6 +34,7 @@ module _ (m : Inner) (v : Inv m) (fs : List NamedFile) (r : Fills (m .slots) fs)
       Fills (c .modelAfter .slots) (cond (accepted (bufferKept [] (c .answer))) gs fs)
       × (c .modelAfter .peak ≡ max (m .peak) (presentCount (c .modelAfter)))
 
+  -- as many files are present as the accepted calls leave
   pub count-is : presentCount m ≡ length fs
   unfolding presentCount
   count-is = fills-count fs (m .slots) (suc (m .peak)) (λ k h. v .slot-past k h) r
@@ -73,7 +75,8 @@ module _ (m : Inner) (v : Inv m) (fs : List NamedFile) (r : Fills (m .slots) fs)
         let e : innerRemove m name ≡ innerRefused m (refusal 12) = cond-false _ _ t in
         subst (Leaves (without name fs)) (sym e) (stays (without name fs) (refusal 12) refl))
       where
-        gone : (k : ℕ) → 0 < k → k ≤ m .peak → (x : NamedFile) → m .slots k ≡ some x → innerRemoveAt m k .peak ≡ max (m .peak) (presentCount (innerRemoveAt m k))
+        gone : (k : ℕ) → 0 < k → k ≤ m .peak → (x : NamedFile) → m .slots k ≡ some x
+            → innerRemoveAt m k .peak ≡ max (m .peak) (presentCount (innerRemoveAt m k))
         gone k p l x e = let same : innerRemoveAt m k .peak ≡ m .peak = unfold innerRemoveAt in refl in omega (arith, present-remove m v k p l x e)
 
     leaves-add : (x : NamedFile) → Leaves (x ∷ fs) (innerAdd m x)
@@ -105,7 +108,7 @@ module _ (m : Inner) (v : Inv m) (fs : List NamedFile) (r : Fills (m .slots) fs)
             let now : innerAddAt m (emptySlot m) x .peak ≡ max (m .peak) (suc (presentCount m)) = unfold innerAddAt peakAfter in refl in
             omega (arith, present-add m v x (name-bounds (x .name) t) h (room-fits m x s))
 
-    -- after any call
+    -- after a call the slots have the files that it leaves, and the peak is the higher of the old one and their number
     pub leaves : (c : Call) → Fills (innerStep m c .slots) (leftBy fs c (innerOut m c)) × (innerStep m c .peak ≡ max (m .peak) (presentCount (innerStep m c)))
     unfolding innerStep innerOut leftBy
     leaves (toAdd x) = leaves-add x
@@ -121,12 +124,14 @@ first-most fs [] os = omega arith
 first-most fs (c ∷ cs) [] = omega arith
 first-most fs (c ∷ cs) (o ∷ os) = omega arith
 
+-- after a history the slots have the files that its accepted calls leave, and the peak is the most present at once
 pub left-is : (cs : List Call) (m : Inner) (fs : List NamedFile) → Inv m → Fills (m .slots) fs → presentCount m ≤ m .peak
     → Fills (innerEnd m cs .slots) (filesLeft fs cs (innerOuts m cs)) × (innerEnd m cs .peak ≡ max (m .peak) (mostPresent fs cs (innerOuts m cs)))
 unfolding innerEnd innerOuts filesLeft mostPresent
 left-is [] m fs v r few = (r, omega (arith, count-is m v fs r))
 left-is (c ∷ cs) m fs v r few =
-    let w : Fills (innerStep m c .slots) (leftBy fs c (innerOut m c)) × (innerStep m c .peak ≡ max (m .peak) (presentCount (innerStep m c))) = leaves m v fs r few c in
+    let w : Fills (innerStep m c .slots) (leftBy fs c (innerOut m c)) × (innerStep m c .peak ≡ max (m .peak) (presentCount (innerStep m c))) =
+    leaves m v fs r few c in
     let v′ : Inv (innerStep m c) = step-inv m v c in
     let gs : List NamedFile = leftBy fs c (innerOut m c) in
     let n : presentCount (innerStep m c) ≡ length gs = count-is (innerStep m c) v′ gs (w .0) in

@@ -1,5 +1,5 @@
 -- The files that the accepted calls leave are the filled slots, in some order.
--- Assumes nothing.
+-- Rests on the equality of names (Base.Names).
 use mathlib.Core.Path.{_≡_, refl, sym, ap, _∙_, subst, fun-ext}
 use mathlib.Core.Logic.{_≢_, ⊎-elim, inl, inr}
 use mathlib.Core.Bool.{true, false}
@@ -30,6 +30,7 @@ Fills slots (x ∷ xs) = (k : ℕ) × (slots k ≡ some x) × Fills (upd slots k
 abbrev pub Once : (ℕ → HeldFile) → Type 0
 Once slots = (i j : ℕ) (y z : NamedFile) → slots i ≡ some y → slots j ≡ some z → nameEq (y .name) (z .name) ≡ true → i ≡ j
 
+-- an empty slot has no file
 pub none-some : (x : NamedFile) → _≡_ {A = HeldFile} none (some x) → ⊥
 none-some x e = unfold isSome in true≢false (isSome {A = NamedFile} none) (ap isSome e) refl
 
@@ -39,6 +40,7 @@ some-some x y e = cc
 -- ---- a slot emptied
 
 module _ (slots : ℕ → HeldFile) (k : ℕ) where
+  -- a slot that still has a file after slot k is emptied is another and had it before
   pub left-slot : (i : ℕ) (y : NamedFile) → upd slots k none i ≡ some y → (i ≢ k) × (slots i ≡ some y)
   left-slot i y e =
       by-equal i k (λ q. absurd (none-some y (sym (upd-same slots k none i q) ∙ e))) (λ q. (q, sym (upd-other slots k none i q) ∙ e))
@@ -64,6 +66,7 @@ upd-swap slots j k =
 
 -- ---- a slot filled
 
+-- a file put into an empty slot is one more of the files
 pub fills-add : (slots : ℕ → HeldFile) (fs : List NamedFile) (k : ℕ) (x : NamedFile) → slots k ≡ none → Fills slots fs → Fills (upd slots k (some x)) (x ∷ fs)
 fills-add slots fs k x e r =
     (k, upd-same slots k (some x) k refl, subst (λ (l : ℕ → HeldFile). Fills l fs) (sym (upd-none slots k x e)) r)
@@ -76,6 +79,7 @@ same-slot slots o j k y x name e f n p =
 
 -- ---- the file of a slot taken away
 
+-- emptying the slot of a name leaves the files without that name
 pub fills-remove : (fs : List NamedFile) (slots : ℕ → HeldFile) → Once slots → (k : ℕ) (x : NamedFile) (name : List ℕ)
     → slots k ≡ some x → nameEq (x .name) name ≡ true → Fills slots fs → Fills (upd slots k none) (without name fs)
 unfolding without
@@ -96,6 +100,7 @@ fills-remove (y ∷ fs) slots o k x name e n r =
 
 -- ---- how many, and how much
 
+-- as many slots are filled as there are files
 pub fills-count : (fs : List NamedFile) (slots : ℕ → HeldFile) (n : ℕ) → ((k : ℕ) → n ≤ k → slots k ≡ none) → Fills slots fs
     → count n (λ (k : ℕ). isSome (slots k)) ≡ length fs
 unfolding isSome
@@ -109,6 +114,7 @@ fills-count (x ∷ fs) slots n past r =
     (ap isSome (upd-same slots k none k refl)) (λ j l q. ap isSome (sym (upd-other slots k none j q)))
     ∙ ap suc (fills-count fs (upd slots k none) n past′ (r .2))
 
+-- the filled slots have the blocks of the files
 pub fills-blocks : (fs : List NamedFile) (slots : ℕ → HeldFile) (n : ℕ) → ((k : ℕ) → n ≤ k → slots k ≡ none) → Fills slots fs
     → sum n (λ (k : ℕ). heldBlocks (slots k)) ≡ blocksOfFiles fs
 unfolding heldBlocks blocksOfFiles
@@ -131,6 +137,7 @@ fills-blocks (x ∷ fs) slots n past r =
 
 -- ---- which
 
+-- the file of a slot is found among the files by its name
 pub fills-named : (fs : List NamedFile) (slots : ℕ → HeldFile) → Once slots → (k : ℕ) (x : NamedFile) (name : List ℕ)
     → slots k ≡ some x → nameEq (x .name) name ≡ true → Fills slots fs → fileNamed name fs ≡ some x
 unfolding fileNamed
@@ -146,6 +153,7 @@ fills-named (y ∷ fs) slots o k x name e n r =
     cond-false _ _ other
     ∙ fills-named fs (upd slots (r .0) none) (once-left slots (r .0) o) k x name (upd-other slots (r .0) none k (λ z. q (sym z)) ∙ e) n (r .2))
 
+-- a name that no slot has is that of no file
 pub fills-not-named : (fs : List NamedFile) (slots : ℕ → HeldFile) (name : List ℕ)
     → ((k : ℕ) (x : NamedFile) → slots k ≡ some x → nameEq (x .name) name ≡ false) → Fills slots fs → fileNamed name fs ≡ none
 unfolding fileNamed
@@ -154,6 +162,7 @@ fills-not-named (y ∷ fs) slots name h r =
     cond-false _ _ (h (r .0) y (r .1))
     ∙ fills-not-named fs (upd slots (r .0) none) name (λ k x e. h k x (left-slot slots (r .0) k x e .1)) (r .2)
 
+-- the file of a slot is one of the files
 pub fills-present : (fs : List NamedFile) (slots : ℕ → HeldFile) (k : ℕ) (x : NamedFile) → slots k ≡ some x → Fills slots fs → IsPresent x fs
 fills-present [] slots k x e r = none-some x (sym (r k) ∙ e)
 fills-present (y ∷ fs) slots k x e r =
@@ -161,6 +170,7 @@ fills-present (y ∷ fs) slots k x e r =
     (λ q. inl (some-some x y (sym e ∙ ap slots (sym q) ∙ r .1)))
     (λ q. inr (fills-present fs (upd slots (r .0) none) k x (upd-other slots (r .0) none k (λ z. q (sym z)) ∙ e) (r .2)))
 
+-- each of the files is in a slot
 pub present-fills : (fs : List NamedFile) (slots : ℕ → HeldFile) (x : NamedFile) → IsPresent x fs → Fills slots fs → (k : ℕ) × (slots k ≡ some x)
 present-fills [] slots x p r = absurd p
 present-fills (y ∷ fs) slots x p r =

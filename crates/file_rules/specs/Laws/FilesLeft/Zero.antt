@@ -1,5 +1,5 @@
--- A byte of the inner model's disk that belongs to nothing present is zero.
--- Assumes nothing.
+-- A byte of the inner model's disk that belongs to nothing present is zero (§9.8).
+-- Rests on filled slots (Present) and on what is read of the disk (InnerModel.Reads).
 use mathlib.Core.Path.{_≡_, refl, sym, ap, _∙_, subst}
 use mathlib.Core.List.{List}
 use mathlib.Core.Option.{none, some}
@@ -42,7 +42,8 @@ module _ (m : Inner) (b o : ℕ) (pos : 0 < b) (hb : b < blocks) (ho : o < block
   vacant-zero s e z = byte-at (File 0 s) e ∙ ap (λ (l : HeldFile). slotOf l (o % slotBytes)) z
 
   -- after a file's end
-  tail-zero : (f s : ℕ) (x : NamedFile) → m .owner b ≡ File (suc f) s → m .slots (suc f) ≡ some x → slotBytes + length (x .content) ≤ s * blockBytes + o → render m b o ≡ 0
+  tail-zero : (f s : ℕ) (x : NamedFile) → m .owner b ≡ File (suc f) s → m .slots (suc f) ≡ some x
+      → slotBytes + length (x .content) ≤ s * blockBytes + o → render m b o ≡ 0
   unfolding content part heldBytes storedByte
   tail-zero f s x e z h =
       byte-at (File (suc f) s) e
@@ -51,6 +52,7 @@ module _ (m : Inner) (b o : ℕ) (pos : 0 < b) (hb : b < blocks) (ho : o < block
       ∙ cond-false _ _ (lt-false {a = s * blockBytes + o} {b = slotBytes} (omega arith))
       ∙ List·getD-eq-default (x .content) 0 (omega arith)
 
+-- a slot is empty or has a file
 pub by-slot : {X : Type 0} (l : HeldFile) → (l ≡ none → X) → ((x : NamedFile) → l ≡ some x → X) → X
 by-slot none f g = f refl
 by-slot (some x) f g = g x refl
@@ -59,7 +61,7 @@ module _ (m : Inner) (v : Inv m) (fs : List NamedFile) (r : Fills (m .slots) fs)
   abbrev d : Disk
   d = render m
 
-  -- a filled slot is below the peak, and its slot has the file's entry
+  -- a slot with a file is between 1 and the peak
   pub filled-below : (k : ℕ) (x : NamedFile) → m .slots k ≡ some x → (0 < k) × (k ≤ m .peak)
   unfolding isSome
   filled-below k x e = (
@@ -70,6 +72,7 @@ module _ (m : Inner) (v : Inv m) (fs : List NamedFile) (r : Fills (m .slots) fs)
   below-end : (k : ℕ) (x : NamedFile) → m .slots k ≡ some x → k < dirEnd d
   below-end k x e = omega (arith, filled-below k x e .1, dirEnd-is m v)
 
+  -- the slot of a file has its entry
   pub slot-entry : (k : ℕ) (x : NamedFile) → m .slots k ≡ some x → HasEntry d k x
   slot-entry k x e i l = entry-is m v k (filled-below k x e .1) x e i l
 
@@ -82,14 +85,17 @@ module _ (m : Inner) (v : Inv m) (fs : List NamedFile) (r : Fills (m .slots) fs)
       let whole : s ≡ k / blockSlots = omega arith in
       by-slot (m .slots k) (λ z. vacant-zero m b o pos hb ho s e z)
       (λ x z. absurd (not-in
-      (inSlot b o k x (fills-present fs (m .slots) k x z r) (filled-below k x z .0) (below-end k x z) (slot-entry k x z) (rec m v b hb ∙ e ∙ ap (File 0) whole) (omega arith))))
+      (inSlot b o k x (fills-present fs (m .slots) k x z r) (filled-below k x z .0)
+      (below-end k x z) (slot-entry k x z) (rec m v b hb ∙ e ∙ ap (File 0) whole) (omega arith))))
   inside b o pos hb ho not-in (File (suc f) s) e =
       by-slot (m .slots (suc f))
       (λ z. absurd (omega (arith, v .own .own-below b (suc f) s hb e, parts-none m (suc f) z (omega arith))))
       (λ x z. by-order (s * blockBytes + o) (slotBytes + length (x .content))
-      (λ h. absurd (not-in (inFile b o (suc f) s x (fills-present fs (m .slots) (suc f) x z r) (omega arith) (below-end (suc f) x z) (slot-entry (suc f) x z) (rec m v b hb ∙ e) ho h)))
+      (λ h. absurd (not-in (inFile b o (suc f) s x (fills-present fs (m .slots) (suc f) x z r)
+      (omega arith) (below-end (suc f) x z) (slot-entry (suc f) x z) (rec m v b hb ∙ e) ho h)))
       (λ h. tail-zero m b o pos hb ho f s x e z h))
 
+  -- a byte that belongs to nothing present is zero
   pub zero-outside : (b o : ℕ) → (Belongs d fs b o → ⊥) → render m b o ≡ 0
   unfolding render
   zero-outside b o not-in =

@@ -1,5 +1,5 @@
 -- Every history gives in the model what it gives in the inner model.
--- Assumes nothing.
+-- Rests on lists and owners that agree (Listed), on the invariant after each call (OnImages.Run) and on what add and remove leave (OnImages).
 use mathlib.Core.Path.{_≡_, refl, sym, ap, ap₂, _∙_, subst, fun-ext}
 use mathlib.Core.Logic.{_≢_}
 use mathlib.Core.Bool.{Bool, true, false, cond}
@@ -18,6 +18,7 @@ use Rattle.laws.specs.Laws.Changes.{upd-same, upd-other}
 use Rattle.laws.specs.Laws.Firsts.{firsts-picks, firsts-cong}
 use Rattle.sector_rules.specs.Geometry.{blocks}
 use Rattle.sector_rules.specs.Replies.{refusal}
+use Rattle.sector_rules.specs.declared.Reply.{Reply}
 use Rattle.file_rules.specs.declared.Record.{Record}
 use Rattle.file_rules.specs.declared.Record.the-variants.{File}
 use Rattle.file_rules.specs.Arguments.{FormatArguments}
@@ -28,7 +29,9 @@ use Rattle.file_rules.specs.Laws.OnImages.Slot.{k-pos, k-none, by-growth
 use Rattle.file_rules.specs.Laws.OnImages.Added.{dir-parts, first-length, owned₁, parts₁-k, parts-after}
 use Rattle.file_rules.specs.Laws.InnerModel.Fields.{parts-none}
 use Rattle.file_rules.specs.Laws.InnerModel.Reads.{found-slot}
-use Rattle.file_rules.specs.Laws.InnerModel.Inner.{Inner, presentCount, fileBlocks, header, render, emptySlots, innerFormat, innerFind, emptySlot, give, freeOf, innerList, innerRead, InnerChanged, innerRefused, innerRemoveAt, innerRemove, growOwner, peakAfter, innerAddAt, roomFor, innerAdd, innerStep, innerOut, innerOuts, innerEnd}
+use Rattle.file_rules.specs.Laws.InnerModel.Inner.{Inner, presentCount, fileBlocks, header, render, emptySlots, innerFormat, innerFind, emptySlot}
+use Rattle.file_rules.specs.Laws.InnerModel.Inner.{give, freeOf, innerList, innerRead, InnerChanged, innerRefused, innerRemoveAt, innerRemove, growOwner}
+use Rattle.file_rules.specs.Laws.InnerModel.Inner.{peakAfter, innerAddAt, roomFor, innerAdd, innerStep, innerOut, innerOuts, innerEnd}
 use Rattle.file_rules.specs.Laws.InnerModel.Invariant.{partsOf, Inv}
 use Rattle.file_rules.specs.Laws.InModel.Listed.{listedBlocks, withOwner, BlocksListed, owner-is, give-listed, freed-listed, listed-cong}
 use Rattle.file_rules.specs.Laws.Base.Names.{name-bounds, name-is, name-so}
@@ -37,9 +40,27 @@ use Rattle.file_rules.specs.Laws.Base.Results.{result-is}
 use Rattle.file_rules.specs.Laws.OnImages.Run.{step-inv}
 use Rattle.file_rules.specs.Laws.Base.Whole.{with-is, with-only, with-same, unowned}
 use Rattle.file_rules.specs.Map.{isFree}
-use Rattle.file_rules.specs.Model.{NamedFile, HeldFile, FilledSlot, Model, fileOf, takenBy, heldBlocks, presentIn, blocksPresent, dirBlocks, usable, content, modelRecord, modelHeader, modelDisk, modelFormat, acceptable, slotNamed, slotVacant, heldEntries, heldData, modelList, modelRead, wrap, peakThen, fits, freeIn, dirThen, fill, clear, ModelChanged, modelAdd, modelRemove}
+use Rattle.file_rules.specs.Model.{NamedFile, HeldFile, FilledSlot, Model, fileOf, takenBy, heldBlocks, presentIn, blocksPresent, dirBlocks, usable}
+use Rattle.file_rules.specs.Model.{content, modelRecord, modelHeader, modelDisk, modelFormat, acceptable, slotNamed, slotVacant, heldEntries, heldData}
+use Rattle.file_rules.specs.Model.{modelList, modelRead, wrap, peakThen, fits, freeIn, dirThen, fill, clear, ModelChanged, modelAdd, modelRemove}
 use Rattle.file_rules.specs.Sizes.{nameMost}
 use Rattle.file_rules.specs.Written.{blocksFor}
+
+-- the inner model's reply to a call
+abbrev innerReply : InnerChanged → Reply
+innerReply c = c .answer
+
+-- the inner model after a call
+abbrev innerNext : InnerChanged → Inner
+innerNext c = c .modelAfter
+
+-- the model's reply to a call
+abbrev modelReply : ModelChanged → Reply
+modelReply c = c .answer
+
+-- the model after a call
+abbrev modelNext : ModelChanged → Model
+modelNext c = c .modelAfter
 
 file-none : (h : Option FilledSlot) → fileOf h ≡ none → h ≡ none
 unfolding fileOf isSome
@@ -53,7 +74,8 @@ upd-file L k v =
     (λ q. upd-same (λ (i : ℕ). fileOf (L i)) k (fileOf v) j q ∙ ap fileOf (sym (upd-same L k v j q)))
     (λ q. upd-other (λ (i : ℕ). fileOf (L i)) k (fileOf v) j q ∙ ap fileOf (sym (upd-other L k v j q))))
 
-blocks-other : (L : ℕ → Option FilledSlot) (dir : List ℕ) (k : ℕ) (v : Option FilledSlot) (j : ℕ) → j ≢ k → listedBlocks (upd L k v) dir j ≡ listedBlocks L dir j
+blocks-other : (L : ℕ → Option FilledSlot) (dir : List ℕ) (k : ℕ) (v : Option FilledSlot) (j : ℕ)
+    → j ≢ k → listedBlocks (upd L k v) dir j ≡ listedBlocks L dir j
 unfolding listedBlocks
 blocks-other L dir k v zero q = refl
 blocks-other L dir k v (suc j) q = ap takenBy (upd-other L k v (suc j) q)
@@ -68,226 +90,243 @@ unfolding listedBlocks takenBy
 blocks-empty L dir zero h e = absurd (omega arith)
 blocks-empty L dir (suc k) h e = ap takenBy e
 
-module _ (b : Model) (o : ℕ → Record) (v : Inv (withOwner b o)) (r : BlocksListed (b .slots) (b .dir) o (partsOf (withOwner b o))) where
-  abbrev m : Inner
-  m = withOwner b o
+module _ (m : Model) (o : ℕ → Record) (v : Inv (withOwner m o)) (r : BlocksListed (m .slots) (m .dir) o (partsOf (withOwner m o))) where
+  abbrev inner : Inner
+  inner = withOwner m o
 
-  no-zero : b .slots 0 ≡ none
+  no-zero : m .slots 0 ≡ none
   unfolding withOwner
-  no-zero = file-none (b .slots 0) (v .slot-zero)
+  no-zero = file-none (m .slots 0) (v .slot-zero)
 
-  past : (k : ℕ) → b .peak < k → partsOf m k ≡ 0
+  past : (k : ℕ) → m .peak < k → partsOf inner k ≡ 0
   unfolding withOwner
-  past k h = parts-none m k (v .slot-past k h) (omega arith)
+  past k h = parts-none inner k (v .slot-past k h) (omega arith)
 
-  owner-same : (x : ℕ) → x < blocks → o x ≡ modelRecord (b .slots) (b .dir) (b .peak) x
+  owner-same : (x : ℕ) → x < blocks → o x ≡ modelRecord (m .slots) (m .dir) (m .peak) x
   unfolding withOwner
-  owner-same x l = sym (owner-is (b .slots) (b .dir) o (partsOf m) (v .own) r no-zero (b .peak) past x l)
+  owner-same x l = sym (owner-is (m .slots) (m .dir) o (partsOf inner) (v .own) r no-zero (m .peak) past x l)
 
-  -- the book's image is the model's
-  pub image-same : render m ≡ modelDisk b
+  -- the model's disk is the inner model's
+  pub image-same : render inner ≡ modelDisk m
   unfolding render modelDisk modelHeader blocksPresent withOwner header fileBlocks
   image-same =
-      let c = content (m .slots) (m .slots) in
-      with-only (header m) (modelRecord (b .slots) (b .dir) (b .peak)) c (render m)
-      (with-same (render m) (header m) o c (with-is (header m) o c) (header m) (modelRecord (b .slots) (b .dir) (b .peak)) c (λ i l. refl) owner-same (λ x i p l q. refl))
+      let c = content (inner .slots) (inner .slots) in
+      with-only (header inner) (modelRecord (m .slots) (m .dir) (m .peak)) c (render inner)
+      (with-same (render inner) (header inner) o c (with-is (header inner) o c) (header inner)
+      (modelRecord (m .slots) (m .dir) (m .peak)) c (λ i l. refl) owner-same (λ x i p l q. refl))
 
-  -- a reply looks at the slots alone
-  pub out-same : (c : Call) → innerOut m c ≡ modelOut b c
-  unfolding innerOut modelOut modelAdd modelRemove modelList modelRead innerAdd innerRemove innerRefused withOwner slotNamed innerFind fits roomFor innerList innerRead peakThen peakAfter presentIn presentCount blocksPresent fileBlocks bufferKept
-  out-same (toList buf) = result-is (heldEntries (m .slots) (suc (m .peak))) buf
+  -- reply and result buffer of a call in the inner model are the model's
+  pub out-same : (c : Call) → innerOut inner c ≡ modelOut m c
+  unfolding innerOut modelOut modelAdd modelRemove modelList modelRead innerAdd innerRemove innerRefused withOwner slotNamed innerFind fits
+      roomFor innerList innerRead peakThen peakAfter presentIn presentCount blocksPresent fileBlocks bufferKept
+  out-same (toList buf) = result-is (heldEntries (inner .slots) (suc (inner .peak))) buf
   out-same (toRead name buf) =
-      ap₂ (λ (t : Bool) (o : Outcome). cond t (cond (ltb (innerFind m name) (suc (m .peak))) o (bufferKept buf (refusal 14))) (bufferKept buf (refusal 12)))
-      (name-is name) (result-is (heldData (m .slots (innerFind m name))) buf)
+      ap₂ (λ (t : Bool) (o : Outcome).
+      cond t (cond (ltb (innerFind inner name) (suc (inner .peak))) o (bufferKept buf (refusal 14))) (bufferKept buf (refusal 12)))
+      (name-is name) (result-is (heldData (inner .slots (innerFind inner name))) buf)
   out-same (toRemove name) =
       ap (bufferKept [])
       (by-test (nameRight name)
       (λ t. let u : acceptable name ≡ true = name-so name t in
-      by-order (innerFind m name) (suc (m .peak))
-      (λ h. ap (λ (c : InnerChanged). c .answer) (cond-true _ _ t ∙ cond-true _ _ (lt-true h)) ∙ sym (ap (λ (c : ModelChanged). c .answer) (cond-true _ _ u ∙ cond-true _ _ (lt-true h))))
-      (λ h. ap (λ (c : InnerChanged). c .answer) (cond-true _ _ t ∙ cond-false _ _ (lt-false h)) ∙ sym (ap (λ (c : ModelChanged). c .answer) (cond-true _ _ u ∙ cond-false _ _ (lt-false h)))))
-      (λ t. let u : acceptable name ≡ false = name-so name t in ap (λ (c : InnerChanged). c .answer) (cond-false _ _ t) ∙ sym (ap (λ (c : ModelChanged). c .answer) (cond-false _ _ u))))
+      by-order (innerFind inner name) (suc (inner .peak))
+      (λ h. ap innerReply (cond-true _ _ t ∙ cond-true _ _ (lt-true h)) ∙ sym (ap modelReply (cond-true _ _ u ∙ cond-true _ _ (lt-true h))))
+      (λ h. ap innerReply (cond-true _ _ t ∙ cond-false _ _ (lt-false h)) ∙ sym (ap modelReply (cond-true _ _ u ∙ cond-false _ _ (lt-false h)))))
+      (λ t. let u : acceptable name ≡ false = name-so name t in ap innerReply (cond-false _ _ t) ∙ sym (ap modelReply (cond-false _ _ u))))
   out-same (toAdd x) =
       ap (bufferKept [])
       (by-test (nameRight (x .name))
       (λ t. let u : acceptable (x .name) ≡ true = name-so (x .name) t in
-      by-order (innerFind m (x .name)) (suc (m .peak))
-      (λ h. ap (λ (c : InnerChanged). c .answer) (cond-true _ _ t ∙ cond-true _ _ (lt-true h)) ∙ sym (ap (λ (c : ModelChanged). c .answer) (cond-true _ _ u ∙ cond-true _ _ (lt-true h))))
-      (λ h. by-test (roomFor m x)
-      (λ s. ap (λ (c : InnerChanged). c .answer) (cond-true _ _ t ∙ cond-false _ _ (lt-false h) ∙ cond-true _ _ s) ∙ sym (ap (λ (c : ModelChanged). c .answer) (cond-true _ _ u ∙ cond-false _ _ (lt-false h) ∙ cond-true _ _ s)))
-      (λ s. ap (λ (c : InnerChanged). c .answer) (cond-true _ _ t ∙ cond-false _ _ (lt-false h) ∙ cond-false _ _ s) ∙ sym (ap (λ (c : ModelChanged). c .answer) (cond-true _ _ u ∙ cond-false _ _ (lt-false h) ∙ cond-false _ _ s)))))
-      (λ t. let u : acceptable (x .name) ≡ false = name-so (x .name) t in ap (λ (c : InnerChanged). c .answer) (cond-false _ _ t) ∙ sym (ap (λ (c : ModelChanged). c .answer) (cond-false _ _ u))))
+      by-order (innerFind inner (x .name)) (suc (inner .peak))
+      (λ h. ap innerReply (cond-true _ _ t ∙ cond-true _ _ (lt-true h)) ∙ sym (ap modelReply (cond-true _ _ u ∙ cond-true _ _ (lt-true h))))
+      (λ h. by-test (roomFor inner x)
+      (λ s. ap innerReply (cond-true _ _ t ∙ cond-false _ _ (lt-false h) ∙ cond-true _ _ s)
+      ∙ sym (ap modelReply (cond-true _ _ u ∙ cond-false _ _ (lt-false h) ∙ cond-true _ _ s)))
+      (λ s. ap innerReply (cond-true _ _ t ∙ cond-false _ _ (lt-false h) ∙ cond-false _ _ s)
+      ∙ sym (ap modelReply (cond-true _ _ u ∙ cond-false _ _ (lt-false h) ∙ cond-false _ _ s)))))
+      (λ t. let u : acceptable (x .name) ≡ false = name-so (x .name) t in ap innerReply (cond-false _ _ t) ∙ sym (ap modelReply (cond-false _ _ u))))
 
-  -- what a step leaves: owners o′ of the next book, with the next model
+  -- what holds of the two models after a step: with owners o′ the model is the inner model, and its lists say the same as o′
   abbrev NextAgree : Inner → Model → Type 0
-  NextAgree m′ b′ = (o′ : ℕ → Record) × (m′ ≡ withOwner b′ o′) × BlocksListed (b′ .slots) (b′ .dir) o′ (partsOf m′)
+  NextAgree inner′ m′ = (o′ : ℕ → Record) × (inner′ ≡ withOwner m′ o′) × BlocksListed (m′ .slots) (m′ .dir) o′ (partsOf inner′)
 
-  stay : NextAgree m b
+  stay : NextAgree inner m
   stay = (o, refl, r)
 
-  remove-next : (k : ℕ) → 0 < k → k ≤ m .peak → NextAgree (innerRemoveAt m k) (clear b k)
+  remove-next : (k : ℕ) → 0 < k → k ≤ inner .peak → NextAgree (innerRemoveAt inner k) (clear m k)
   unfolding innerRemoveAt clear withOwner fileOf takenBy
   remove-next k h l = (
     (λ (x : ℕ). unowned k (o x)),
     ap (λ (ls : ℕ → HeldFile). record {
-      arguments = b .arguments;
-      updates = wrap (b .updates + 1);
-      peak = b .peak;
+      arguments = m .arguments;
+      updates = wrap (m .updates + 1);
+      peak = m .peak;
       slots = ls;
       owner = λ (x : ℕ). unowned k (o x);
-    }) (upd-file (b .slots) k none),
-    freed-listed (b .slots) (upd (b .slots) k none) (b .dir) (b .dir) o (partsOf m) r k (partsOf (innerRemoveAt m k)) (parts-other m v k h l) (parts-gone m v k h l)
-        (λ j q. blocks-other (b .slots) (b .dir) k none j q) (blocks-this (b .slots) (b .dir) k none h),
+    }) (upd-file (m .slots) k none),
+    freed-listed (m .slots) (upd (m .slots) k none) (m .dir) (m .dir) o (partsOf inner) r k
+        (partsOf (innerRemoveAt inner k)) (parts-other inner v k h l) (parts-gone inner v k h l)
+        (λ j q. blocks-other (m .slots) (m .dir) k none j q) (blocks-this (m .slots) (m .dir) k none h),
   )
 
-  module _ (x : NamedFile) (right : (1 ≤ length (x .name)) × (length (x .name) ≤ nameMost)) (new : suc (m .peak) ≤ innerFind m (x .name))
-      (room : dirBlocks (peakAfter m) + (fileBlocks m + blocksFor (length (x .content))) ≤ usable) where
+  module _ (x : NamedFile) (right : (1 ≤ length (x .name)) × (length (x .name) ≤ nameMost)) (new : suc (inner .peak) ≤ innerFind inner (x .name))
+      (room : dirBlocks (peakAfter inner) + (fileBlocks inner + blocksFor (length (x .content))) ≤ usable) where
     abbrev k : ℕ
-    k = emptySlot m
+    k = emptySlot inner
 
     abbrev owner₁ : ℕ → Record
-    owner₁ = growOwner m (peakAfter m)
+    owner₁ = growOwner inner (peakAfter inner)
 
     abbrev parts₁ : ℕ → ℕ
-    parts₁ = upd (partsOf m) 0 (dirBlocks (peakAfter m))
+    parts₁ = upd (partsOf inner) 0 (dirBlocks (peakAfter inner))
 
     abbrev n : ℕ
     n = blocksFor (length (x .content))
 
-    first-same : firsts blocks 1 (freeIn (b .slots) (b .dir) (b .peak)) ≡ firsts blocks 1 (freeOf o)
+    first-same : firsts blocks 1 (freeIn (m .slots) (m .dir) (m .peak)) ≡ firsts blocks 1 (freeOf o)
     unfolding freeIn freeOf
-    first-same = firsts-cong blocks 1 (freeIn (b .slots) (b .dir) (b .peak)) (freeOf o) (λ j l. ap isFree (sym (owner-same j l)))
+    first-same = firsts-cong blocks 1 (freeIn (m .slots) (m .dir) (m .peak)) (freeOf o) (λ j l. ap isFree (sym (owner-same j l)))
 
-    listed₁ : BlocksListed (b .slots) (dirThen b) owner₁ parts₁
+    listed₁ : BlocksListed (m .slots) (dirThen m) owner₁ parts₁
     unfolding dirThen growOwner withOwner peakThen presentIn peakAfter presentCount listedBlocks
     listed₁ =
         let first : List ℕ = firsts blocks 1 (freeOf o) in
-        by-growth m v
+        by-growth inner v
         (λ t e q s.
-        let w : BlocksListed (b .slots) (b .dir ++ first) (give o 0 (dirBlocks (m .peak)) first) (upd (partsOf m) 0 (dirBlocks (m .peak) + length first)) =
-        give-listed (b .slots) (b .slots) (b .dir) (b .dir ++ first) o (partsOf m) r first 0 (dirBlocks (m .peak)) 0 (firsts-picks blocks 1 (freeOf o))
-        (dir-parts m v x right new room) (λ j p. dir-other j p) refl in
-        let d : dirBlocks (m .peak) + length first ≡ dirBlocks (peakAfter m) = omega (arith, first-length m v x right new room s) in
-        let dd : dirThen b ≡ b .dir ++ first = cond-true _ _ t ∙ ap (λ (bs : List ℕ). b .dir ++ bs) first-same in
-        let oo : owner₁ ≡ give o 0 (dirBlocks (m .peak)) first = cond-true _ _ t in
-        subst (λ (z : List ℕ). BlocksListed (b .slots) z owner₁ parts₁) (sym dd)
-        (subst (λ (z : ℕ → Record). BlocksListed (b .slots) (b .dir ++ first) z parts₁) (sym oo)
-        (subst (λ (z : ℕ). BlocksListed (b .slots) (b .dir ++ first) (give o 0 (dirBlocks (m .peak)) first) (upd (partsOf m) 0 z)) d w)))
+        let w : BlocksListed (m .slots) (m .dir ++ first) (give o 0 (dirBlocks (inner .peak)) first)
+        (upd (partsOf inner) 0 (dirBlocks (inner .peak) + length first)) =
+        give-listed (m .slots) (m .slots) (m .dir) (m .dir ++ first) o (partsOf inner) r first 0 (dirBlocks (inner .peak)) 0 (firsts-picks blocks 1 (freeOf o))
+        (dir-parts inner v x right new room) (λ j p. dir-other j p) refl in
+        let d : dirBlocks (inner .peak) + length first ≡ dirBlocks (peakAfter inner) = omega (arith, first-length inner v x right new room s) in
+        let dd : dirThen m ≡ m .dir ++ first = cond-true _ _ t ∙ ap (λ (bs : List ℕ). m .dir ++ bs) first-same in
+        let oo : owner₁ ≡ give o 0 (dirBlocks (inner .peak)) first = cond-true _ _ t in
+        subst (λ (z : List ℕ). BlocksListed (m .slots) z owner₁ parts₁) (sym dd)
+        (subst (λ (z : ℕ → Record). BlocksListed (m .slots) (m .dir ++ first) z parts₁) (sym oo)
+        (subst (λ (z : ℕ). BlocksListed (m .slots) (m .dir ++ first) (give o 0 (dirBlocks (inner .peak)) first) (upd (partsOf inner) 0 z)) d w)))
         (λ t s.
-        let dd : dirThen b ≡ b .dir = cond-false _ _ t in
+        let dd : dirThen m ≡ m .dir = cond-false _ _ t in
         let oo : owner₁ ≡ o = cond-false _ _ t in
-        subst (λ (z : List ℕ). BlocksListed (b .slots) z owner₁ parts₁) (sym dd)
-        (subst (λ (z : ℕ → Record). BlocksListed (b .slots) (b .dir) z parts₁) (sym oo)
-        (listed-cong (b .slots) (b .dir) o (partsOf m) parts₁
+        subst (λ (z : List ℕ). BlocksListed (m .slots) z owner₁ parts₁) (sym dd)
+        (subst (λ (z : ℕ → Record). BlocksListed (m .slots) (m .dir) z parts₁) (sym oo)
+        (listed-cong (m .slots) (m .dir) o (partsOf inner) parts₁
         (λ f. by-equal f 0
-        (λ p. ap (partsOf m) p ∙ dir-parts m v x right new room ∙ sym s ∙ sym (upd-same (partsOf m) 0 (dirBlocks (peakAfter m)) f p))
-        (λ p. sym (upd-other (partsOf m) 0 (dirBlocks (peakAfter m)) f p))) r)))
+        (λ p. ap (partsOf inner) p ∙ dir-parts inner v x right new room ∙ sym s ∙ sym (upd-same (partsOf inner) 0 (dirBlocks (peakAfter inner)) f p))
+        (λ p. sym (upd-other (partsOf inner) 0 (dirBlocks (peakAfter inner)) f p))) r)))
       where
-        dir-other : (j : ℕ) → j ≢ 0 → listedBlocks (b .slots) (b .dir ++ firsts blocks 1 (freeOf o)) j ≡ listedBlocks (b .slots) (b .dir) j
+        dir-other : (j : ℕ) → j ≢ 0 → listedBlocks (m .slots) (m .dir ++ firsts blocks 1 (freeOf o)) j ≡ listedBlocks (m .slots) (m .dir) j
         dir-other zero p = absurd (p refl)
         dir-other (suc j) p = refl
 
-    past₁ : (j : ℕ) → b .peak < j → parts₁ j ≡ 0
-    past₁ j h = upd-other (partsOf m) 0 (dirBlocks (peakAfter m)) j (omega arith) ∙ past j h
+    past₁ : (j : ℕ) → m .peak < j → parts₁ j ≡ 0
+    past₁ j h = upd-other (partsOf inner) 0 (dirBlocks (peakAfter inner)) j (omega arith) ∙ past j h
 
-    rest-same : firsts blocks n (freeIn (b .slots) (dirThen b) (b .peak)) ≡ firsts blocks n (freeOf owner₁)
+    rest-same : firsts blocks n (freeIn (m .slots) (dirThen m) (m .peak)) ≡ firsts blocks n (freeOf owner₁)
     unfolding freeIn freeOf
     rest-same =
-        firsts-cong blocks n (freeIn (b .slots) (dirThen b) (b .peak)) (freeOf owner₁)
-        (λ j l. ap isFree (owner-is (b .slots) (dirThen b) owner₁ parts₁ (owned₁ m v x right new room) listed₁ no-zero (b .peak) past₁ j l))
+        firsts-cong blocks n (freeIn (m .slots) (dirThen m) (m .peak)) (freeOf owner₁)
+        (λ j l. ap isFree (owner-is (m .slots) (dirThen m) owner₁ parts₁ (owned₁ inner v x right new room) listed₁ no-zero (m .peak) past₁ j l))
 
-    add-next : NextAgree (innerAddAt m k x) (fill b k x)
+    add-next : NextAgree (innerAddAt inner k x) (fill m k x)
     unfolding innerAddAt fill withOwner fileOf takenBy peakThen presentIn peakAfter presentCount
     add-next =
-        let bs : List ℕ = firsts blocks n (freeIn (b .slots) (dirThen b) (b .peak)) in
+        let bs : List ℕ = firsts blocks n (freeIn (m .slots) (dirThen m) (m .peak)) in
         let rest : List ℕ = firsts blocks n (freeOf owner₁) in
         let h : Option FilledSlot = some (record { file = x; taken = bs }) in
         let o′ : ℕ → Record = give owner₁ k 0 rest in
-        let empty : b .slots k ≡ none = file-none (b .slots k) (k-none m v) in (
+        let empty : m .slots k ≡ none = file-none (m .slots k) (k-none inner v) in (
           o′,
           ap (λ (ls : ℕ → HeldFile). record {
-            arguments = b .arguments;
-            updates = wrap (b .updates + 1);
-            peak = peakAfter m;
+            arguments = m .arguments;
+            updates = wrap (m .updates + 1);
+            peak = peakAfter inner;
             slots = ls;
             owner = o′;
-          }) (upd-file (b .slots) k h),
-          listed-cong (upd (b .slots) k h) (dirThen b) o′ (upd parts₁ k (0 + length rest)) (partsOf (innerAddAt m k x)) (parts-after m v x right new room)
-              (give-listed (b .slots) (upd (b .slots) k h) (dirThen b) (dirThen b) owner₁ parts₁ listed₁ rest k 0 0 (firsts-picks blocks n (freeOf owner₁))
-              (parts₁-k m v x right new room)
-              (λ j q. blocks-other (b .slots) (dirThen b) k h j q)
-              (blocks-this (b .slots) (dirThen b) k h (k-pos m v) ∙ rest-same
-              ∙ ap (λ (l : List ℕ). l ++ rest) (sym (blocks-empty (b .slots) (dirThen b) k (k-pos m v) empty)))),
+          }) (upd-file (m .slots) k h),
+          listed-cong (upd (m .slots) k h) (dirThen m) o′ (upd parts₁ k (0 + length rest))
+              (partsOf (innerAddAt inner k x)) (parts-after inner v x right new room)
+              (give-listed (m .slots) (upd (m .slots) k h) (dirThen m) (dirThen m) owner₁ parts₁ listed₁ rest k 0 0 (firsts-picks blocks n (freeOf owner₁))
+              (parts₁-k inner v x right new room)
+              (λ j q. blocks-other (m .slots) (dirThen m) k h j q)
+              (blocks-this (m .slots) (dirThen m) k h (k-pos inner v) ∙ rest-same
+              ∙ ap (λ (l : List ℕ). l ++ rest) (sym (blocks-empty (m .slots) (dirThen m) k (k-pos inner v) empty)))),
         )
 
-  pub next-agrees : (c : Call) → NextAgree (innerStep m c) (modelStep b c)
-  unfolding innerStep modelStep modelAdd modelRemove innerRemove innerAdd innerRefused withOwner slotNamed innerFind fits roomFor slotVacant emptySlot peakThen peakAfter presentIn presentCount blocksPresent fileBlocks
+  -- after a call the two models agree again
+  pub next-agrees : (c : Call) → NextAgree (innerStep inner c) (modelStep m c)
+  unfolding innerStep modelStep modelAdd modelRemove innerRemove innerAdd innerRefused withOwner slotNamed innerFind fits roomFor slotVacant
+      emptySlot peakThen peakAfter presentIn presentCount blocksPresent fileBlocks
   next-agrees (toList buf) = stay
   next-agrees (toRead name buf) = stay
   next-agrees (toRemove name) =
       by-test (nameRight name)
-      (λ t. by-order (innerFind m name) (suc (m .peak))
+      (λ t. by-order (innerFind inner name) (suc (inner .peak))
       (λ h.
-      let w : (x : NamedFile) × (m .slots (innerFind m name) ≡ some x) × (nameEq (x .name) name ≡ true) × (0 < innerFind m name) = found-slot m v name h in
-      let em : innerRemove m name .modelAfter ≡ innerRemoveAt m (innerFind m name) = ap (λ (c : InnerChanged). c .modelAfter) (cond-true _ _ t ∙ cond-true _ _ (lt-true h)) in
-      let eb : modelStep b (toRemove name) ≡ clear b (innerFind m name) = ap (λ (c : ModelChanged). c .modelAfter) (cond-true _ _ (name-so name t) ∙ cond-true _ _ (lt-true h)) in
-      subst (λ (z : Inner). NextAgree z (modelStep b (toRemove name))) (sym em)
-      (subst (λ (z : Model). NextAgree (innerRemoveAt m (innerFind m name)) z) (sym eb) (remove-next (innerFind m name) (w .3) (omega arith))))
+      let w : (x : NamedFile) × (inner .slots (innerFind inner name) ≡ some x) × (nameEq (x .name) name ≡ true) × (0 < innerFind inner name) =
+      found-slot inner v name h in
+      let em : innerRemove inner name .modelAfter ≡ innerRemoveAt inner (innerFind inner name) = ap innerNext (cond-true _ _ t ∙ cond-true _ _ (lt-true h)) in
+      let eb : modelStep m (toRemove name) ≡ clear m (innerFind inner name) = ap modelNext (cond-true _ _ (name-so name t) ∙ cond-true _ _ (lt-true h)) in
+      subst (λ (z : Inner). NextAgree z (modelStep m (toRemove name))) (sym em)
+      (subst (λ (z : Model). NextAgree (innerRemoveAt inner (innerFind inner name)) z) (sym eb) (remove-next (innerFind inner name) (w .3) (omega arith))))
       (λ h.
-      let em : innerRemove m name .modelAfter ≡ m = ap (λ (c : InnerChanged). c .modelAfter) (cond-true _ _ t ∙ cond-false _ _ (lt-false h)) in
-      let eb : modelStep b (toRemove name) ≡ b = ap (λ (c : ModelChanged). c .modelAfter) (cond-true _ _ (name-so name t) ∙ cond-false _ _ (lt-false h)) in
-      subst (λ (z : Inner). NextAgree z (modelStep b (toRemove name))) (sym em) (subst (λ (z : Model). NextAgree m z) (sym eb) stay)))
+      let em : innerRemove inner name .modelAfter ≡ inner = ap innerNext (cond-true _ _ t ∙ cond-false _ _ (lt-false h)) in
+      let eb : modelStep m (toRemove name) ≡ m = ap modelNext (cond-true _ _ (name-so name t) ∙ cond-false _ _ (lt-false h)) in
+      subst (λ (z : Inner). NextAgree z (modelStep m (toRemove name))) (sym em) (subst (λ (z : Model). NextAgree inner z) (sym eb) stay)))
       (λ t.
-      let em : innerRemove m name .modelAfter ≡ m = ap (λ (c : InnerChanged). c .modelAfter) (cond-false _ _ t) in
-      let eb : modelStep b (toRemove name) ≡ b = ap (λ (c : ModelChanged). c .modelAfter) (cond-false _ _ (name-so name t)) in
-      subst (λ (z : Inner). NextAgree z (modelStep b (toRemove name))) (sym em) (subst (λ (z : Model). NextAgree m z) (sym eb) stay))
+      let em : innerRemove inner name .modelAfter ≡ inner = ap innerNext (cond-false _ _ t) in
+      let eb : modelStep m (toRemove name) ≡ m = ap modelNext (cond-false _ _ (name-so name t)) in
+      subst (λ (z : Inner). NextAgree z (modelStep m (toRemove name))) (sym em) (subst (λ (z : Model). NextAgree inner z) (sym eb) stay))
   next-agrees (toAdd x) =
       by-test (nameRight (x .name))
-      (λ t. by-order (innerFind m (x .name)) (suc (m .peak))
+      (λ t. by-order (innerFind inner (x .name)) (suc (inner .peak))
       (λ h.
-      let em : innerAdd m x .modelAfter ≡ m = ap (λ (c : InnerChanged). c .modelAfter) (cond-true _ _ t ∙ cond-true _ _ (lt-true h)) in
-      let eb : modelStep b (toAdd x) ≡ b = ap (λ (c : ModelChanged). c .modelAfter) (cond-true _ _ (name-so (x .name) t) ∙ cond-true _ _ (lt-true h)) in
-      subst (λ (z : Inner). NextAgree z (modelStep b (toAdd x))) (sym em) (subst (λ (z : Model). NextAgree m z) (sym eb) stay))
-      (λ h. by-test (roomFor m x)
+      let em : innerAdd inner x .modelAfter ≡ inner = ap innerNext (cond-true _ _ t ∙ cond-true _ _ (lt-true h)) in
+      let eb : modelStep m (toAdd x) ≡ m = ap modelNext (cond-true _ _ (name-so (x .name) t) ∙ cond-true _ _ (lt-true h)) in
+      subst (λ (z : Inner). NextAgree z (modelStep m (toAdd x))) (sym em) (subst (λ (z : Model). NextAgree inner z) (sym eb) stay))
+      (λ h. by-test (roomFor inner x)
       (λ s.
       let right : (1 ≤ length (x .name)) × (length (x .name) ≤ nameMost) = name-bounds (x .name) t in
-      let em : innerAdd m x .modelAfter ≡ innerAddAt m (emptySlot m) x = ap (λ (c : InnerChanged). c .modelAfter) (cond-true _ _ t ∙ cond-false _ _ (lt-false h) ∙ cond-true _ _ s) in
-      let eb : modelStep b (toAdd x) ≡ fill b (emptySlot m) x = ap (λ (c : ModelChanged). c .modelAfter) (cond-true _ _ (name-so (x .name) t) ∙ cond-false _ _ (lt-false h) ∙ cond-true _ _ s) in
-      subst (λ (z : Inner). NextAgree z (modelStep b (toAdd x))) (sym em)
-      (subst (λ (z : Model). NextAgree (innerAddAt m (emptySlot m) x) z) (sym eb) (add-next x right h (true-le s))))
+      let em : innerAdd inner x .modelAfter ≡ innerAddAt inner (emptySlot inner) x =
+      ap innerNext (cond-true _ _ t ∙ cond-false _ _ (lt-false h) ∙ cond-true _ _ s) in
+      let eb : modelStep m (toAdd x) ≡ fill m (emptySlot inner) x =
+      ap modelNext (cond-true _ _ (name-so (x .name) t) ∙ cond-false _ _ (lt-false h) ∙ cond-true _ _ s) in
+      subst (λ (z : Inner). NextAgree z (modelStep m (toAdd x))) (sym em)
+      (subst (λ (z : Model). NextAgree (innerAddAt inner (emptySlot inner) x) z) (sym eb) (add-next x right h (true-le s))))
       (λ s.
-      let em : innerAdd m x .modelAfter ≡ m = ap (λ (c : InnerChanged). c .modelAfter) (cond-true _ _ t ∙ cond-false _ _ (lt-false h) ∙ cond-false _ _ s) in
-      let eb : modelStep b (toAdd x) ≡ b = ap (λ (c : ModelChanged). c .modelAfter) (cond-true _ _ (name-so (x .name) t) ∙ cond-false _ _ (lt-false h) ∙ cond-false _ _ s) in
-      subst (λ (z : Inner). NextAgree z (modelStep b (toAdd x))) (sym em) (subst (λ (z : Model). NextAgree m z) (sym eb) stay))))
+      let em : innerAdd inner x .modelAfter ≡ inner = ap innerNext (cond-true _ _ t ∙ cond-false _ _ (lt-false h) ∙ cond-false _ _ s) in
+      let eb : modelStep m (toAdd x) ≡ m = ap modelNext (cond-true _ _ (name-so (x .name) t) ∙ cond-false _ _ (lt-false h) ∙ cond-false _ _ s) in
+      subst (λ (z : Inner). NextAgree z (modelStep m (toAdd x))) (sym em) (subst (λ (z : Model). NextAgree inner z) (sym eb) stay))))
       (λ t.
-      let em : innerAdd m x .modelAfter ≡ m = ap (λ (c : InnerChanged). c .modelAfter) (cond-false _ _ t) in
-      let eb : modelStep b (toAdd x) ≡ b = ap (λ (c : ModelChanged). c .modelAfter) (cond-false _ _ (name-so (x .name) t)) in
-      subst (λ (z : Inner). NextAgree z (modelStep b (toAdd x))) (sym em) (subst (λ (z : Model). NextAgree m z) (sym eb) stay))
+      let em : innerAdd inner x .modelAfter ≡ inner = ap innerNext (cond-false _ _ t) in
+      let eb : modelStep m (toAdd x) ≡ m = ap modelNext (cond-false _ _ (name-so (x .name) t)) in
+      subst (λ (z : Inner). NextAgree z (modelStep m (toAdd x))) (sym em) (subst (λ (z : Model). NextAgree inner z) (sym eb) stay))
 
 -- ---- a history
 
-peak-same : (b : Model) (o : ℕ → Record) → withOwner b o .peak ≡ b .peak
+peak-same : (m : Model) (o : ℕ → Record) → withOwner m o .peak ≡ m .peak
 unfolding withOwner
-peak-same b o = refl
+peak-same m o = refl
 
-pub agree : (cs : List Call) (b : Model) (o : ℕ → Record) → Inv (withOwner b o) → BlocksListed (b .slots) (b .dir) o (partsOf (withOwner b o))
-    → (innerOuts (withOwner b o) cs ≡ modelOuts b cs) × (render (innerEnd (withOwner b o) cs) ≡ modelDisk (modelEnd b cs)) × (innerEnd (withOwner b o) cs .peak ≡ modelEnd b cs .peak)
+-- a history gives in both models the same replies, the same disk and the same peak
+pub agree : (cs : List Call) (m : Model) (o : ℕ → Record) → Inv (withOwner m o) → BlocksListed (m .slots) (m .dir) o (partsOf (withOwner m o))
+    → (innerOuts (withOwner m o) cs ≡ modelOuts m cs) × (render (innerEnd (withOwner m o) cs) ≡ modelDisk (modelEnd m cs))
+    × (innerEnd (withOwner m o) cs .peak ≡ modelEnd m cs .peak)
 unfolding innerOuts modelOuts innerEnd modelEnd
-agree [] b o v r = (refl, image-same b o v r, peak-same b o)
-agree (c ∷ cs) b o v r =
-    let m : Inner = withOwner b o in
-    let w : (o′ : ℕ → Record) × (innerStep m c ≡ withOwner (modelStep b c) o′) × BlocksListed (modelStep b c .slots) (modelStep b c .dir) o′ (partsOf (innerStep m c)) = next-agrees b o v r c in
-    let v′ : Inv (withOwner (modelStep b c) (w .0)) = subst Inv (w .1) (step-inv m v c) in
-    let r′ : BlocksListed (modelStep b c .slots) (modelStep b c .dir) (w .0) (partsOf (withOwner (modelStep b c) (w .0))) =
-    subst (λ (z : Inner). BlocksListed (modelStep b c .slots) (modelStep b c .dir) (w .0) (partsOf z)) (w .1) (w .2) in
-    let ih : (innerOuts (withOwner (modelStep b c) (w .0)) cs ≡ modelOuts (modelStep b c) cs)
-    × (render (innerEnd (withOwner (modelStep b c) (w .0)) cs) ≡ modelDisk (modelEnd (modelStep b c) cs))
-    × (innerEnd (withOwner (modelStep b c) (w .0)) cs .peak ≡ modelEnd (modelStep b c) cs .peak) = agree cs (modelStep b c) (w .0) v′ r′ in (
-      ap₂ (λ (x : Outcome) (xs : List Outcome). x ∷ xs) (out-same b o v r c) (ap (λ (z : Inner). innerOuts z cs) (w .1) ∙ ih .0),
+agree [] m o v r = (refl, image-same m o v r, peak-same m o)
+agree (c ∷ cs) m o v r =
+    let inner : Inner = withOwner m o in
+    let w : (o′ : ℕ → Record) × (innerStep inner c ≡ withOwner (modelStep m c) o′)
+    × BlocksListed (modelStep m c .slots) (modelStep m c .dir) o′ (partsOf (innerStep inner c)) = next-agrees m o v r c in
+    let v′ : Inv (withOwner (modelStep m c) (w .0)) = subst Inv (w .1) (step-inv inner v c) in
+    let r′ : BlocksListed (modelStep m c .slots) (modelStep m c .dir) (w .0) (partsOf (withOwner (modelStep m c) (w .0))) =
+    subst (λ (z : Inner). BlocksListed (modelStep m c .slots) (modelStep m c .dir) (w .0) (partsOf z)) (w .1) (w .2) in
+    let ih : (innerOuts (withOwner (modelStep m c) (w .0)) cs ≡ modelOuts (modelStep m c) cs)
+    × (render (innerEnd (withOwner (modelStep m c) (w .0)) cs) ≡ modelDisk (modelEnd (modelStep m c) cs))
+    × (innerEnd (withOwner (modelStep m c) (w .0)) cs .peak ≡ modelEnd (modelStep m c) cs .peak) = agree cs (modelStep m c) (w .0) v′ r′ in (
+      ap₂ (λ (x : Outcome) (xs : List Outcome). x ∷ xs) (out-same m o v r c) (ap (λ (z : Inner). innerOuts z cs) (w .1) ∙ ih .0),
       ap (λ (z : Inner). render (innerEnd z cs)) (w .1) ∙ ih .1,
       ap (λ (z : Inner). innerEnd z cs .peak) (w .1) ∙ ih .2,
     )
 
+-- after a format lists and owners agree
 pub fresh-listed : (args : FormatArguments)
     → BlocksListed (modelFormat args .slots) (modelFormat args .dir) freshOwner (partsOf (innerFormat args))
 unfolding modelFormat innerFormat partsOf dirBlocks heldBlocks emptySlots listedBlocks takenBy freshOwner
@@ -304,6 +343,7 @@ fresh-listed args = record { sizes = sizes; each = each }
     each zero (suc s) h = absurd (omega arith)
     each (suc k) s h = absurd (omega arith)
 
+-- after a format the inner model is the model with the owners of a fresh disk
 pub start-is : (args : FormatArguments) → innerFormat args ≡ withOwner (modelFormat args) freshOwner
 unfolding innerFormat modelFormat withOwner emptySlots fileOf
 start-is args = refl

@@ -1,5 +1,5 @@
 -- The model's lists of blocks and the inner model's owners say the same.
--- Assumes nothing.
+-- Rests on blocks given and freed (InnerModel.Owners).
 use mathlib.Core.Path.{_≡_, refl, sym, ap, _∙_, subst}
 use mathlib.Core.Logic.{_≢_}
 use mathlib.Core.Bool.{false}
@@ -60,17 +60,19 @@ by-position {ℓ} : {X : Type ℓ} (o : Option ℕ) → (o ≡ none → X) → (
 by-position none f g = f refl
 by-position (some s) f g = g s refl
 
--- ---- the blocks of a book are owned as its lists say
+-- ---- blocks are owned as the model lists them
 
+-- the list of blocks of file k in the model; file 0 is the directory
 unfoldable pub listedBlocks : (ℕ → Option FilledSlot) → List ℕ → ℕ → List ℕ
 listedBlocks slots dir zero = dir
 listedBlocks slots dir (suc k) = takenBy (slots (suc k))
 
--- the inner model with the slots of a model, and these owners
+-- the inner model with the slots of this model and these owners
 unfoldable pub withOwner : Model → (ℕ → Record) → Inner
-withOwner b owner =
-    record { arguments = b .arguments; updates = b .updates; peak = b .peak; slots = λ (k : ℕ). fileOf (b .slots k); owner = owner }
+withOwner m owner =
+    record { arguments = m .arguments; updates = m .updates; peak = m .peak; slots = λ (k : ℕ). fileOf (m .slots k); owner = owner }
 
+-- the lists of blocks and the owners agree: file k has `parts k` blocks, and block s of its list is owned as its part s
 pub record BlocksListed (slots : ℕ → Option FilledSlot) (dir : List ℕ) (owner : ℕ → Record) (parts : ℕ → ℕ) : Type 0 where
   pub sizes : (k : ℕ) → length (listedBlocks slots dir k) ≡ parts k
   pub each : (k s : ℕ) → s < parts k → (getD (listedBlocks slots dir k) s 0 < blocks) × (owner (getD (listedBlocks slots dir k) s 0) ≡ File k s)
@@ -80,7 +82,8 @@ module _ (slots : ℕ → Option FilledSlot) (dir : List ℕ) (owner : ℕ → R
   -- what a search finds is the owner
   hit : (b k s : ℕ) → position b 0 (listedBlocks slots dir k) ≡ some s → owner b ≡ File k s
   hit b k s e =
-      let w : (0 ≤ s) × (s < 0 + length (listedBlocks slots dir k)) × (getD (listedBlocks slots dir k) (s - 0) 0 ≡ b) = found b 0 (listedBlocks slots dir k) s e in
+      let w : (0 ≤ s) × (s < 0 + length (listedBlocks slots dir k)) × (getD (listedBlocks slots dir k) (s - 0) 0 ≡ b) =
+      found b 0 (listedBlocks slots dir k) s e in
       let z : s - 0 ≡ s = omega arith in
       let at : getD (listedBlocks slots dir k) s 0 ≡ b = ap (λ (j : ℕ). getD (listedBlocks slots dir k) j 0) (sym z) ∙ w .2 in
       ap owner (sym at) ∙ r .each k s (omega (arith, w .1, r .sizes k)) .1
@@ -93,7 +96,8 @@ module _ (slots : ℕ → Option FilledSlot) (dir : List ℕ) (owner : ℕ → R
       missed b 0 (listedBlocks slots dir k) e s (omega (arith, r .sizes k)) (v .own-once (getD (listedBlocks slots dir k) s 0) b k s (w .0) l (w .1) q)
 
   -- slots below n
-  slot-is : (n b : ℕ) → b < blocks → ((k s : ℕ) → n ≤ k → owner b ≡ File k s → ⊥) → ((s : ℕ) → owner b ≡ File 0 s → ⊥) → owner b ≢ System → slotRecord slots n b ≡ owner b
+  slot-is : (n b : ℕ) → b < blocks → ((k s : ℕ) → n ≤ k → owner b ≡ File k s → ⊥)
+      → ((s : ℕ) → owner b ≡ File 0 s → ⊥) → owner b ≢ System → slotRecord slots n b ≡ owner b
   unfolding slotRecord orRecord listedBlocks takenBy position
   slot-is zero b l high low sys = sym (go (owner b) refl)
     where
@@ -108,9 +112,11 @@ module _ (slots : ℕ → Option FilledSlot) (dir : List ℕ) (owner : ℕ → R
   slot-is (suc (suc n)) b l high low sys =
       by-position (position b 0 (takenBy (slots (suc n))))
       (λ e. ap (λ (o : Option ℕ). orRecord (suc n) o (slotRecord slots (suc n) b)) e
-      ∙ slot-is (suc n) b l (λ k s h q. by-equal k (suc n) (λ p. miss b (suc n) s l e (q ∙ ap (λ (j : ℕ). File j s) p)) (λ p. high k s (omega arith) q)) low sys)
+      ∙ slot-is (suc n) b l (λ k s h q. by-equal k (suc n)
+      (λ p. miss b (suc n) s l e (q ∙ ap (λ (j : ℕ). File j s) p)) (λ p. high k s (omega arith) q)) low sys)
       (λ s e. ap (λ (o : Option ℕ). orRecord (suc n) o (slotRecord slots (suc n) b)) e ∙ sym (hit b (suc n) s e))
 
+  -- the record that the model finds for a block in its lists is the block's owner
   pub owner-is : (b : ℕ) → b < blocks → modelRecord slots dir peak b ≡ owner b
   unfolding modelRecord orRecord listedBlocks
   owner-is b l =
@@ -119,7 +125,8 @@ module _ (slots : ℕ → Option FilledSlot) (dir : List ℕ) (owner : ℕ → R
       (λ z. cond-false _ _ (eq-false z)
       ∙ by-position (position b 0 dir)
       (λ e. ap (λ (o : Option ℕ). orRecord 0 o (slotRecord slots (suc peak) b)) e
-      ∙ slot-is (suc peak) b l (λ k s h q. omega (arith, v .own-below b k s l q, past k (omega arith))) (λ s q. miss b 0 s l e q) (λ q. z (v .own-system b l q)))
+      ∙ slot-is (suc peak) b l (λ k s h q. omega (arith, v .own-below b k s l q, past k (omega arith)))
+      (λ s q. miss b 0 s l e q) (λ q. z (v .own-system b l q)))
       (λ s e. ap (λ (o : Option ℕ). orRecord 0 o (slotRecord slots (suc peak) b)) e ∙ sym (hit b 0 s e)))
 
 -- ---- blocks are given
@@ -154,6 +161,7 @@ give-at (x ∷ xs) owner f s i (suc j) t h =
     (w .0, w .1 ∙ ap (File f) z)
 
 module _ (slots slots′ : ℕ → Option FilledSlot) (dir dir′ : List ℕ) (owner : ℕ → Record) (parts : ℕ → ℕ) (r : BlocksListed slots dir owner parts) where
+  -- lists and owners agree after blocks are given to a file and put at the end of its list
   pub give-listed : (bs : List ℕ) (f s i : ℕ) → Picks blocks (freeOf owner) i bs → parts f ≡ s
       → ((k : ℕ) → k ≢ f → listedBlocks slots′ dir′ k ≡ listedBlocks slots dir k) → listedBlocks slots′ dir′ f ≡ listedBlocks slots dir f ++ bs
       → BlocksListed slots′ dir′ (give owner f s bs) (upd parts f (s + length bs))
@@ -184,7 +192,8 @@ module _ (slots slots′ : ℕ → Option FilledSlot) (dir dir′ : List ℕ) (o
             (λ a.
             let z : u ≡ length old + (u - s) = omega arith in
             let z′ : s + (u - s) ≡ u = omega arith in
-            let w : (getD bs (u - s) 0 < blocks) × (give owner f s bs (getD bs (u - s) 0) ≡ File f (s + (u - s))) = give-at bs owner f s i (u - s) t (omega arith) in
+            let w : (getD bs (u - s) 0 < blocks) × (give owner f s bs (getD bs (u - s) 0) ≡ File f (s + (u - s))) =
+            give-at bs owner f s i (u - s) t (omega arith) in
             goal (getD bs (u - s) 0) (w .0, w .1 ∙ ap (File f) z′)
             (ap (λ (j : ℕ). getD (old ++ bs) j 0) z ∙ getD-append-add old bs (u - s) 0)))
             (λ q.
@@ -193,12 +202,14 @@ module _ (slots slots′ : ℕ → Option FilledSlot) (dir dir′ : List ℕ) (o
             let y : getD (listedBlocks slots′ dir′ k) u 0 ≡ getD (listedBlocks slots dir k) u 0 = ap (λ (xs : List ℕ). getD xs u 0) (others k q) in (
               omega (arith, w .0),
               ap (give owner f s bs) y
-                  ∙ give-off bs owner f s i (getD (listedBlocks slots dir k) u 0) t (file-not-free owner (getD (listedBlocks slots dir k) u 0) k u (w .1)) ∙ w .1,
+                  ∙ give-off bs owner f s i (getD (listedBlocks slots dir k) u 0) t (file-not-free owner (getD (listedBlocks slots dir k) u 0) k u (w .1))
+                  ∙ w .1,
             ));
       }
 
   -- ---- a file's blocks are freed
 
+  -- lists and owners agree after a file's blocks are freed and its list is empty
   pub freed-listed : (f : ℕ) (parts′ : ℕ → ℕ) → ((k : ℕ) → k ≢ f → parts′ k ≡ parts k) → parts′ f ≡ 0
       → ((k : ℕ) → k ≢ f → listedBlocks slots′ dir′ k ≡ listedBlocks slots dir k) → listedBlocks slots′ dir′ f ≡ []
       → BlocksListed slots′ dir′ (λ (b : ℕ). unowned f (owner b)) parts′
@@ -210,11 +221,13 @@ module _ (slots slots′ : ℕ → Option FilledSlot) (dir dir′ : List ℕ) (o
         each = λ k u h.
             by-equal k f (λ q. absurd (omega (arith, ap parts′ q)))
             (λ q.
-            let w : (getD (listedBlocks slots dir k) u 0 < blocks) × (owner (getD (listedBlocks slots dir k) u 0) ≡ File k u) = r .each k u (omega (arith, e k q)) in
+            let w : (getD (listedBlocks slots dir k) u 0 < blocks) × (owner (getD (listedBlocks slots dir k) u 0) ≡ File k u) =
+            r .each k u (omega (arith, e k q)) in
             let y : getD (listedBlocks slots′ dir′ k) u 0 ≡ getD (listedBlocks slots dir k) u 0 = ap (λ (xs : List ℕ). getD xs u 0) (others k q) in
             (omega (arith, w .0), ap (λ (b : ℕ). unowned f (owner b)) y ∙ keeps f k u (owner (getD (listedBlocks slots dir k) u 0)) (w .1) q));
       }
 
+-- only how many parts each file has matters
 pub listed-cong : (slots : ℕ → Option FilledSlot) (dir : List ℕ) (owner : ℕ → Record) (parts parts′ : ℕ → ℕ) → ((k : ℕ) → parts k ≡ parts′ k)
     → BlocksListed slots dir owner parts → BlocksListed slots dir owner parts′
 listed-cong slots dir owner parts parts′ e r =

@@ -1,5 +1,5 @@
 -- What stands in a map record, in an entry and in the header that the inner model writes, and how many blocks a file has.
--- Rests on the laws of numbers in bytes.
+-- Rests on the laws of numbers in bytes (laws, Numbers).
 use mathlib.Core.Path.{_≡_, refl, ap, ap₂, _∙_}
 use mathlib.Core.Logic.{_≢_}
 use mathlib.Core.Bool.{true, false}
@@ -86,7 +86,7 @@ unfolding partsOf heldBlocks
 parts-none m zero e p = absurd (omega arith)
 parts-none m (suc k) e p = ap heldBlocks e
 
--- the directory has the blocks that its slots up to the highest take
+-- the directory has the blocks that its slots up to the peak take
 pub parts-dir : (m : Inner) → blocksOf (suc (m .peak) * slotBytes) ≡ partsOf m 0
 unfolding partsOf quotientUp dirBlocks
 parts-dir m = omega arith
@@ -94,17 +94,17 @@ parts-dir m = omega arith
 -- ---- the header's bytes
 
 module _ (m : Inner) where
-  -- the header field of whole directory blocks
+  -- the header's word of whole directory blocks
   pub at-34 : m .peak ≤ 460 → at16 (header m) 34 ≡ wholeBlocks (suc (m .peak))
   unfolding at16 bigEndian header diskHeaderByte patch
   at-34 h = high2-at (wholeBlocks (suc (m .peak))) (omega arith)
 
-  -- the header field of directory bytes over whole blocks
+  -- the header's word of directory bytes over whole blocks
   pub at-36 : at16 (header m) 36 ≡ bytesOver (suc (m .peak))
   unfolding at16 bigEndian header diskHeaderByte patch
   at-36 = high2-at (bytesOver (suc (m .peak))) (omega arith)
 
-  -- the header field of free sectors
+  -- the header's free word
   pub at-20 : at16 (header m) 20 ≡ freeWord (m .peak) (fileBlocks m)
   unfolding at16 bigEndian header diskHeaderByte patch freeWord
   at-20 = high2-at (blockSectors * (usable - (dirBlocks (m .peak) + fileBlocks m))) (omega arith)

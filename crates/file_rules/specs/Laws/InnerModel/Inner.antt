@@ -1,5 +1,5 @@
--- The inner model, which the proofs alone use: slots without their blocks, and for each block the record that it has.
--- Assumes nothing.
+-- The inner model, which the proofs alone use: slots without their blocks, and for each block the record that it has (its owner).
+-- Definitions whose names begin with `inner` are its calls and steps; they mirror those of the model (Model.antt). Rests on the definitions alone.
 use mathlib.Core.Bool.{Bool, not, cond, _&&_}
 use mathlib.Core.List.{List, [], _∷_}
 use mathlib.Core.Option.{none, some}
@@ -24,6 +24,7 @@ use Rattle.file_rules.specs.Map.{isFree}
 use Rattle.file_rules.specs.Model.{NamedFile, HeldFile, heldBlocks, dirBlocks, usable, freeWord, content, hasName, heldEntries, heldData, wrap}
 use Rattle.file_rules.specs.Written.{diskHeaderByte, diskWith, blocksFor}
 
+-- the inner model's state
 pub record Inner : Type 0 where
   -- given at format
   pub arguments : FormatArguments
@@ -38,61 +39,72 @@ pub record Inner : Type 0 where
 
 -- ---- sizes
 
+-- how many files are present
 unfoldable pub presentCount : Inner → ℕ
 presentCount m = count (suc (m .peak)) (λ (k : ℕ). isSome (m .slots k))
 
--- S of demand 3
+-- S: the blocks of all files present (§9.7)
 unfoldable pub fileBlocks : Inner → ℕ
 fileBlocks m = sum (suc (m .peak)) (λ (k : ℕ). heldBlocks (m .slots k))
 
 -- ---- the image of a model
 
+-- the header of the inner model's disk
 unfoldable pub header : Inner → ℕ → ℕ
 header m = diskHeaderByte (m .arguments) (m .updates) (freeWord (m .peak) (fileBlocks m)) (suc (m .peak))
 
+-- the inner model's disk
 unfoldable pub render : Inner → Disk
 render m = diskWith (header m) (m .owner) (content (m .slots) (m .slots))
 
 -- ---- the steps
 
+-- slots without a file
 unfoldable pub emptySlots : ℕ → HeldFile
 emptySlots k = none
 
+-- the inner model after a format: no file, and block 1 is the directory's
 unfoldable pub innerFormat : FormatArguments → Inner
 innerFormat args = record { arguments = args; updates = 0; peak = 0; slots = emptySlots; owner = freshOwner }
 
--- the slot of that name, or the first past the peak
+-- the slot of the file with that name, or the first past the peak
 unfoldable pub innerFind : Inner → List ℕ → ℕ
 innerFind m name = lowest (λ (k : ℕ). hasName name (m .slots k)) (suc (m .peak))
 
--- the lowest empty slot
+-- the lowest empty slot from 1 on, or the first past the peak
 unfoldable pub emptySlot : Inner → ℕ
 emptySlot m = lowest (λ (k : ℕ). (ltb 0 k && not (isSome (m .slots k)))) (suc (m .peak))
 
--- the blocks are given to file f, from place s on
+-- the owners after these blocks are given to file f, with sequences from s on
 unfoldable pub give : (ℕ → Record) → ℕ → ℕ → List ℕ → ℕ → Record
 give owner f s [] = owner
 give owner f s (b ∷ bs) = give (upd owner b (File f s)) f (suc s) bs
 
+-- whether a block is free by its owner
 unfoldable pub freeOf : (ℕ → Record) → ℕ → Bool
 freeOf owner b = isFree (owner b)
 
+-- the inner model's list: 16 or the entries
 unfoldable pub innerList : Inner → List ℕ → Outcome
 innerList m buf = deliver (heldEntries (m .slots) (suc (m .peak))) buf
 
+-- the inner model's read: 12, 14, 16 or the data
 unfoldable pub innerRead : Inner → List ℕ → List ℕ → Outcome
 innerRead m name buf =
     cond (nameRight name)
     (cond (ltb (innerFind m name) (suc (m .peak))) (deliver (heldData (m .slots (innerFind m name))) buf) (bufferKept buf (refusal 14)))
     (bufferKept buf (refusal 12))
 
+-- a reply, and the inner model after it
 pub record InnerChanged : Type 0 where
   pub answer : Reply
   pub modelAfter : Inner
 
+-- a refusal leaves the inner model as it was
 unfoldable pub innerRefused : Inner → Reply → InnerChanged
 innerRefused m r = record { answer = r; modelAfter = m }
 
+-- slot k is emptied, and its file's blocks are free
 unfoldable pub innerRemoveAt : Inner → ℕ → Inner
 innerRemoveAt m k =
     record {
@@ -103,6 +115,7 @@ innerRemoveAt m k =
       owner = λ (b : ℕ). unowned k (m .owner b);
     }
 
+-- the inner model's remove: 12, 14 or done
 unfoldable pub innerRemove : Inner → List ℕ → InnerChanged
 innerRemove m name =
     cond (nameRight name)
@@ -110,14 +123,17 @@ innerRemove m name =
     (innerRefused m (refusal 14)))
     (innerRefused m (refusal 12))
 
+-- the owners once the directory has the blocks for this peak: a new one is the lowest free
 unfoldable pub growOwner : Inner → ℕ → ℕ → Record
 growOwner m peak =
     cond (ltb (dirBlocks (m .peak)) (dirBlocks peak))
     (give (m .owner) 0 (dirBlocks (m .peak)) (firsts blocks 1 (freeOf (m .owner)))) (m .owner)
 
+-- the peak once a file more is present
 unfoldable pub peakAfter : Inner → ℕ
 peakAfter m = max (m .peak) (suc (presentCount m))
 
+-- slot k is filled; the file's blocks are the lowest free, in sequence
 unfoldable pub innerAddAt : Inner → ℕ → NamedFile → Inner
 innerAddAt m k x =
     let owner₁ : ℕ → Record = growOwner m (peakAfter m) in
@@ -129,10 +145,11 @@ innerAddAt m k x =
       owner = give owner₁ k 0 (firsts blocks (blocksFor (length (x .content))) (freeOf owner₁));
     }
 
--- whether demand 3's word, this file counted, stays at zero or above
+-- whether directory and files, this file counted, need no more blocks than there are (§9.7)
 unfoldable pub roomFor : Inner → NamedFile → Bool
 roomFor m x = leb (dirBlocks (peakAfter m) + (fileBlocks m + blocksFor (length (x .content)))) usable
 
+-- the inner model's add: 12, 13 with the slot, 15 or done
 unfoldable pub innerAdd : Inner → NamedFile → InnerChanged
 innerAdd m x =
     cond (nameRight (x .name))
@@ -142,22 +159,26 @@ innerAdd m x =
 
 -- ---- histories
 
+-- the inner model after a call
 unfoldable pub innerStep : Inner → Call → Inner
 innerStep m (toAdd x) = innerAdd m x .modelAfter
 innerStep m (toRemove name) = innerRemove m name .modelAfter
 innerStep m (toList buf) = m
 innerStep m (toRead name buf) = m
 
+-- reply and result buffer of a call
 unfoldable pub innerOut : Inner → Call → Outcome
 innerOut m (toAdd x) = bufferKept [] (innerAdd m x .answer)
 innerOut m (toRemove name) = bufferKept [] (innerRemove m name .answer)
 innerOut m (toList buf) = innerList m buf
 innerOut m (toRead name buf) = innerRead m name buf
 
+-- replies and result buffers of a history, each call on what the last left
 unfoldable pub innerOuts : Inner → List Call → List Outcome
 innerOuts m [] = []
 innerOuts m (c ∷ cs) = innerOut m c ∷ innerOuts (innerStep m c) cs
 
+-- the inner model at the end of a history
 unfoldable pub innerEnd : Inner → List Call → Inner
 innerEnd m [] = m
 innerEnd m (c ∷ cs) = innerEnd (innerStep m c) cs

@@ -23,7 +23,8 @@ use Rattle.sector_rules.specs.Faults.{faultBelow, refusalAt}
 use Rattle.sector_rules.specs.Geometry.{blocks, sidePlace, backward}
 use Rattle.file_rules.specs.declared.Record.{Record}
 use Rattle.file_rules.specs.declared.Record.the-variants.{Free, System, File, Other}
-use Rattle.file_rules.specs.Check.{diskSignature, lengthRight, dimensionsFault, diskHeaderFault, recordFault, mapFault, partsRight, noRecordBears, newName}
+use Rattle.file_rules.specs.Check.{diskSignature, lengthRight, dimensionsFault, diskHeaderFault}
+use Rattle.file_rules.specs.Check.{recordFault, mapFault, partsRight, noRecordBears, newName}
 use Rattle.file_rules.specs.Check.{entryRight, fileRight, fileFault, freeRight, refusal8, refusal9, refusal10, refusal11, diskRefusal}
 use Rattle.file_rules.specs.Directory.{nameEq, slotEntry, slotName, held, dirBytes, dirEnd}
 use Rattle.file_rules.specs.Disk.{Disk}
@@ -31,7 +32,7 @@ use Rattle.file_rules.specs.Laws.InnerModel.Inner.{Inner, header, render
 use Rattle.file_rules.specs.Laws.InnerModel.Invariant.{partsOf, Inv}
 use Rattle.file_rules.specs.Laws.Base.Whole.{Valid}
 use Rattle.file_rules.specs.Map.{recordAt, isSystem, isOther, bears, isPart, within, freeCount}
-use Rattle.file_rules.specs.Model.{NamedFile, HeldFile, freeWord, content, hasName}
+use Rattle.file_rules.specs.Model.{NamedFile, HeldFile, freeWord, content}
 use Rattle.file_rules.specs.Sizes.{blockBytes, slotBytes, slotCount, mapStart, nameMost, freeSectors, blocksOf}
 use Rattle.file_rules.specs.Laws.InnerModel.Fields.{isPart-true, true-isPart, parts-some, parts-none, parts-dir, signature-at, side-at, back-at}
 use Rattle.file_rules.specs.Laws.InnerModel.Fields.{fixed-at}

@@ -1,10 +1,10 @@
 -- Blocks given and freed: each part of a file keeps one block, and the free blocks are counted.
--- Assumes nothing.
+-- Rests on the invariant (Invariant) and on the tests of records (Fields).
 use mathlib.Core.Path.{_≡_, refl, sym, ap, ap₂, _∙_, subst}
 use mathlib.Core.Logic.{_≢_}
 use mathlib.Core.Bool.{Bool, true, false, _&&_, _||_}
 use mathlib.Core.List.{List, [], _∷_}
-use Prim.Native.Nat.{ℕ, zero, suc, _+_, _≤_, _<_}
+use Prim.Native.Nat.{ℕ, zero, suc, _+_, _/_, _≤_, _<_}
 use native.Mathlib.Omega.{arith}
 use lib.Dec.{ltb, eqb}
 use lib.ListN.{length}
@@ -23,10 +23,11 @@ use Rattle.file_rules.specs.Laws.InnerModel.Fields.{isPart-true, true-is
 use Rattle.file_rules.specs.Laws.InnerModel.Inner.{give, freeOf}
 use Rattle.file_rules.specs.Laws.InnerModel.Invariant.{Owned}
 use Rattle.file_rules.specs.Laws.Base.Whole.{Valid, unowned}
-use Rattle.file_rules.specs.Map.{isFree, isSystem, bears, isPart}
+use Rattle.file_rules.specs.Map.{fileBound, sequences, isFree, isSystem, bears, isPart}
 
 -- ---- one record freed
 
+-- a record that bears file k is file k's, with some sequence
 pub bears-true : (k : ℕ) (r : Record) → bears k r ≡ true → (s : ℕ) × (r ≡ File k s)
 unfolding bears
 bears-true k Free e = true≢false false e refl
@@ -34,14 +35,17 @@ bears-true k System e = true≢false false e refl
 bears-true k Other e = true≢false false e refl
 bears-true k (File f s) e = (s, ap (λ (x : ℕ). File x s) (true-eq e))
 
+-- a record of another file does not bear file k
 pub file-apart : (k f s : ℕ) → f ≢ k → bears k (File f s) ≡ false
 unfolding bears
 file-apart k f s q = eq-false q
 
+-- freeing file k keeps the records of other files
 pub keeps : (k f s : ℕ) (r : Record) → r ≡ File f s → f ≢ k → unowned k r ≡ File f s
 unfolding unowned
 keeps k f s r e q = cond-false _ _ (ap (bears k) e ∙ file-apart k f s q) ∙ e
 
+-- a file's record that is left after file k is freed was there before and is not file k's
 pub unowned-file : (k f s : ℕ) (r : Record) → unowned k r ≡ File f s → (r ≡ File f s) × (f ≢ k)
 unfolding unowned isFree
 unowned-file k f s r e =
@@ -83,12 +87,14 @@ free-apart k (File f s) = refl
 
 -- ---- a file's blocks are as many as its parts
 
+-- whether a record is one of the first n parts of file k
 unfoldable pub partBelow : ℕ → ℕ → Record → Bool
 partBelow k n Free = false
 partBelow k n System = false
 partBelow k n Other = false
 partBelow k n (File f s) = (eqb f k && ltb s n)
 
+-- the first n + 1 parts are the first n and part n
 pub below-suc : (k n : ℕ) (r : Record) → partBelow k (suc n) r ≡ (partBelow k n r || isPart k n r)
 unfolding partBelow isPart
 below-suc k n Free = refl
@@ -106,6 +112,7 @@ below-suc k n (File f s) =
     ∙ sym (or-none A B (and-false-right (eqb f k) (lt-false h)) (and-false-right (eqb f k) (eq-false q))))))
     (λ t. and-false-left (ltb s (suc n)) t ∙ sym (or-none A B (and-false-left (ltb s n) t) (and-false-left (eqb s n) t)))
 
+-- part n is none of the first n
 pub below-apart : (k n : ℕ) (r : Record) → (partBelow k n r && isPart k n r) ≡ false
 unfolding partBelow isPart
 below-apart k n Free = refl
@@ -159,6 +166,7 @@ module _ (owner : ℕ → Record) (parts : ℕ → ℕ) (v : Owned owner parts) 
   abbrev owner′ : ℕ → Record
   owner′ b = unowned k (owner b)
 
+  -- freeing file k frees as many blocks as it has
   pub freed-count : count blocks (freeOf owner′) ≡ count blocks (freeOf owner) + parts k
   unfolding freeOf
   freed-count =
@@ -166,6 +174,7 @@ module _ (owner : ℕ → Record) (parts : ℕ → ℕ) (v : Owned owner parts) 
       ∙ count-or blocks (λ (b : ℕ). isFree (owner b)) (λ (b : ℕ). bears k (owner b)) (λ b l. free-apart k (owner b))
       ∙ ap (λ (x : ℕ). count blocks (λ (b : ℕ). isFree (owner b)) + x) count-bears
 
+  -- after file k is freed, each part of the other files has one block, and file k has none
   pub freed-owned : (parts′ : ℕ → ℕ) → ((f : ℕ) → f ≢ k → parts′ f ≡ parts f) → parts′ k ≡ 0 → Owned owner′ parts′
   unfolding unowned bears
   freed-owned parts′ e z =
@@ -186,6 +195,7 @@ module _ (owner : ℕ → Record) (parts : ℕ → ℕ) (v : Owned owner parts) 
 
 -- ---- blocks are given
 
+-- only how many parts each file has matters
 pub owned-cong : (owner : ℕ → Record) (parts parts′ : ℕ → ℕ) → ((f : ℕ) → parts f ≡ parts′ f) → Owned owner parts → Owned owner parts′
 owned-cong owner parts parts′ e v =
     record {
@@ -204,7 +214,7 @@ file-part : (f s g t : ℕ) → File f s ≡ File g t → s ≡ t
 file-part f s g t e = cc
 
 module _ (owner : ℕ → Record) (parts : ℕ → ℕ) (v : Owned owner parts) (b f : ℕ) (inside : b < blocks) (was : owner b ≡ Free)
-    (small : f < 3968) (few : parts f < 4096) where
+    (small : f < fileBound / sequences) (few : parts f < sequences) where
   abbrev given : ℕ → Record
   given = upd owner b (File f (parts f))
 
@@ -268,15 +278,17 @@ free-is-free System e = true≢false false e refl
 free-is-free (File f s) e = true≢false false e refl
 free-is-free Other e = true≢false false e refl
 
--- the rest of the list is still free
-pub still-free : (owner : ℕ → Record) (b : ℕ) (r : Record) (bs : List ℕ) → Picks blocks (freeOf owner) (suc b) bs → Picks blocks (freeOf (upd owner b r)) (suc b) bs
+-- giving block b away leaves the later ones of an increasing list of free blocks free
+pub still-free : (owner : ℕ → Record) (b : ℕ) (r : Record) (bs : List ℕ)
+    → Picks blocks (freeOf owner) (suc b) bs → Picks blocks (freeOf (upd owner b r)) (suc b) bs
 unfolding freeOf
 still-free owner b r bs t =
     picks-cong blocks (freeOf owner) (freeOf (upd owner b r)) (suc b) bs
     (λ j h l a. ap isFree (upd-other owner b r j (omega arith)) ∙ a) t
 
-pub give-owned : (bs : List ℕ) (owner : ℕ → Record) (parts : ℕ → ℕ) (f s i : ℕ) → Owned owner parts → Picks blocks (freeOf owner) i bs → f < 3968
-    → parts f ≡ s → s + length bs ≤ 4096 → Owned (give owner f s bs) (upd parts f (s + length bs))
+-- after free blocks are given to file f as its next parts, each part of each file has one block
+pub give-owned : (bs : List ℕ) (owner : ℕ → Record) (parts : ℕ → ℕ) (f s i : ℕ) → Owned owner parts → Picks blocks (freeOf owner) i bs
+    → f < fileBound / sequences → parts f ≡ s → s + length bs ≤ sequences → Owned (give owner f s bs) (upd parts f (s + length bs))
 unfolding give freeOf
 give-owned [] owner parts f s i v t small e few =
     owned-cong owner parts (upd parts f (s + 0))
@@ -292,6 +304,7 @@ give-owned (b ∷ bs) owner parts f s i v t small e few =
     (give-owned bs (upd owner b (File f s)) (upd parts f (suc s)) f (suc s) (suc b) one′ (still-free owner b (File f s) bs (t .3)) small
     (upd-same parts f (suc s) f refl) (omega arith))
 
+-- giving free blocks away leaves as many fewer free
 pub give-count : (bs : List ℕ) (owner : ℕ → Record) (f s i : ℕ) → Picks blocks (freeOf owner) i bs
     → count blocks (freeOf (give owner f s bs)) + length bs ≡ count blocks (freeOf owner)
 unfolding give freeOf isFree

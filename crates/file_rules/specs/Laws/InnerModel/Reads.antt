@@ -1,4 +1,4 @@
--- What is read of the inner model's disk: the header, the map, the directory, a file's content; so list and read give what the model gives.
+-- What is read of the inner model's disk: the header, the map, the directory, a file's content; so list and read give what the inner model gives.
 -- Rests on the fields of records, entries and the header (Fields), and on how a whole disk is read (Base.Whole).
 use mathlib.Core.Path.{_≡_, refl, sym, ap, ap₂, _∙_}
 use mathlib.Core.Logic.{_≢_}
@@ -47,7 +47,7 @@ module _ (m : Inner) (v : Inv m) where
   unfolding render
   P = with-is (header m) (m .owner) (content (m .slots) (m .slots))
 
-  -- the map record of a block is that of the block's owner
+  -- the map record of a block is its owner
   pub rec : (b : ℕ) → b < blocks → recordAt d b ≡ m .owner b
   rec b h = record-is d (header m) (m .owner) (content (m .slots) (m .slots)) P b h (v .own .own-valid b h)
 
@@ -59,7 +59,7 @@ module _ (m : Inner) (v : Inv m) where
 
   -- ---- the header
 
-  -- a two-byte field of the header is read as it was written
+  -- a word of the header is read as it was written
   pub head16 : (o : ℕ) → o + 1 < mapStart → at16 (d 0) o ≡ at16 (header m) o
   head16 o h = at16-is (d 0) o ∙ ap₂ (λ (x y : ℕ). x * 256 + y) (P .head o (omega arith)) (P .head (o + 1) h) ∙ sym (at16-is (header m) o)
 
@@ -77,21 +77,21 @@ module _ (m : Inner) (v : Inv m) where
   pub word36 : at16 (d 0) 36 ≡ bytesOver (suc (m .peak))
   word36 = head16 36 (omega arith) ∙ at-36 m
 
-  -- the directory length that is read is that of all slots up to the highest
+  -- the directory length that is read is that of all slots up to the peak
   pub dirBytes-is : dirBytes d ≡ suc (m .peak) * slotBytes
   unfolding dirBytes
   dirBytes-is = ap₂ (λ (x y : ℕ). x * blockBytes + y) word34 word36 ∙ omega arith
 
-  -- the end of the directory that is read is one past the highest slot
+  -- the end of the directory that is read is the first slot past the peak
   pub dirEnd-is : dirEnd d ≡ suc (m .peak)
   unfolding dirEnd
   dirEnd-is = ap (λ (x : ℕ). x / slotBytes) dirBytes-is ∙ omega arith
 
-  -- the free sectors that are read are those that the model has
+  -- the free word that is read is the inner model's
   pub word20 : at16 (d 0) 20 ≡ freeWord (m .peak) (fileBlocks m)
   word20 = head16 20 (omega arith) ∙ at-20 m
 
-  -- as many blocks are read as free as have no owner
+  -- as many blocks are read as free as have the free owner
   pub freeCount-at : freeCount d ≡ count blocks (freeOf (m .owner))
   unfolding freeOf
   freeCount-at = freeCount-is d (header m) (m .owner) (content (m .slots) (m .slots)) P (v .own .own-valid)
@@ -113,7 +113,7 @@ module _ (m : Inner) (v : Inv m) where
       ∙ P .block (w .0) o (omega arith) (w .1) l
       ∙ ap (λ (r : Record). content (m .slots) (m .slots) r o) (w .2)
 
-  -- the bytes of a slot that are read are those of the model's slot
+  -- the bytes of a slot that are read are those of the inner model's slot
   pub slot-is : (k i : ℕ) → k ≤ m .peak → i < slotBytes → slotByte d k i ≡ slotOf (m .slots k) i
   unfolding slotByte partsOf dirBlocks content dirByte
   slot-is k i h l =
@@ -123,7 +123,7 @@ module _ (m : Inner) (v : Inv m) where
       ∙ ap₂ (λ (x y : ℕ). slotOf (m .slots x) y) e e′
 
   module _ (k : ℕ) (h : k ≤ m .peak) where
-    -- a slot holds a file on the disk if it does in the model
+    -- a slot is held on the disk if it has a file in the inner model
     pub held-is : (l : HeldFile) → m .slots k ≡ l → held d k ≡ isSome l
     unfolding held isSome slotOf
     held-is none e =
@@ -139,7 +139,7 @@ module _ (m : Inner) (v : Inv m) where
         (eq-false {a = slotByte d k 15} {b = 0} (λ z. omega (arith, v .slot-name k x e .0)))))
 
     module _ (x : NamedFile) (e : m .slots k ≡ some x) where
-      size-fits : slotBytes + length (x .content) ≤ 735744
+      size-fits : slotBytes + length (x .content) ≤ usable * blockBytes
       unfolding fileBlocks heldBlocks blocksFor quotientUp
       size-fits =
           let one : heldBlocks (m .slots k) ≤ fileBlocks m = sum-at (suc (m .peak)) k (λ (j : ℕ). heldBlocks (m .slots j)) (omega arith) in
@@ -188,7 +188,7 @@ module _ (m : Inner) (v : Inv m) where
         cond-true _ _ (held-is (some x) e)
         ∙ tab-ext (slotByte d k) (entryByte (entryFor (x .name) (x .date) (length (x .content)))) slotBytes (entry-is x e)
 
-  -- a name is found on the disk in the slot in which it is found in the model
+  -- a name is found on the disk in the slot in which it is found in the inner model
   pub findName-is : (name : List ℕ) → findName d name ≡ innerFind m name
   unfolding findName innerFind
   findName-is name =
@@ -196,7 +196,7 @@ module _ (m : Inner) (v : Inv m) where
       ∙ lowest-cong (λ (k : ℕ). (held d k && nameEq (slotName d k) name)) (λ (k : ℕ). hasName name (m .slots k)) (suc (m .peak))
       (λ k h. named-is k (omega arith) name (m .slots k) refl)
 
-  -- the first vacant slot of the disk is the first empty one of the model
+  -- the lowest vacant slot of the disk is the lowest empty one of the inner model
   pub vacantSlot-is : vacantSlot d ≡ emptySlot m
   unfolding vacantSlot emptySlot
   vacantSlot-is =
@@ -252,7 +252,7 @@ module _ (m : Inner) (v : Inv m) where
       go none e t = true≢false (hasName name (m .slots (innerFind m name))) t (ap (hasName name) e)
       go (some x) e t = (x, e, sym (ap (hasName name) e) ∙ t, pos x e)
 
-  -- list gives on the disk what it gives in the model
+  -- list gives on the disk what it gives in the inner model
   pub list-is : (buf : List ℕ) → listSound d buf ≡ innerList m buf
   unfolding listSound innerList
   list-is buf = ap (λ (xs : List ℕ). deliver xs buf) entries-is
@@ -262,7 +262,7 @@ module _ (m : Inner) (v : Inv m) where
   data-is zero x p h e = absurd (omega arith)
   data-is (suc k) x p h e = readAt-is k x h e ∙ sym (ap heldData e)
 
-  -- read gives on the disk what it gives in the model
+  -- read gives on the disk what it gives in the inner model
   pub read-is : (name buf : List ℕ) → readSound d name buf ≡ innerRead m name buf
   unfolding readSound innerRead
   read-is name buf =

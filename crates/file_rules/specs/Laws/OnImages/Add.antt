@@ -1,6 +1,6 @@
--- A file added to an image of the inner model is the image of the model with the file added, step by step:
+-- Add on the inner model's disk gives the disk of the inner model after it, step by step:
 -- the directory's new block, the file's blocks, its slot, the directory's end, the header.
--- Rests on the slot that is filled (Slot) and on the model after the call (Added).
+-- Rests on the slot that is filled (Slot) and on the inner model after the call (Added).
 use mathlib.Core.Path.{_≡_, refl, sym, ap, ap₂, _∙_, subst}
 use mathlib.Core.Bool.{false}
 use mathlib.Core.List.{List}
@@ -176,7 +176,7 @@ module _ (m : Inner) (v : Inv m) (x : NamedFile) (right : (1 ≤ length (x .name
       (subst (λ (z : ℕ). With (setEnd d₃ (suc kk)) (diskHeaderByte (m .arguments) (m .updates) w z) (m′ .owner) (content L′ L′)) e
       (end-step (m .arguments) (m .updates) w (suc (m .peak)) (m′ .owner) (content L′ L′) d₃ slotted (suc kk))))
 
-  -- the image with the file added is that of the model with the file added
+  -- the disk after an add is that of the inner model after it
   pub add-image : addAt (render m) kk (entryFrom x) (x .content) ≡ render m′
   unfolding addAt render innerAddAt header
   add-image =

@@ -161,7 +161,7 @@ module _ (m : Inner) (v : Inv m) (x : NamedFile) (right : (1 ≤ length (x .name
       (λ j l. ap heldBlocks (upd-other (m .slots) kk (some x) j (omega arith))))
       (ap (λ (j : ℕ). heldBlocks (L′ j)) (sym e) ∙ slot-n))
 
-  -- the slot that is filled is at most the highest slot after the call
+  -- the slot that is filled is at most the peak after the call
   pub k-in : kk ≤ peakAfter m
   k-in = by-order kk (suc (m .peak)) (λ h. omega (arith, peak-same m v (omega arith))) (λ h. omega (arith, k-le m v, peak-more m v (omega (arith, k-le m v))))
 

@@ -1,5 +1,5 @@
--- Remove on the inner model's disk gives the disk of the inner model after it, and the invariant holds still.
--- Assumes nothing.
+-- Remove on the inner model's disk gives the disk of the inner model after it, and the invariant still holds.
+-- Rests on blocks freed (InnerModel.Owners), on the last steps (InnerModel.Last) and on how a whole disk changes (Base.Whole).
 use mathlib.Core.Path.{_≡_, refl, sym, ap, _∙_, subst}
 use mathlib.Core.Logic.{_≢_}
 use mathlib.Core.Option.{none, some}
@@ -26,7 +26,7 @@ use Rattle.file_rules.specs.Model.{NamedFile, HeldFile, heldBlocks, dirB
 use Rattle.file_rules.specs.Sizes.{blockSlots, freeSectors}
 use Rattle.file_rules.specs.Written.{diskHeaderByte, part, zeros, setSlot, freeBlocks}
 
--- a slot that is not the one written
+-- writing slot k leaves the others as they were
 pub kept-slot : (L : ℕ → HeldFile) (k : ℕ) (x y : HeldFile) (j : ℕ) → upd L k y j ≡ x → (j ≢ k) → L j ≡ x
 kept-slot L k x y j e q = sym (upd-other L k y j q) ∙ e
 
@@ -40,11 +40,13 @@ module _ (m : Inner) (v : Inv m) (k : ℕ) (pos : 0 < k) (low : k ≤ m .peak) w
   abbrev own′ : ℕ → Record
   own′ b = unowned k (m .owner b)
 
+  -- the other files keep as many blocks
   pub parts-other : (f : ℕ) → f ≢ k → partsOf m′ f ≡ partsOf m f
   unfolding partsOf innerRemoveAt
   parts-other zero q = refl
   parts-other (suc f) q = ap heldBlocks (upd-other (m .slots) k none (suc f) q)
 
+  -- the removed file has no block
   pub parts-gone : partsOf m′ k ≡ 0
   parts-gone = go k refl
     where
@@ -74,6 +76,7 @@ module _ (m : Inner) (v : Inv m) (k : ℕ) (pos : 0 < k) (low : k ≤ m .peak) w
   unfolding partsOf innerRemoveAt dirBlocks
   in-dir = omega arith
 
+  -- the invariant holds after a remove
   pub remove-inv : Inv m′
   unfolding innerRemoveAt fileBlocks wrap
   remove-inv =
@@ -82,7 +85,8 @@ module _ (m : Inner) (v : Inv m) (k : ℕ) (pos : 0 < k) (low : k ≤ m .peak) w
         slot-zero = upd-other (m .slots) k none 0 (omega arith) ∙ v .slot-zero;
         slot-past = λ j h. upd-other (m .slots) k none j (omega arith) ∙ v .slot-past j h;
         slot-name = λ j x e.
-            by-equal j k (λ q. absurd (some-none x (sym (upd-same (m .slots) k none j q) ∙ e))) (λ q. v .slot-name j x (kept-slot (m .slots) k (some x) none j e q));
+            by-equal j k (λ q. absurd (some-none x (sym (upd-same (m .slots) k none j q) ∙ e)))
+            (λ q. v .slot-name j x (kept-slot (m .slots) k (some x) none j e q));
         slot-once = λ i j x y e e′ n.
             by-equal i k (λ q. absurd (some-none x (sym (upd-same (m .slots) k none i q) ∙ e)))
             (λ q. by-equal j k (λ r. absurd (some-none y (sym (upd-same (m .slots) k none j r) ∙ e′)))
@@ -111,6 +115,7 @@ module _ (m : Inner) (v : Inv m) (k : ℕ) (pos : 0 < k) (low : k ≤ m .peak) w
           unfold content in
           ap (λ (x : HeldFile). part (heldBytes x) s o) (sym (upd-other (m .slots) k none (suc f) (unowned-file k (suc f) s (m .owner b) e .1)))
 
+  -- the disk after a remove is that of the inner model after it
   pub remove-image : removeAt (render m) k ≡ render m′
   unfolding removeAt render innerRemoveAt header
   remove-image =
@@ -125,10 +130,12 @@ module _ (m : Inner) (v : Inv m) (k : ℕ) (pos : 0 < k) (low : k ≤ m .peak) w
       let p₃ : With d₂ h own′ (content L′ L′) =
       with-same d₂ h own′ (content L′ (m .slots)) p₂ h own′ (content L′ L′) (λ o l. refl) (λ b l. refl) (λ b o i j l. file-slots b o j) in
       let w : freeSectors (count blocks (freeOf own′)) ≡ freeWord (m .peak) (fileBlocks m′) = unfold freeWord in omega (arith, remove-inv .free-sum) in
-      let p₄ = finish (m .arguments) (m .updates) (freeWord (m .peak) (fileBlocks m)) (suc (m .peak)) own′ (content L′ L′) d₂ p₃ (owned .own-valid) (v .updates-fit) in
+      let p₄ =
+      finish (m .arguments) (m .updates) (freeWord (m .peak) (fileBlocks m)) (suc (m .peak)) own′ (content L′ L′) d₂ p₃ (owned .own-valid) (v .updates-fit) in
       with-only (header m′) own′ (content L′ L′) (removeAt (render m) k)
       (subst (λ (x : ℕ). With (removeAt (render m) k) (diskHeaderByte (m .arguments) (wrap (m .updates + 1)) x (suc (m .peak))) own′ (content L′ L′)) w p₄)
 
+  -- one file fewer is present
   pub present-remove : (x : NamedFile) → m .slots k ≡ some x → presentCount m ≡ suc (presentCount m′)
   unfolding presentCount innerRemoveAt isSome
   present-remove x e =

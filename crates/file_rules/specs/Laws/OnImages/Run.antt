@@ -1,5 +1,5 @@
--- Every history on an image gives what the inner model gives, outcome by outcome, and ends with its image.
--- Assumes nothing.
+-- Every history on an image gives what the inner model gives, reply by reply, and ends with its image.
+-- Rests on reads and judgements of the inner model's disk (InnerModel.Reads, Judgements) and on Add and Remove.
 use mathlib.Core.Path.{_≡_, refl, sym, ap, ap₂, _∙_, subst}
 use mathlib.Core.Bool.{true}
 use mathlib.Core.List.{List, [], _∷_}
@@ -17,7 +17,8 @@ use Rattle.sector_rules.specs.Replies.{reply, done, refusal}
 use Rattle.sector_rules.specs.declared.Reply.{Reply}
 use Rattle.file_rules.specs.declared.Record.{Record}
 use Rattle.file_rules.specs.declared.Record.the-variants.{Free, System, File, Other}
-use Rattle.file_rules.specs.Calls.{Outcome, DiskChanged, ImageChanged, bufferKept, diskKept, imageRight, onSound, freshOwner, freshHeader, formatDisk, format, list, read, addSound, imaged, add, removeSound, remove}
+use Rattle.file_rules.specs.Calls.{Outcome, DiskChanged, ImageChanged, bufferKept, diskKept, imageRight, onSound, freshOwner}
+use Rattle.file_rules.specs.Calls.{freshHeader, formatDisk, format, list, read, addSound, imaged, add, removeSound, remove}
 use Rattle.file_rules.specs.Check.{diskRefusal}
 use Rattle.file_rules.specs.Directory.{nameEq, nameRight}
 use Rattle.file_rules.specs.Arguments.{FormatArguments}
@@ -30,7 +31,9 @@ use Rattle.file_rules.specs.Laws.Base.Disk.{length-image, disk-image}
 use Rattle.file_rules.specs.Laws.Base.OnSound.{sound-passed}
 use Rattle.file_rules.specs.Laws.InnerModel.Reads.{dirEnd-is, findName-is, vacantSlot-is, found-slot, list-is, read-is}
 use Rattle.file_rules.specs.Laws.InnerModel.Judgements.{disk-refusal-none}
-use Rattle.file_rules.specs.Laws.InnerModel.Inner.{Inner, fileBlocks, header, render, emptySlots, innerFormat, innerFind, emptySlot, freeOf, InnerChanged, innerRefused, innerRemoveAt, innerRemove, innerAddAt, roomFor, innerAdd, innerStep, innerOut, innerOuts, innerEnd}
+use Rattle.file_rules.specs.Laws.InnerModel.Inner.{Inner, fileBlocks, header, render, emptySlots, innerFormat, innerFind, emptySlot}
+use Rattle.file_rules.specs.Laws.InnerModel.Inner.{freeOf, InnerChanged, innerRefused, innerRemoveAt, innerRemove, innerAddAt}
+use Rattle.file_rules.specs.Laws.InnerModel.Inner.{roomFor, innerAdd, innerStep, innerOut, innerOuts, innerEnd}
 use Rattle.file_rules.specs.Laws.InnerModel.Invariant.{partsOf, Inv}
 use Rattle.file_rules.specs.Laws.Base.Names.{name-bounds}
 use Rattle.file_rules.specs.Laws.OnImages.Remove.{remove-inv, remove-image}
@@ -56,6 +59,7 @@ blank Other o = refl
 blank (File zero s) o = refl
 blank (File (suc f) s) o = by-test (ltb o blockBytes) (λ t. cond-true _ _ t) (λ t. cond-false _ _ t)
 
+-- a formatted disk is that of the inner model after the format
 pub format-is : (args : FormatArguments) → formatDisk args ≡ render (innerFormat args)
 unfolding formatDisk render innerFormat header freeWord fileBlocks dirBlocks sum heldBlocks emptySlots
 format-is args =
@@ -88,6 +92,7 @@ unfolding freshOwner partsOf innerFormat dirBlocks heldBlocks emptySlots
 fresh-part args zero s h = (1, omega arith, ap (File 0) (omega arith))
 fresh-part args (suc f) s h = absurd (omega arith)
 
+-- the invariant holds after a format
 pub format-inv : (args : FormatArguments) → Inv (innerFormat args)
 unfolding innerFormat partsOf dirBlocks fileBlocks heldBlocks emptySlots sum count freeOf freshOwner isFree isSome
 format-inv args =
@@ -182,26 +187,30 @@ module _ (m : Inner) (v : Inv m) where
   abbrev img : List ℕ
   img = imageOf (render m)
 
+  -- the disk of the inner model's image is its disk
   pub img-disk : diskOf img ≡ render m
   unfolding render
   img-disk =
       disk-image (render m) (with-is (header m) (m .owner) (content (m .slots) (m .slots)) .far)
       (with-is (header m) (m .owner) (content (m .slots) (m .slots)) .out)
 
-  -- it is sound, so that a call acts on the model's disk
+  -- the inner model's image is sound, so that a call acts on its disk
   pub img-sound : {A : Type 0} (refuse : Reply → A) (act : Disk → A) → onSound img refuse act ≡ act (render m)
   img-sound refuse act = sound-passed img refuse act (length-image (render m)) (ap diskRefusal img-disk ∙ disk-refusal-none m v) ∙ ap act img-disk
 
-  add-image-is : (x : NamedFile) → add img (x .name) (x .date) (x .content) ≡ record { answer = innerAdd m x .answer; image = imageOf (render (innerAdd m x .modelAfter)) }
+  add-image-is : (x : NamedFile)
+      → add img (x .name) (x .date) (x .content) ≡ record { answer = innerAdd m x .answer; image = imageOf (render (innerAdd m x .modelAfter)) }
   unfolding add imaged disked
   add-image-is x =
       img-sound _ _ ∙ ap imaged (add-is x .0)
 
-  remove-image-is : (name : List ℕ) → remove img name ≡ record { answer = innerRemove m name .answer; image = imageOf (render (innerRemove m name .modelAfter)) }
+  remove-image-is : (name : List ℕ)
+      → remove img name ≡ record { answer = innerRemove m name .answer; image = imageOf (render (innerRemove m name .modelAfter)) }
   unfolding remove imaged disked
   remove-image-is name =
       img-sound _ _ ∙ ap imaged (remove-is name .0)
 
+  -- reply and result buffer of a call on the image are the inner model's
   pub out-is : (c : Call) → imageOut img c ≡ innerOut m c
   unfolding imageOut innerOut list read
   out-is (toAdd x) = ap (λ (w : ImageChanged). bufferKept [] (w .answer)) (add-image-is x)
@@ -209,6 +218,7 @@ module _ (m : Inner) (v : Inv m) where
   out-is (toList buf) = img-sound _ _ ∙ list-is m v buf
   out-is (toRead name buf) = img-sound _ _ ∙ read-is m v name buf
 
+  -- the image after a call is that of the inner model after it
   pub step-is : (c : Call) → imageStep img c ≡ imageOf (render (innerStep m c))
   unfolding imageStep innerStep
   step-is (toAdd x) = ap (λ (w : ImageChanged). w .image) (add-image-is x)
@@ -216,6 +226,7 @@ module _ (m : Inner) (v : Inv m) where
   step-is (toList buf) = refl
   step-is (toRead name buf) = refl
 
+  -- the invariant holds after every call
   pub step-inv : (c : Call) → Inv (innerStep m c)
   unfolding innerStep
   step-inv (toAdd x) = add-is x .1
@@ -225,17 +236,20 @@ module _ (m : Inner) (v : Inv m) where
 
 -- ---- a history
 
+-- a history gives on the image the inner model's replies and buffers and leaves its image
 pub runs : (cs : List Call) (m : Inner) → Inv m
     → (imageOuts (imageOf (render m)) cs ≡ innerOuts m cs) × (imageEnd (imageOf (render m)) cs ≡ imageOf (render (innerEnd m cs)))
 unfolding imageOuts innerOuts imageEnd innerEnd
 runs [] m v = (refl, refl)
 runs (c ∷ cs) m v =
-    let ih : (imageOuts (imageOf (render (innerStep m c))) cs ≡ innerOuts (innerStep m c) cs) × (imageEnd (imageOf (render (innerStep m c))) cs ≡ imageOf (render (innerEnd (innerStep m c) cs))) =
+    let ih : (imageOuts (imageOf (render (innerStep m c))) cs ≡ innerOuts (innerStep m c) cs)
+    × (imageEnd (imageOf (render (innerStep m c))) cs ≡ imageOf (render (innerEnd (innerStep m c) cs))) =
     runs cs (innerStep m c) (step-inv m v c) in (
       ap₂ (λ (o : Outcome) (os : List Outcome). o ∷ os) (out-is m v c) (ap (λ (l : List ℕ). imageOuts l cs) (step-is m v c) ∙ ih .0),
       ap (λ (l : List ℕ). imageEnd l cs) (step-is m v c) ∙ ih .1,
     )
 
+-- the invariant holds at the end of a history
 pub end-inv : (cs : List Call) (m : Inner) → Inv m → Inv (innerEnd m cs)
 unfolding innerEnd
 end-inv [] m v = v

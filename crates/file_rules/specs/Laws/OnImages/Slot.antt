@@ -1,4 +1,4 @@
--- Blocks given on the disk are given in the model; which slot a new file gets, whether the directory takes a block for it, whether there is room.
+-- Blocks given on the disk are given in the inner model; which slot a new file gets, whether the directory takes a block for it, whether there is room.
 -- Rests on what is read of the inner model's disk (InnerModel.Reads) and on a block given on a whole disk (Base.Whole).
 use mathlib.Core.Path.{_≡_, refl, sym, ap, _∙_}
 use mathlib.Core.Logic.{_≢_}
@@ -47,7 +47,7 @@ picks-inside p i [] z t = tt
 picks-inside p i (b ∷ bs) z t =
     (by-equal b 0 (λ q. true≢false (p b) (t .2) (ap p q ∙ z)) (λ q. omega arith), t .1, picks-inside p (suc b) bs z (t .3))
 
--- blocks given to a file on the disk are given to it in the model, with the file's content in them
+-- blocks given to a file on the disk are given to it in the inner model, with the file's content in them
 pub give-step : (bs : List ℕ) (d : Disk) (h : ℕ → ℕ) (owner : ℕ → Record) (c : Record → ℕ → ℕ) (f s : ℕ) (g : ℕ → ℕ) → Inside bs
     → ((t o : ℕ) → s ≤ t → o < blockBytes → part g t o ≡ c (File f t) o) → With d h owner c → With (giveBlocks d f g s bs) h (give owner f s bs) c
 unfolding giveBlocks give
@@ -92,7 +92,7 @@ module _ (m : Inner) (v : Inv m) where
   unfolding emptySlot vacant
   k-is = refl
 
-  -- the slot that is filled is at most one past the highest
+  -- the slot that is filled is at most the first past the peak
   pub k-le : k ≤ suc (m .peak)
   k-le = omega (arith, k-is, lowest-le vacant (suc (m .peak)))
 
@@ -124,7 +124,7 @@ module _ (m : Inner) (v : Inv m) where
   unfolding isSome
   zero-empty = ap isSome (v .slot-zero)
 
-  -- where a slot within is filled, the highest slot stays
+  -- where a slot up to the peak is filled, the peak stays
   pub peak-same : k ≤ m .peak → peakAfter m ≡ m .peak
   unfolding peakAfter presentCount
   peak-same h =
@@ -135,14 +135,14 @@ module _ (m : Inner) (v : Inv m) where
       k-empty : isSome (m .slots k) ≡ false
       k-empty = unfold isSome in ap isSome k-none
 
-  -- where no slot within is empty, the highest slot is the next one
+  -- where no slot up to the peak is empty, the peak is one higher
   pub peak-more : k ≡ suc (m .peak) → peakAfter m ≡ suc (m .peak)
   unfolding peakAfter presentCount
   peak-more e =
       let all-present : presentCount m ≡ m .peak = count-but-zero (m .peak) (λ (j : ℕ). isSome (m .slots j)) zero-empty (all-filled e) in
       omega arith
 
-  -- where no slot within is empty, there are at most as many slots as blocks of files
+  -- where no slot up to the peak is empty, the files have at least as many blocks as the peak says
   pub filled-blocks : k ≡ suc (m .peak) → m .peak ≤ fileBlocks m
   unfolding fileBlocks
   filled-blocks e =
@@ -152,7 +152,7 @@ module _ (m : Inner) (v : Inv m) where
   abbrev grows : Bool
   grows = ltb (dirBlocks (m .peak)) (dirBlocks (peakAfter m))
 
-  -- the directory takes a block on the disk if it does in the model
+  -- the directory takes a block on the disk if it does in the inner model
   pub grows-is : opensBlock (render m) k ≡ grows
   unfolding opensBlock dirBlocks
   grows-is =
@@ -171,7 +171,7 @@ module _ (m : Inner) (v : Inv m) where
       and-false-right (eqb k (dirEnd (render m))) (eq-false q)
       ∙ sym (lt-false {a = suc (m .peak / blockSlots)} {b = suc (peakAfter m / blockSlots)} (omega arith))))
 
-  -- a case split on whether the directory takes a block
+  -- by whether the directory takes a block: then the slot is the first past the peak and the first of that block
   pub by-growth : {X : Type 0}
       → (grows ≡ true → k ≡ suc (m .peak) → k / blockSlots ≡ dirBlocks (m .peak) → dirBlocks (peakAfter m) ≡ suc (dirBlocks (m .peak)) → X)
       → (grows ≡ false → dirBlocks (peakAfter m) ≡ dirBlocks (m .peak) → X) → X
@@ -188,7 +188,7 @@ module _ (m : Inner) (v : Inv m) where
       (λ q. f (lt-true {a = suc (m .peak / blockSlots)} {b = suc (peakAfter m / blockSlots)} (omega arith)) e (omega arith) (omega arith))
       (λ q. g (lt-false {a = suc (m .peak / blockSlots)} {b = suc (peakAfter m / blockSlots)} (omega arith)) (omega arith)))
 
-  -- there is room in the model if the blocks needed are at most the free blocks of the disk
+  -- there is room in the inner model if the blocks needed are at most the free blocks of the disk
   pub room-is : (x : NamedFile) → roomFor m x ≡ leb (needed (render m) k (length (x .content))) (freeCount (render m))
   unfolding roomFor needed
   room-is x =
