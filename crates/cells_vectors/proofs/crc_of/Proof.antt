@@ -1,4 +1,5 @@
 -- `crc_of` is safe and ends.
+-- Rests on: the contract of cells::crc_byte.
 -- Assumes nothing.
 use Prim.Native.Nat.{_-_, _≤_}
 use lib.ListN.{length}

@@ -1,4 +1,5 @@
 -- `cells::crc_at` meets its contract: v is the CRC of the first j bytes.
+-- Rests on: the laws in Crc; the contracts of row_byte and crc_byte.
 -- Assumes nothing.
 use mathlib.Core.Path.{_≡_}
 use Prim.Native.Nat.{_-_, _≤_}

@@ -1,4 +1,5 @@
 -- `cells::crc_bit` meets its contract.
+-- Rests on: the code alone.
 -- Assumes nothing.
 use mathlib.Core.Path.{refl}
 use borrow.Author.Needs.{needs}

@@ -1,4 +1,5 @@
 -- `cells::crc_byte` meets its contract: v is the register after the first k bits.
+-- Rests on: the laws in Crc; the contract of crc_bit.
 -- Assumes nothing.
 use mathlib.Core.Path.{_≡_, ap, _∙_}
 use Prim.Native.Nat.{_-_, _≤_}

@@ -1,4 +1,5 @@
 -- `cells::crc_row` meets its contract: v is the register after the first i bytes.
+-- Rests on: the laws in Crc; the contract of crc_byte.
 -- Assumes nothing.
 use mathlib.Core.Path.{_≡_, _∙_}
 use Prim.Native.Nat.{_-_, _≤_}
@@ -33,8 +34,11 @@ loop-less : tie.Need-loop-less Inv-loop μ-loop
 loop-less c = search needs
 
 loop-again : tie.Need-loop-again Inv-loop μ-loop
-loop-again c = let loop = c .before .before .before .loop in
-    let row = c .before .before .before .before .before .args .row .now in
+loop-again c =
+    let at-loop = c .before .before .before in
+    let start = at-loop .before .before in
+    let loop = at-loop .loop in
+    let row = start .args .row .now in
     (omega arith, rw (row-more _ row (loop .i) (omega arith), ← loop .inv .1) (c .crc-byte .ensures))
 
 returns : tie.Need-returns Inv-loop μ-loop

@@ -1,4 +1,5 @@
 -- `cells::row_byte` meets its contract.
+-- Rests on: the laws in Stream and Number; the contracts of cells_from and data_byte.
 -- Assumes nothing.
 use mathlib.Core.Path.{sym}
 use native.Mathlib.Omega.{arith}

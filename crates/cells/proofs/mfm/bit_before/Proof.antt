@@ -1,4 +1,5 @@
 -- `cells::bit_before` meets its contract.
+-- Rests on: the laws in Mfm; the contract of bit_of.
 -- Assumes nothing.
 use mathlib.Core.Path.{_∙_}
 use borrow.Author.Needs.{needs}

@@ -1,4 +1,5 @@
 -- `cells::clock` meets its contract.
+-- Rests on: the code alone.
 -- Assumes nothing.
 use Rattle.cells.specs.Mfm.{clock}
 use Rattle.cells.proofs.mfm.clock.Statement.{statement}

@@ -1,4 +1,5 @@
 -- `cells::encode_byte` meets its contract.
+-- Rests on: the contract of encode_item.
 -- Assumes nothing.
 use borrow.Author.Needs.{needs}
 use Rattle.cells.proofs.mfm.encode_byte.Statement.{statement}

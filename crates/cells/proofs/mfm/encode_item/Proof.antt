@@ -1,4 +1,5 @@
 -- `cells::encode_item` meets its contract: v is the number of the first j cells.
+-- Rests on: the laws in Number, Mfm and laws::Tab; the contract of item_cell.
 -- Assumes nothing.
 use mathlib.Core.Path.{_≡_, ap, _∙_}
 use Prim.Native.Nat.{_-_, _^_, _≤_, _<_}

@@ -1,4 +1,5 @@
 -- `cells::item_byte` meets its contract.
+-- Rests on: the contract of stored_byte.
 -- Assumes nothing.
 use borrow.Author.Needs.{needs}
 use Rattle.cells.specs.Stream.{packed}

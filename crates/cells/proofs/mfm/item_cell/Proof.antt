@@ -1,4 +1,5 @@
 -- `cells::item_cell` meets its contract.
+-- Rests on: the contracts of left_out, byte_of and mfm_cell.
 -- Assumes nothing.
 use borrow.Author.Needs.{needs}
 use borrow.Author.Tests.{eq-eqb, ne-eqb}
@@ -21,7 +22,10 @@ returns c = rw (← c .before .left-out .ensures, eq-eqb _ _ (c .if1 .taken))
 
 returns-2 : tie.Need-returns-2
 unfolding itemCell
-returns-2 c = rw (← c .before .before .before .left-out .ensures, ne-eqb _ _ (c .before .before .if1 .left), ← c .before .byte-of .ensures) (c .mfm-cell .ensures)
+returns-2 c =
+    rw
+    (← c .before .before .before .left-out .ensures, ne-eqb _ _ (c .before .before .if1 .left), ← c .before .byte-of .ensures)
+    (c .mfm-cell .ensures)
 
 pub item-cell-spec : {M : Type 1} → statement M
 item-cell-spec =

@@ -1,4 +1,5 @@
 -- `cells::last_bit` meets its contract.
+-- Rests on: the contracts of byte_of and bit_of.
 -- Assumes nothing.
 use borrow.Author.Needs.{needs}
 use Rattle.cells.proofs.mfm.last_bit.Statement.{statement}

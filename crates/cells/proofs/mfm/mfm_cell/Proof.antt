@@ -1,4 +1,5 @@
 -- `cells::mfm_cell` meets its contract.
+-- Rests on: the contracts of bit_of, bit_before and clock.
 -- Assumes nothing.
 use borrow.Author.Needs.{needs}
 use borrow.Author.Tests.{eq-eqb, ne-eqb}

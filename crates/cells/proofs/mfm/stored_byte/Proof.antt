@@ -1,4 +1,5 @@
 -- `cells::stored_byte` meets its contract: v has the first j cells.
+-- Rests on: the laws in Packed and Mfm; the contract of item_cell.
 -- Assumes nothing.
 use mathlib.Core.Path.{_≡_, ap, _∙_}
 use Prim.Native.Nat.{_+_, _-_, _*_, _%_, _^_, _≤_}

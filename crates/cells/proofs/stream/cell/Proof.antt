@@ -1,4 +1,5 @@
 -- `cells::cell` meets its contract.
+-- Rests on: the laws in Stream.
 -- Assumes nothing.
 use mathlib.Core.Path.{sym}
 use Prim.Native.Nat.{_/_, _<_, _*_, _^_}
@@ -50,7 +51,10 @@ shr-result c = search needs
 
 returns-3 : tie.Need-returns-3
 unfolding bytePlace cellAt
-returns-3 c = (sym (stream-in _ _ _ (c .before .before .before .before .if1 .left)), omega arith)
+returns-3 c =
+    let else2 = c .before in
+    let else1 = else2 .before .before .before in
+    (sym (stream-in _ _ _ (else1 .if1 .left)), omega arith)
 
 pub cell-spec : {M : Type 1} → statement M
 cell-spec =

@@ -1,4 +1,5 @@
 -- `cells::cell_from` meets its contract.
+-- Rests on: the laws in Stream; the contract of cell.
 -- Assumes nothing.
 use mathlib.Core.Path.{sym, _∙_}
 use native.Mathlib.Omega.{arith}

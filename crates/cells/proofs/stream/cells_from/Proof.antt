@@ -1,4 +1,5 @@
 -- `cells::cells_from` meets its contract.
+-- Rests on: the laws in Stream.
 -- Assumes nothing.
 use native.Mathlib.Omega.{arith}
 use borrow.Author.Needs.{needs}

@@ -1,4 +1,5 @@
 -- `cells::data_byte` meets its contract: v is the number of the first n data cells.
+-- Rests on: the laws in Stream and Number; the contracts of cells_from and cell_from.
 -- Assumes nothing.
 use mathlib.Core.Path.{_≡_, sym, ap, _∙_}
 use Prim.Native.Nat.{_+_, _-_, _≤_, _<_, _^_}

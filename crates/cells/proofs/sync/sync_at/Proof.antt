@@ -1,4 +1,5 @@
 -- `cells::sync_at` meets its contract: the first n cells are those of a sync byte.
+-- Rests on: the laws in Sync and Stream; the contracts of cells_from and cell_from.
 -- Assumes nothing.
 use mathlib.Core.Path.{_≡_, sym, ap, _∙_}
 use Prim.Native.Nat.{_+_, _-_, _/_, _≤_, _<_, _^_}
@@ -13,7 +14,9 @@ use Rattle.cells.proofs.sync.sync_at.Statement.{statement}
 use Rattle.cells.proofs.sync.sync_at.Tie as tie
 
 abbrev Inv-loop : tie.InvT-loop
-Inv-loop part side i k room n₀ n = (n ≤ 16) × (k + 16 ≤ length (from (stream part side) i)) × (k < 2 ^ 32) × (number (from (stream part side) i) 1 k n ≡ syncWord / 2 ^ (16 - n))
+Inv-loop part side i k room n₀ n =
+    (n ≤ 16) × (k + 16 ≤ length (from (stream part side) i)) × (k < 2 ^ 32) ×
+    (number (from (stream part side) i) 1 k n ≡ syncWord / 2 ^ (16 - n))
 
 abbrev μ-loop : tie.MeasureT-loop
 μ-loop part side i k room n₀ n = 16 - n
@@ -50,7 +53,9 @@ shr-if3 : tie.Need-shr-if3 Inv-loop μ-loop
 shr-if3 c = search needs
 
 returns-3 : tie.Need-returns-3 Inv-loop μ-loop
-returns-3 c = sym (sync-differs _ _ (rest-bit _ _ _) (c .before .before .before .loop .inv .1) _ (omega arith) (λ e. c .if3 .taken (c .before .cell-from .ensures .0 ∙ e)))
+returns-3 c =
+    sym (sync-differs _ _ (rest-bit _ _ _) (c .before .before .before .loop .inv .1) _ (omega arith)
+    (λ e. c .if3 .taken (c .before .cell-from .ensures .0 ∙ e)))
 
 add-n : tie.Need-add-n Inv-loop μ-loop
 add-n c = search needs

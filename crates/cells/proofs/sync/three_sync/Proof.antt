@@ -1,4 +1,5 @@
 -- `cells::three_sync` meets its contract.
+-- Rests on: the contract of sync_at.
 -- Assumes nothing.
 use mathlib.Core.Path.{sym, _∙_}
 use borrow.Author.Needs.{needs}
@@ -17,7 +18,16 @@ sync-at-requires-3 c κs = search needs
 
 returns : tie.Need-returns
 unfolding threeSync
-returns c = rw (sym (c .before .before .before .before .sync-at .ensures) ∙ c .before .before .before .if1 .taken, sym (c .before .before .sync-at2 .ensures) ∙ c .before .if2 .taken) (c .sync-at3 .ensures)
+returns c =
+    let after-sync-at2 = c .before .before in
+    let then1 = after-sync-at2 .before in
+    let after-sync-at = then1 .before in
+    rw (
+      sym (after-sync-at .sync-at .ensures) ∙ then1 .if1 .taken,
+      sym (after-sync-at2 .sync-at2 .ensures) ∙
+          c .before .if2 .taken,
+    )
+    (c .sync-at3 .ensures)
 
 returns-2 : tie.Need-returns-2
 unfolding threeSync

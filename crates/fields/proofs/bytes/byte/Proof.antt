@@ -1,4 +1,5 @@
 -- `fields::byte` meets its contract.
+-- Rests on: the laws in laws::Tab.
 -- Assumes nothing.
 use mathlib.Core.Path.{sym}
 use Prim.Native.Nat.{_+_}

@@ -1,4 +1,5 @@
 -- `fields::copy_into` meets its contract: the first i bytes are written.
+-- Rests on: the laws in laws::Overlay; the contract of room.
 -- Assumes nothing.
 use mathlib.Core.Path.{_≡_, refl}
 use Prim.Native.Nat.{_-_, _≤_, min}

@@ -1,4 +1,5 @@
 -- `fields::stands_at` meets its contract: the first i bytes are equal.
+-- Rests on: the laws in laws::Same.
 -- Assumes nothing.
 use mathlib.Core.Path.{_≡_, sym}
 use Prim.Native.Nat.{ℕ, _+_, _-_, _≤_, _<_}
@@ -47,7 +48,10 @@ loop-less : tie.Need-loop-less Inv-loop μ-loop
 loop-less c = search needs
 
 loop-again : tie.Need-loop-again Inv-loop μ-loop
-loop-again c = (omega arith, omega arith, below-more _ _ (c .before .before .before .before .loop .inv .2) (c .if3 .left))
+loop-again c =
+    let in-loop = c .before .before .before in
+    let at-loop = in-loop .before in
+    (omega arith, omega arith, below-more _ _ (at-loop .loop .inv .2) (c .if3 .left))
 
 returns-4 : tie.Need-returns-4 Inv-loop μ-loop
 returns-4 c = sym (stands-all _ _ _ (omega arith) (λ k b. c .before .loop .inv .2 k (omega arith)))

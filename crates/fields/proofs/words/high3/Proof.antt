@@ -1,4 +1,5 @@
 -- `fields::high3` meets its contract.
+-- Rests on: the contracts of byte and wide.
 -- Assumes nothing.
 use native.Mathlib.Omega.{arith}
 use borrow.Author.Needs.{needs}

@@ -1,4 +1,5 @@
 -- `fields::high4` meets its contract.
+-- Rests on: the contracts of high3, byte and wide.
 -- Assumes nothing.
 use native.Mathlib.Omega.{arith}
 use borrow.Author.Needs.{needs}

@@ -1,4 +1,5 @@
 -- `fields::put_high2` meets its contract.
+-- Rests on: the laws in laws::Overlay and laws::Numbers; the contract of copy_into.
 -- Assumes nothing.
 use mathlib.Core.Path.{ap, _∙_}
 use borrow.Author.Needs.{needs}
@@ -25,7 +26,13 @@ same-length : tie.Need-same-length
 same-length c = search needs
 
 returns : tie.Need-returns
-returns c = let a = c .before .before .before .before .before .before .args in c .before .before .copy-into .ensures ∙ ap (put (a .s .now) (a .at)) (high-row2 (a .v)) ∙ put-tab (a .s .now) (a .at) (highByte 2 (a .v)) 2
+returns c =
+    let after-copy-into = c .before .before in
+    let after-slice-known = after-copy-into .before .before .before in
+    let start = after-slice-known .before in
+    let a = start .args in
+    after-copy-into .copy-into .ensures ∙ ap (put (a .s .now) (a .at)) (high-row2 (a .v)) ∙ put-tab (a .s .now) (a .at)
+    (highByte 2 (a .v)) 2
 
 pub put-high2-spec : {M : Type 1} → statement M
 put-high2-spec =
