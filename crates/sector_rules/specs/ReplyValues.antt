@@ -38,6 +38,8 @@ goodEntries n = tab (λ (j : ℕ). cond (eqb (j % 4) 2) 2 0) (4 * n)
 
 -- by value: the lengths that 1 refuses, what 3 judges of a track table, and the numbers 4 to 7, each with its places (§7.1 §7.3 §7.4 §7.5 §7.6 §7.7)
 pub record ReplyValues : Type 0 where
+  -- 0 has no places
+  pub pack-accepted : packReply 737280 2008064 ≡ reply 0 0 0 0
   -- 1: an HFE image to read has 1,024 bytes or more, one to write 2,008,064, and a block image 737,280; the HFE image is judged first
   pub unpack-short : (hfe : List ℕ) (n : ℕ) → length hfe < 1024 → unpackReply hfe n ≡ reply 1 1 0 0
   pub unpack-length : (hfe : List ℕ) (n : ℕ) → 1024 ≤ length hfe → n ≢ 737280 → unpackReply hfe n ≡ reply 1 2 0 0
@@ -69,6 +71,10 @@ pub record ReplyValues : Type 0 where
 
 -- ---- the proof
 
+pack-accepted-is : packReply 737280 2008064 ≡ reply 0 0 0 0
+unfolding packReply
+pack-accepted-is = refl
+
 unpack-short-is : (hfe : List ℕ) (n : ℕ) → length hfe < 1024 → unpackReply hfe n ≡ reply 1 1 0 0
 unfolding unpackReply
 unpack-short-is hfe n h = cond-true _ _ (lt-true h)
@@ -92,6 +98,7 @@ unfolding imageSector sidePlace tableReply withTable hfeHeader unpackReply unles
     goodEntries
 reply-values =
     record {
+      pack-accepted = pack-accepted-is;
       unpack-short = unpack-short-is;
       unpack-length = unpack-length-is;
       pack-hfe-length = pack-hfe-is;
