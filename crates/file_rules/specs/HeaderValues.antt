@@ -1,6 +1,6 @@
--- disk-header-values: the 96 header bytes of a formatted disk, and what the check says of an image in whose header one byte is another. Computed, so that
--- each number of the header and each offset that 8 names is stated twice: in the definitions by rule, here by value.
--- Assumes nothing.
+-- disk-header-values: the 96 header bytes of a formatted disk (§6.1 to §6.7), and what the check says of an image in whose header one byte is another (§7.8).
+-- Computed, so that each number of the header and each offset that 8 names is stated twice: in the definitions by rule, here by value.
+-- Rests on the placement: the header stands at the image's beginning.
 use mathlib.Core.Bool.{Bool, true, false, cond}
 use mathlib.Core.List.{List, [], _∷_, _++_}
 use mathlib.Core.Option.{none, some}
@@ -24,12 +24,13 @@ use Rattle.sector_rules.specs.Geometry.{sectorBytes, blocks, imageBytes, runnin
 use Rattle.sector_rules.specs.HeaderValues.{placeNamed, oneMore, oneLess, changedAt, changedFrom, changed-length, from-length}
 use Rattle.sector_rules.specs.Replies.{done, refusal}
 use Rattle.file_rules.specs.Arguments.{FormatArguments, argumentsOf}
-use Rattle.file_rules.specs.Calls.{ImageChanged, imageKept, unless, imageRight, onSound, formatDisk, format, check}
+use Rattle.file_rules.specs.Calls.{ImageChanged, imageKept, unless, imageRight, onSound, freshOwner, formatDisk, format, check}
 use Rattle.file_rules.specs.Check.{diskSignature, lengthRight, dimensionsFault, diskHeaderFault}
 use Rattle.file_rules.specs.Check.{mapFault, fileFault, freeRight, refusal8, refusal9, refusal10, refusal11, diskRefusal}
 use Rattle.file_rules.specs.Directory.{dirBytes}
 use Rattle.file_rules.specs.Disk.{Disk, imagePlace, blockOf, offsetOf, diskOf, imageOf}
 use Rattle.file_rules.specs.Laws.OnImages.Run.{format-done}
+use Rattle.file_rules.specs.Map.{numberOf, encode}
 use Rattle.file_rules.specs.Sizes.{blockBytes, slotCount}
 use Rattle.file_rules.specs.Written.{fixedByte, diskHeaderByte, diskWith}
 
@@ -56,8 +57,9 @@ named start rest = placeNamed 8 96 (check (start ++ rest))
 
 -- by value: the header that format writes, what 8 names where bytes of it are others, and the names that 12 refuses (§6.7 §7.8 §7.12 §8.4)
 pub record DiskHeaderValues : Type 0 where
-  -- what format writes
-  pub format-header : (old : List ℕ) → length old ≡ imageBytes → take 96 (format old (argumentsOf title 0x1234) .image) ≡ diskHeader
+  -- what format writes: the header, and then the records of blocks 0, 1 and 2: the system's, file 0 with sequence 0, free
+  pub format-header : (old : List ℕ) → length old ≡ imageBytes
+      → take 105 (format old (argumentsOf title 0x1234) .image) ≡ diskHeader ++ (0xF8 ∷ 0x00 ∷ 0x00 ∷ 0x00 ∷ 0x00 ∷ 0x00 ∷ 0xFD ∷ 0xFF ∷ 0xFF ∷ [])
   -- the check of an image that begins with the header, one byte of which is one more: the offset that 8 names, or 96. It accepts the lengths of a directory
   -- with 256 blocks more or one more (34, 35), and with five slots (36), and judges neither 4 to 21 nor 76 to 95
   pub one-more : (rest : List ℕ) → 96 + length rest ≡ imageBytes → tab (λ (o : ℕ). named (changedAt oneMore diskHeader o) rest) 96
@@ -169,17 +171,14 @@ header-length = refl
 
 -- ---- the proof: format
 
-format-is : (old : List ℕ) → length old ≡ imageBytes → take 96 (format old (argumentsOf title 0x1234) .image) ≡ diskHeader
-unfolding imageOf title
+format-is : (old : List ℕ) → length old ≡ imageBytes
+    → take 105 (format old (argumentsOf title 0x1234) .image) ≡ diskHeader ++ (0xF8 ∷ 0x00 ∷ 0x00 ∷ 0x00 ∷ 0x00 ∷ 0x00 ∷ 0xFD ∷ 0xFF ∷ 0xFF ∷ [])
+unfolding imageOf tab formatDisk diskWith diskHeaderByte fixedByte patch highByte diskSignature sidePlace backward blockOf offsetOf runningSector title
+    diskHeader encode numberOf freshOwner
 format-is old long =
-    ap (λ (w : ImageChanged). take 96 (w .image)) (format-done old (argumentsOf title 0x1234) long (lit≤ tt))
-    ∙ take-tab (λ (i : ℕ). formatDisk (argumentsOf title 0x1234) (blockOf i) (offsetOf i)) 96 imageBytes (lit≤ tt)
-    ∙ fresh
-  where
-    fresh : tab (λ (i : ℕ). formatDisk (argumentsOf title 0x1234) (blockOf i) (offsetOf i)) 96 ≡ diskHeader
-    fresh =
-        unfold tab formatDisk diskWith diskHeaderByte fixedByte patch highByte diskSignature sidePlace backward blockOf offsetOf runningSector title
-        diskHeader in refl
+    ap (λ (w : ImageChanged). take 105 (w .image)) (format-done old (argumentsOf title 0x1234) long (lit≤ tt))
+    ∙ take-tab (λ (i : ℕ). formatDisk (argumentsOf title 0x1234) (blockOf i) (offsetOf i)) 105 imageBytes (lit≤ tt)
+    ∙ refl
 
 refused-is : (old : List ℕ) (args : FormatArguments) → length old ≡ imageBytes → 11 ≤ length (args .title) → format old args .answer ≡ refusal 12
 unfolding format imageRight imageKept

@@ -14,5 +14,7 @@ pub mod History
 pub mod Refusals
 pub mod Values
 pub mod HeaderValues
+pub mod CheckValues
+pub mod TrackValues
 pub mod Theorems
 pub mod Laws

@@ -1,4 +1,4 @@
--- refusals-keep: a call that is refused changes no lent byte, for each entry point that is lent bytes to write, in the terms of its contract.
+-- refusals-keep (§7.19): a call that is refused changes no lent byte, for each entry point that is lent bytes to write, in the terms of its contract.
 -- `place`, `check` and the first track are lent none. List, read and check are lent the image to read only, as pack is, and unpack the HFE image.
 -- Assumes nothing: these are definitions. The proof is `refusals-keep` in Laws/Theorem/Refusals.antt.
 use mathlib.Core.Path.{_≡_}

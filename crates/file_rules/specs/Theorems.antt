@@ -11,5 +11,10 @@ pub use Rattle.file_rules.specs.Laws.Theorem.History.{history-check}
 pub use Rattle.file_rules.specs.Laws.Theorem.History.{every-byte}
 -- disk-header-values: the header of a formatted disk as a row of bytes, and for each byte of it what 8 names where that byte is another. HeaderValues.antt
 pub use Rattle.file_rules.specs.HeaderValues.{disk-header-values}
--- values-to-check: eleven placements, and a file's map record; record-values: a map record of each kind by its bytes, read and written. Values.antt
-pub use Rattle.file_rules.specs.Values.{values-to-check, record-values}
+-- check-values: the places that 9 and 10 name, of formatted disks with one record of the map changed. CheckValues.antt
+pub use Rattle.file_rules.specs.CheckValues.{check-values}
+-- first-track-values: judging the first track alone is judging the image that it begins; what it gives of a formatted disk. TrackValues.antt
+pub use Rattle.file_rules.specs.TrackValues.{first-track-values}
+-- values-to-check: eleven placements, and a file's map record; record-values: a map record of each kind by its bytes, read and written; entry-values: a
+-- directory entry so. Values.antt
+pub use Rattle.file_rules.specs.Values.{values-to-check, record-values, entry-values}

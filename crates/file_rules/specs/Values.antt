@@ -1,14 +1,18 @@
 -- values-to-check: the placements of the table of docs/RULES.md, §1.5, which is the sector layer's, and the record that §6.8 has as its example.
--- record-values: the kinds of map record by their bytes (§6.9).
--- Assumes nothing.
+-- record-values: the kinds of map record by their bytes (§6.9). entry-values: a directory entry by its bytes (§6.13).
+-- Rests on computation alone.
 use mathlib.Core.Path.{_≡_, refl}
-use mathlib.Core.List.{[], _∷_}
+use mathlib.Core.List.{List, [], _∷_, _++_}
+use Prim.Native.Nat.{ℕ}
+use lib.ListN.{getD, replicate}
+use Rattle.laws.specs.Changes.{patch}
 use Rattle.laws.specs.Lists.{tab, elementAt}
-use Rattle.laws.specs.Numbers.{bigEndian, highFirst, highByte}
+use Rattle.laws.specs.Numbers.{at16, at32, bigEndian, highFirst, highByte}
 use Rattle.sector_rules.specs.Values.{placements, definedSectors, tableSectors, placement-values}
 use Rattle.file_rules.specs.declared.Record.the-variants.{Free, System, File, Other}
+use Rattle.file_rules.specs.Directory.{entryOf, entryByte, nameOf, entryFor}
 use Rattle.file_rules.specs.Map.{decode, numberOf, encode}
-use Rattle.file_rules.specs.Sizes.{recordBytes}
+use Rattle.file_rules.specs.Sizes.{slotBytes, recordBytes}
 
 -- values-to-check: the definition gives the image sector of each row, and the record is that of file 2A5, sequence 013 (hex)
 pub values-to-check : (definedSectors placements ≡ tableSectors placements) × (decode (highFirst (0x2A ∷ 0x50 ∷ 0x13 ∷ []) 0 recordBytes) ≡ File 0x2A5 0x013)
@@ -27,3 +31,16 @@ pub record-values :
     × (tab (encode (File 0x2A5 0x013)) recordBytes ≡ 0x2A ∷ 0x50 ∷ 0x13 ∷ [])
 unfolding decode encode numberOf highFirst highByte bigEndian elementAt tab
 record-values = (refl, refl, refl, refl, refl, refl, refl, refl)
+
+-- the entry of the file ab with date 01020304 and 256 bytes of data: length 64 + 256, name length 2, name and date; the rest is zero
+unfoldable pub entryRow : List ℕ
+entryRow =
+    0x00 ∷ 0x00 ∷ 0x01 ∷ 0x40 ∷ (replicate 10 0x00 ++ (0x00 ∷ 0x02 ∷ 0x61 ∷ 0x62 ∷ (replicate 34 0x00 ++ (0x01 ∷ 0x02 ∷ 0x03 ∷ 0x04 ∷ replicate 8 0x00))))
+
+-- entry-values: as it is written, and as it is read
+pub entry-values :
+    (tab (entryByte (entryFor (0x61 ∷ 0x62 ∷ []) 0x01020304 256)) slotBytes ≡ entryRow)
+    × (entryOf (λ (i : ℕ). getD entryRow i 0) ≡ entryFor (0x61 ∷ 0x62 ∷ []) 0x01020304 256)
+    × (nameOf (entryOf (λ (i : ℕ). getD entryRow i 0)) ≡ 0x61 ∷ 0x62 ∷ [])
+unfolding tab entryByte entryFor entryOf nameOf entryRow patch highByte at16 at32 bigEndian
+entry-values = (refl, refl, refl)

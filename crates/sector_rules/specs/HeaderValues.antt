@@ -1,6 +1,6 @@
--- hfe-header-values: the bytes of a packed HFE header, and what unpacking says of an image in whose header one byte is another. Computed, so that each number
--- of the header and each offset that 2 names is stated twice: in the definitions by rule, here by value.
--- Assumes nothing.
+-- hfe-header-values: the bytes of a packed HFE header (§5.4), and what unpacking says of an image in whose header one byte is another (§2.2, §2.3, §7.2).
+-- Computed, so that each number of the header and each offset that 2 names is stated twice: in the definitions by rule, here by value.
+-- Rests on the laws of the written image (Laws.Base.Packed).
 use mathlib.Core.Bool.{true, cond}
 use mathlib.Core.List.{List, [], _∷_, _++_, map}
 use mathlib.Core.Path.{_≡_, refl, ap, _∙_}

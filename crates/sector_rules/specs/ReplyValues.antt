@@ -1,6 +1,6 @@
--- reply-values: the lengths that 1 refuses and its places, what 3 judges of a track table, the numbers 4 to 7 with their places, and 12 of the placement call,
--- by value.
--- Assumes nothing.
+-- reply-values: the lengths that 1 refuses and its places (§7.1), what 3 judges of a track table (§2.5, §7.3), the numbers 4 to 7 with their places, and
+-- 12 of the placement call (§8.3), by value.
+-- Rests on computation alone.
 use mathlib.Core.Bool.{cond}
 use mathlib.Core.List.{List, [], _∷_, _++_, map}
 use mathlib.Core.Logic.{_≢_}

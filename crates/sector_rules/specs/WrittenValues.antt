@@ -1,5 +1,5 @@
--- written-values: the bytes and marks that pack writes beside headers and data, by value: a side's beginning and end, the parts of a sector, the track table,
--- and the bytes that no track uses. The data between them are round-trip's.
+-- written-values: the bytes and marks that pack writes beside headers and data (§5.1, §5.2, §5.3, §5.5), by value: a side's beginning and end, the parts of a
+-- sector, the track table, and the bytes that no track uses. The data between them are round-trip's.
 -- Rests on the laws of the written image (Laws.Base.Packed).
 use mathlib.Core.List.{List, [], _∷_, _++_}
 use mathlib.Core.Path.{_≡_, refl, ap, _∙_}
