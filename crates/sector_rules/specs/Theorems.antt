@@ -11,7 +11,7 @@ pub use Rattle.sector_rules.specs.Laws.Trip.RoundTrip.{round-trip}
 pub use Rattle.sector_rules.specs.HeaderValues.{hfe-header-values}
 -- written-values: the bytes and marks that pack writes beside headers and data, the track table and the unused bytes, by value
 pub use Rattle.sector_rules.specs.WrittenValues.{written-values}
--- reply-values: the lengths that 1 refuses, what 3 judges of a track table, the numbers 4 to 7, each with its places
+-- reply-values: the lengths that 1 refuses, what 3 judges of a track table, the numbers 4 to 7, each with its places; the limits of the placement call
 pub use Rattle.sector_rules.specs.ReplyValues.{reply-values}
 -- ---- damage (Caught.antt)
 
