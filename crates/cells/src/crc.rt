@@ -7,10 +7,10 @@ use crate::Side;
 use crate::stream::cells_from;
 use crate::stream::data_byte;
 
-// The register's start.
+// The register before the first bit (§3.8).
 pub const START: u16 = 0xFFFF;
 
-// The register s after one more bit.
+// The register s after one more bit (§3.8).
 fn crc_bit(s: u16, b: u16) -> u16
     requires { ⌜ b < 2 ⌝ }
     ensures { λ r. ⌜ r ≡ crcBit s b ⌝ }
@@ -19,7 +19,7 @@ fn crc_bit(s: u16, b: u16) -> u16
     (0x1021 * ((s / 0x8000 + b) % 2)) ^ (t as u16)
 }
 
-// The register s after one more byte.
+// The register s after one more byte, highest bit first (§3.8). After bytes and their own CRC it is 0 (§10.1).
 pub fn crc_byte(s: u16, x: u8) -> u16
     ensures { λ r. ⌜ r ≡ crcBits s x 8 ⌝ }
 {
@@ -30,7 +30,7 @@ pub fn crc_byte(s: u16, x: u8) -> u16
     v
 }
 
-// The register s after a row of bytes.
+// The register s after a row of bytes (§3.8).
 pub fn crc_row(s: u16, row: &[u8]) -> u16
     ensures { λ r. ⌜ r ≡ crcFrom s (now (row .entry)) ⌝ }
 {
@@ -57,7 +57,7 @@ fn row_byte(part: &[u8], side: Side, i: usize, k: usize, j: usize) -> u8
     data_byte(part, side, i, k + 16 * j)
 }
 
-// The CRC of the n bytes whose cells begin at cell k of those from place i on.
+// The CRC of the n bytes whose cells begin at cell k of those from place i on (§3.8).
 pub fn crc_at(part: &[u8], side: Side, i: usize, k: usize, n: usize) -> u16
     ensures { λ r. ⌜ r ≡ crc (dataBytes (from (stream (now (part .entry)) side) i) k n) ⌝ }
 {

@@ -1,4 +1,4 @@
-// Layer 1: the cells of one side of a track, the bytes and sync marks that they spell, and the CRC.
+// Layer 1: the cells of one side of a track, the bytes and sync marks in them, and the CRC.
 // Every function takes any slice, side, place and count: cells past the end read as 0.
 mod crc;
 mod mfm;
@@ -21,15 +21,15 @@ pub use stream::hfe_side;
 pub use sync::sync_at;
 pub use sync::three_sync;
 
-// Where the bytes of a side lie in the track's part of an image: runs of 256 bytes, the first of
-// them at `first`, each `stride` bytes after the one before; and how many cells the side has.
+// Where the bytes of a side lie in the track's part of an image: runs of 256 bytes, the first of them at `first`, each
+// `stride` bytes after the one before; and how many cells the side has (§2.6).
 pub struct Side {
     pub first: u32,
     pub stride: u32,
     pub cells: u32,
 }
 
-// One place of a written row: a plain byte, or a mark, which is a byte with one clock cell left out.
+// One place of a written row: a plain byte, or a mark, which is a byte with one clock cell left out (§3.5).
 pub enum Item {
     Plain(u8),
     Sync,

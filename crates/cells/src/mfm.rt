@@ -8,7 +8,7 @@ ghost use Rattle.cells.specs.Mfm as Mfm;
 ghost use Rattle.cells.specs.Written.{itemByte, leftOut, itemCell, itemWord};
 use crate::Item;
 
-// Bit k of a byte, highest first.
+// Bit k of a byte, highest first (§3.3).
 fn bit_of(x: u8, k: usize) -> u8
     requires { ⌜ k < 8 ⌝ }
     ensures { λ r. ⌜ r ≡ bitOf x k ⌝ }
@@ -16,14 +16,14 @@ fn bit_of(x: u8, k: usize) -> u8
     (x >> (7 - k)) % 2
 }
 
-// The clock before the bit b that follows the bit a.
+// The clock cell of the bit b that follows the bit a (§3.4).
 fn clock(a: u8, b: u8) -> u8
     ensures { λ r. ⌜ r ≡ Mfm.clock a b ⌝ }
 {
     if (b == 0) & (a == 0) { 1 } else { 0 }
 }
 
-// The bit before bit k of the byte x that follows the bit p.
+// The bit before bit k of the byte x that follows the bit p (§3.4).
 fn bit_before(p: u8, x: u8, k: usize) -> u8
     requires { ⌜ k < 8 ⌝ }
     ensures { λ r. ⌜ r ≡ before p x k ⌝ }
@@ -31,7 +31,7 @@ fn bit_before(p: u8, x: u8, k: usize) -> u8
     if k == 0 { p } else { bit_of(x, k - 1) }
 }
 
-// Cell j of the byte x that follows the bit p.
+// Cell j of the byte x that follows the bit p: clock cells and data cells in turn (§3.3).
 fn mfm_cell(p: u8, x: u8, j: usize) -> u8
     requires { ⌜ j < 16 ⌝ }
     ensures { λ r. ⌜ r ≡ mfmCell p x j ⌝ }
@@ -45,7 +45,7 @@ fn mfm_cell(p: u8, x: u8, j: usize) -> u8
     }
 }
 
-// The byte that an item spells.
+// The byte of an item (§3.5).
 fn byte_of(item: Item) -> u8
     ensures { λ r. ⌜ r ≡ itemByte item ⌝ }
 {
@@ -56,7 +56,7 @@ fn byte_of(item: Item) -> u8
     }
 }
 
-// The clock cell that an item leaves out, 16 where there is none.
+// The clock cell that an item leaves out, 16 where there is none (§3.5).
 fn left_out(item: Item) -> usize
     ensures { λ r. ⌜ r ≡ leftOut item ⌝ }
 {
@@ -67,7 +67,7 @@ fn left_out(item: Item) -> usize
     }
 }
 
-// Cell j of an item that follows the bit p.
+// Cell j of an item that follows the bit p (§3.5).
 fn item_cell(p: u8, item: Item, j: usize) -> u8
     requires { ⌜ j < 16 ⌝ }
     ensures { λ r. ⌜ r ≡ itemCell p item j ⌝ }
@@ -79,7 +79,7 @@ fn item_cell(p: u8, item: Item, j: usize) -> u8
     }
 }
 
-// The 16 cells of an item that follows the bit p, first cell highest.
+// The 16 cells of an item that follows the bit p, first cell highest (§3.5).
 pub fn encode_item(p: u8, item: Item) -> u16
     ensures { λ r. ⌜ r ≡ itemWord p item ⌝ }
 {
@@ -90,14 +90,14 @@ pub fn encode_item(p: u8, item: Item) -> u16
     v
 }
 
-// The last bit of an item.
+// The last bit of an item, which is the bit before the next one (§3.4).
 pub fn last_bit(item: Item) -> u8
     ensures { λ r. ⌜ r ≡ bitOf (itemByte item) 7 ⌝ }
 {
     bit_of(byte_of(item), 7)
 }
 
-// The first or the second byte of an item that follows the bit p, as it is stored: lowest bit first.
+// The first or the second byte of an item that follows the bit p, as it is stored (§3.1).
 pub fn item_byte(p: u8, item: Item, second: bool) -> u8
     ensures { λ r. ⌜ r ≡ packed (itemCell p item) (cond second 1 0) ⌝ }
 {
@@ -108,7 +108,7 @@ pub fn item_byte(p: u8, item: Item, second: bool) -> u8
     }
 }
 
-// The eight cells of an item from the cell `start` on, lowest bit first.
+// The eight cells of an item from the cell `start` on, lowest bit first (§3.1).
 fn stored_byte(p: u8, item: Item, start: usize) -> u8
     requires { ⌜ start ≤ 8 ⌝ }
     ensures { λ r. ⌜ r ≡ packedBits (itemCell p item) start 8 ⌝ }
@@ -120,7 +120,7 @@ fn stored_byte(p: u8, item: Item, start: usize) -> u8
     v
 }
 
-// The 16 cells of the byte x that follows the bit p, first cell highest.
+// The 16 cells of the byte x that follows the bit p, first cell highest (§3.3).
 pub fn encode_byte(p: u8, x: u8) -> u16
     ensures { λ r. ⌜ r ≡ itemWord p (Item.Plain x) ⌝ }
 {

@@ -1,4 +1,4 @@
-// The cells of a side, and the bytes that they spell.
+// The cells of a side, and the bytes that are read from them.
 ghost use mathlib.Core.Path.{_≡_};
 ghost use Prim.Native.Nat.{ℕ, _+_, _*_, _^_, _<_, _≤_};
 ghost use mathlib.Core.List.{List};
@@ -6,7 +6,7 @@ ghost use lib.ListN.{getD, length};
 ghost use Rattle.cells.specs.Stream.{stream, hfeSide, from, dataByte};
 use crate::Side;
 
-// Where side `head` lies in an HFE track of so many bytes.
+// Where side `head` lies in an HFE track of so many bytes (§2.6).
 pub fn hfe_side(head: u8, bytes: u16) -> Side
     ensures { λ r. ⌜ r ≡ hfeSide head bytes ⌝ }
 {
@@ -17,7 +17,7 @@ pub fn hfe_side(head: u8, bytes: u16) -> Side
     }
 }
 
-// The cell at place i of a side.
+// The cell at place i of a side: lowest bit of each byte first (§3.1), and 0 past the end (§3.2).
 pub fn cell(part: &[u8], side: Side, i: usize) -> u8
     ensures { λ r. ⌜ (r ≡ getD (stream (now (part .entry)) side) i 0) × (r < 2) ⌝ }
 {
@@ -33,7 +33,7 @@ pub fn cell(part: &[u8], side: Side, i: usize) -> u8
     (part[at] >> (i % 8)) % 2
 }
 
-// How many cells there are from place i on.
+// How many cells there are from place i on: none past the side's end (§3.2).
 pub fn cells_from(side: Side, i: usize) -> usize
     ensures { λ r. ⌜ ((part : List ℕ) → r ≡ length (from (stream part side) i)) × (r < 2 ^ 32) ⌝ }
 {
@@ -41,7 +41,7 @@ pub fn cells_from(side: Side, i: usize) -> usize
     if cells <= i { 0 } else { cells - i }
 }
 
-// Cell k of those from place i on.
+// Cell k of those from place i on (§3.2).
 pub fn cell_from(part: &[u8], side: Side, i: usize, k: usize) -> u8
     ensures { λ r. ⌜ (r ≡ getD (from (stream (now (part .entry)) side) i) k 0) × (r < 2) ⌝ }
 {
@@ -55,7 +55,7 @@ pub fn cell_from(part: &[u8], side: Side, i: usize, k: usize) -> u8
     cell(part, side, i + k)
 }
 
-// The byte whose 16 cells begin at cell k of those from place i on.
+// The byte whose 16 cells begin at cell k of those from place i on: data cells alone are read (§3.6).
 pub fn data_byte(part: &[u8], side: Side, i: usize, k: usize) -> u8
     ensures { λ r. ⌜ r ≡ dataByte (from (stream (now (part .entry)) side) i) k ⌝ }
 {

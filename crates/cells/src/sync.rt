@@ -6,10 +6,10 @@ use crate::Side;
 use crate::stream::cell_from;
 use crate::stream::cells_from;
 
-// The cells of a sync byte, first cell highest.
+// The cells of a sync mark, first cell highest (§3.5).
 const SYNC: u16 = 0x4489;
 
-// Whether a sync byte stands at cell k of those from place i on. The first cell that differs ends the test.
+// Whether a sync byte stands at cell k of those from place i on (§3.7). The first cell that differs ends the test.
 pub fn sync_at(part: &[u8], side: Side, i: usize, k: usize) -> bool
     ensures { λ r. ⌜ r ≡ syncAt (from (stream (now (part .entry)) side) i) k ⌝ }
 {
@@ -28,7 +28,7 @@ pub fn sync_at(part: &[u8], side: Side, i: usize, k: usize) -> bool
     true
 }
 
-// Whether three sync bytes stand one after the other from place i on.
+// Whether a run, three sync bytes with nothing between them, stands at place i (§3.7).
 pub fn three_sync(part: &[u8], side: Side, i: usize) -> bool
     ensures { λ r. ⌜ r ≡ threeSync (from (stream (now (part .entry)) side) i) ⌝ }
 {

@@ -18,6 +18,7 @@ pub fn byte(s: &[u8], at: usize, k: usize) -> u8
     s[at + k]
 }
 
+// The lesser of two numbers.
 fn least(a: usize, b: usize) -> usize
     ensures { λ r. ⌜ r ≡ min a b ⌝ }
 {

@@ -35,7 +35,7 @@ pub fn high4(s: &[u8], at: usize) -> u32
     high3(s, at) * 256 + wide(bytes::byte(s, at, 3))
 }
 
-// The number in two bytes, lowest first.
+// The number in two bytes, lowest first (§2.1).
 pub fn low2(s: &[u8], at: usize) -> u16
     ensures { λ r. ⌜ r ≡ lowFirst (now (s .entry)) at 2 ⌝ }
 {
@@ -63,7 +63,7 @@ pub fn put_high4(s: &mut [u8], at: usize, v: u32)
     bytes::copy_into(s, at, &b);
 }
 
-// Writes a number in two bytes, lowest first.
+// Writes a number in two bytes, lowest first (§2.1).
 pub fn put_low2(s: &mut [u8], at: usize, v: u16)
     ensures { λ _. ⌜ now (s .exit) ≡ overlay (now (s .entry)) at 2 (lowByte v) ⌝ }
 {

@@ -2,7 +2,7 @@
 use sector_rules::BlockNumber;
 use sector_rules::Reply;
 
-// What a map record says: its block is free, the system's, a file's with its sequence, or the record is none of these.
+// A map record: its block is free, the system's, a file's with its sequence, or the record is of no kind (§6.9).
 pub enum Record {
     Free,
     System,
@@ -16,10 +16,11 @@ pub struct MapRecord {
     pub record: Record,
 }
 
-// The most bytes of a file's name.
+// The most bytes of a file's name (§6.15).
 pub const NAME_MOST: usize = 36;
 
-// A directory entry: the length counts the file's first 64 bytes, and the name is the first `namelen` of the 36 bytes.
+// A directory entry: the length counts the file's first 64 bytes, and the name is the first `namelen` of the 36 bytes
+// (§6.13).
 #[repr(C)]
 pub struct Entry {
     pub name: [u8; NAME_MOST],
@@ -28,8 +29,8 @@ pub struct Entry {
     pub date: u32,
 }
 
-// What the judgement of track 0 gives: the reply, and where that is 0 the free word, the good word and the
-// number of records that are not free.
+// What first track gives: the reply, and where that is 0 the free word, the good sectors of the header and the number
+// of records that are not free (§8.14).
 #[repr(C)]
 pub struct FirstTrack {
     pub reply: Reply,

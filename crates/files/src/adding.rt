@@ -42,7 +42,7 @@ use sectors::Geometry;
 use sectors::done;
 use sectors::refused;
 
-// The blocks of a file with so many bytes of data: its first 64 bytes are counted too.
+// The blocks of a file with so many bytes of data: 64 bytes more are counted (§6.17).
 fn blocks_for(size: usize) -> usize
     requires { ⌜ size ≤ imageBytes ⌝ }
     ensures { λ r. ⌜ (r ≡ blocksFor size) × (r ≤ suc blocks) ⌝ }
@@ -50,7 +50,7 @@ fn blocks_for(size: usize) -> usize
     blocks_of(SLOT_BYTES + size)
 }
 
-// A slot at the directory's end that begins a block takes the lowest free block for the directory.
+// A slot at the directory's end that begins a block takes the lowest free block for the directory (§8.10).
 fn grow_dir(image: &mut [u8], map: &mut MapNumbers, k: usize, end: usize)
     requires { ⌜ InStep (now map) (now image) × (k < sequences) × (end ≡ dirEnd (diskOf (now image))) ⌝ }
     ensures { λ _. ⌜ (now (image .exit) ≡ imageOf (growDir (diskOf (now (image .entry))) k)) × InStep (now (map .exit)) (now (image .exit)) ⌝ }
@@ -64,7 +64,7 @@ fn grow_dir(image: &mut [u8], map: &mut MapNumbers, k: usize, end: usize)
     give_blocks(image, map, 0, k / BLOCK_SLOTS, 1, b"", b"");
 }
 
-// The directory grows by a slot where k was its end.
+// The directory grows by a slot where k was its end (§8.9).
 fn end_after(image: &mut [u8], k: usize, end: usize)
     requires { ⌜ (length (now image) ≡ imageBytes) × (k < sequences) ⌝ }
     ensures { λ _. ⌜ now (image .exit) ≡ imageOf (endAfter k end (diskOf (now (image .entry)))) ⌝ }
@@ -75,7 +75,8 @@ fn end_after(image: &mut [u8], k: usize, end: usize)
     set_end(image, k + 1);
 }
 
-// A file is added in slot k: the directory's block, the file's blocks, the slot, then the header.
+// A file is added in slot k: the directory's block, the file's blocks, the slot, then the header; nothing else (§8.12).
+// After it the image is the model's (§9.5).
 fn add_at(image: &mut [u8], map: &mut MapNumbers, k: usize, e: Entry, content: &[u8])
     requires { ⌜ InStep (now map) (now image) × (k < sequences) × (length (now content) ≤ imageBytes) ⌝ }
     ensures { λ _. ⌜ now (image .exit) ≡ imageOf (addAt (diskOf (now (image .entry))) k e (now (content .entry))) ⌝ }
@@ -89,7 +90,7 @@ fn add_at(image: &mut [u8], map: &mut MapNumbers, k: usize, e: Entry, content: &
     update_counts(image, map);
 }
 
-// The entry of a new file.
+// The entry of a new file (§6.13).
 fn entry_for(name: &[u8], date: u32, size: usize) -> Entry
     requires { ⌜ (length (now name) ≤ nameMost) × (size ≤ imageBytes) ⌝ }
     ensures { λ r. ⌜ r ≡ entryFor (now (name .entry)) date size ⌝ }
@@ -104,15 +105,15 @@ fn entry_for(name: &[u8], date: u32, size: usize) -> Entry
     }
 }
 
-// Whether slot k begins a new block of the directory: it is at the end, and the end falls on one.
+// Whether slot k opens a block of the directory: it is the slot at the end, and its number is a multiple of 24 (§8.10).
 fn opens_block(image: &[u8], k: usize) -> bool
     ensures { λ r. ⌜ r ≡ opensBlock (diskOf (now (image .entry))) k ⌝ }
 {
     (k == dir_end(image)) & (k % BLOCK_SLOTS == 0)
 }
 
-// Whether there are blocks enough for a file of so many bytes in slot k. More bytes than the disk has never fit;
-// that is asked first, since 64 more than the size could wrap.
+// Whether there are blocks enough for a file of so many bytes in slot k (§7.15 §9.7). More bytes than the disk has
+// never fit; that is asked first, since 64 more than the size could wrap.
 fn has_room(image: &[u8], map: &MapNumbers, k: usize, size: usize) -> bool
     requires { ⌜ MapLoaded (now map) (diskOf (now image)) ⌝ }
     ensures { λ r. ⌜ r ≡ leb (needed (diskOf (now (image .entry))) k size) (freeCount (diskOf (now (image .entry)))) ⌝ }
@@ -128,7 +129,7 @@ fn has_room(image: &[u8], map: &MapNumbers, k: usize, size: usize) -> bool
     wanted <= free
 }
 
-// Adds a file to a sound disk, or 12, 13 or 15.
+// Adds a file to a sound disk (§8.9), or 12 (§7.12), 13 with the slot that has the name (§7.13), or 15 (§7.15).
 fn add_sound(
     image: &mut [u8],
     map: &mut MapNumbers,
@@ -157,7 +158,8 @@ fn add_sound(
     done()
 }
 
-// Adds a file. A refusal leaves the image as it was.
+// The call add (§8.9). A refusal leaves the image as it was (§7.19). In a history the next call is on this image
+// (§9.1).
 pub fn add(image: &mut [u8], name: &[u8], date: u32, content: &[u8]) -> Reply
     ensures { λ r. ⌜ (r ≡ Calls.add (now (image .entry)) (now (name .entry)) date (now (content .entry)) .answer) × (now (image .exit) ≡ Calls.add (now (image .entry)) (now (name .entry)) date (now (content .entry)) .image) ⌝ }
 {

@@ -10,7 +10,7 @@ use crate::sizes::BLOCK_BYTES;
 use sector_rules::BlockNumber;
 use sectors::Geometry;
 
-// The blocks that so many bytes take.
+// The blocks that so many bytes take (§6.17).
 pub fn blocks_of(bytes: usize) -> usize
     requires { ⌜ bytes < 2 ^ 33 ⌝ }
     ensures { λ r. ⌜ (r ≡ blocksOf bytes) × (r * blockBytes < bytes + blockBytes) ⌝ }
@@ -18,7 +18,7 @@ pub fn blocks_of(bytes: usize) -> usize
     (bytes + (BLOCK_BYTES - 1)) / BLOCK_BYTES
 }
 
-// Where byte o of block b stands in the image.
+// Where byte o of block b is in the image (§1.3).
 pub fn byte_place(b: usize, o: usize) -> usize
     requires { ⌜ (b < blocks) × (o < blockBytes) ⌝ }
     ensures { λ r. ⌜ (r ≡ imagePlace b o) × (r < imageBytes) ⌝ }
@@ -28,8 +28,8 @@ pub fn byte_place(b: usize, o: usize) -> usize
     at.0 * Geometry::SECTOR_BYTES + o % Geometry::SECTOR_BYTES
 }
 
-// Where offset o of block b stands in the image; its end, where there is no such block. The bytes after it stand
-// behind it to the sector's end.
+// Where offset o of block b stands in the image; its end, where there is no such block. Up to the sector's
+// end the bytes of the block follow each other there (§1.3).
 pub fn run_place(b: usize, o: usize) -> usize
     requires { ⌜ o < blockBytes ⌝ }
     ensures { λ r. ⌜ r ≡ runPlace b o ⌝ }

@@ -47,7 +47,7 @@ use sectors::Geometry;
 use sectors::done;
 use sectors::refused;
 
-// Whether a held slot is sound: its length, its name, and its blocks.
+// Whether a held slot is sound: its length, its name (§7.21), and its blocks (§7.20).
 fn entry_right(
     image: &[u8],
     map: &MapNumbers,
@@ -72,7 +72,7 @@ fn entry_right(
     false
 }
 
-// Whether slot f is below the directory's end and held.
+// Whether slot f is below the directory's end and held (§6.11 §6.12).
 fn is_listed(image: &[u8], dir: &BlockRow, end: usize, f: usize) -> bool
     requires { ⌜ (length (now image) ≡ imageBytes) × (f < slotCount) × Located (now dir) (diskOf (now image)) ⌝ }
     ensures { λ r. ⌜ r ≡ (ltb f end && held (diskOf (now (image .entry))) f) ⌝ }
@@ -83,7 +83,7 @@ fn is_listed(image: &[u8], dir: &BlockRow, end: usize, f: usize) -> bool
     false
 }
 
-// Whether file f is sound: the directory, a held slot, or a number that no record may bear.
+// Whether file f is sound: the directory, a held slot, or a number that no record may bear (§7.22).
 fn file_right(
     image: &[u8],
     map: &MapNumbers,
@@ -106,14 +106,14 @@ fn file_right(
     first_block(first, f) == Geometry::BLOCKS
 }
 
-// The end of the slots that are judged: no directory has more than every block's.
+// The end of the slots that are judged: no directory has more than every block's (§7.22).
 fn judged_end(end: usize) -> usize
     ensures { λ r. ⌜ (r ≡ min end slotCount) × (r ≤ slotCount) ⌝ }
 {
     if end < SLOT_COUNT { end } else { SLOT_COUNT }
 }
 
-// The lowest file that is not sound, or the number of slots.
+// The lowest file that is not sound, or the number of slots (§7.10).
 fn file_fault(image: &[u8], map: &MapNumbers) -> usize
     requires { ⌜ (length (now image) ≡ imageBytes) × MapLoaded (now map) (diskOf (now image)) ⌝ }
     ensures { λ r. ⌜ (r ≡ fileFault (diskOf (now (image .entry)))) × (r ≤ slotCount) ⌝ }
@@ -134,7 +134,7 @@ fn file_fault(image: &[u8], map: &MapNumbers) -> usize
     SLOT_COUNT
 }
 
-// Refusal 9: the map.
+// Refusal 9: the map (§7.9).
 pub fn judge_map(map: &MapNumbers) -> Verdict
     ensures { λ r. ⌜ r ≡ verdictOf (mapRefusal (now (map .entry))) ⌝ }
 {
@@ -145,7 +145,7 @@ pub fn judge_map(map: &MapNumbers) -> Verdict
     Verdict::Passed
 }
 
-// Refusal 10: the directory.
+// Refusal 10: the directory and the files (§7.10).
 fn judge_files(image: &[u8], map: &MapNumbers) -> Verdict
     requires { ⌜ (length (now image) ≡ imageBytes) × MapLoaded (now map) (diskOf (now image)) ⌝ }
     ensures { λ r. ⌜ r ≡ verdictOf (refusal10 (diskOf (now (image .entry)))) ⌝ }
@@ -157,7 +157,7 @@ fn judge_files(image: &[u8], map: &MapNumbers) -> Verdict
     Verdict::Passed
 }
 
-// Refusal 11: the free word.
+// Refusal 11: the free word (§7.11).
 pub fn judge_free(image: &[u8], map: &MapNumbers) -> Verdict
     requires { ⌜ MapLoaded (now map) (diskOf (now image)) ⌝ }
     ensures { λ r. ⌜ r ≡ verdictOf (refusal11 (diskOf (now (image .entry)))) ⌝ }
@@ -168,7 +168,7 @@ pub fn judge_free(image: &[u8], map: &MapNumbers) -> Verdict
     Verdict::Refused(refused(11, 0))
 }
 
-// The judgements 8 to 11, in order.
+// The judgements 8 to 11, in order (§7.18); nothing else of a disk is judged (§7.23).
 pub fn judge(image: &[u8], map: &MapNumbers) -> Verdict
     requires { ⌜ (length (now image) ≡ imageBytes) × MapLoaded (now map) (diskOf (now image)) ⌝ }
     ensures { λ r. ⌜ r ≡ verdictOf (diskRefusal (diskOf (now (image .entry)))) ⌝ }
@@ -187,7 +187,7 @@ pub fn judge(image: &[u8], map: &MapNumbers) -> Verdict
     }
 }
 
-// Checks a block image: 0, or the first refusal of 1 and 8 to 11.
+// The call check (§8.5): done, or the first refusal of 1 and 8 to 11. After a history it is done (§9.5).
 pub fn check(image: &[u8]) -> Reply
     ensures { λ r. ⌜ r ≡ Calls.check (now (image .entry)) ⌝ }
 {

@@ -22,7 +22,7 @@ use crate::sizes::SLOT_BYTES;
 use file_rules::Entry;
 use sectors::Geometry;
 
-// Where slot k stands in the image; its end, where the slot has no block. A slot lies in one sector.
+// Where slot k is in the image; its end, where the slot has no block. A slot lies in one sector (§6.11).
 pub fn slot_place(dir: &BlockRow, k: usize) -> usize
     requires { ⌜ k < slotCount ⌝ }
     ensures { λ r. ⌜ (r ≡ slotPlace (now (dir .entry)) k) × (r ≤ imageBytes) ⌝ }
@@ -34,7 +34,7 @@ pub fn slot_place(dir: &BlockRow, k: usize) -> usize
     Geometry::IMAGE_BYTES
 }
 
-// Whether the 64 bytes at a place are zero.
+// Whether the 64 bytes at a place are all zero (§6.12).
 fn vacant_at(image: &[u8], at: usize) -> bool
     ensures { λ r. ⌜ r ≡ all (λ (i : ℕ). eqb (elementAt (now (image .entry)) at i) 0) slotBytes ⌝ }
 {
@@ -46,7 +46,7 @@ fn vacant_at(image: &[u8], at: usize) -> bool
     true
 }
 
-// Whether slot k is held; slot 0 never is.
+// Whether slot k is held; slot 0 never is (§6.12).
 pub fn held_slot(image: &[u8], dir: &BlockRow, k: usize) -> bool
     requires { ⌜ (length (now image) ≡ imageBytes) × (k < slotCount) × Located (now dir) (diskOf (now image)) ⌝ }
     ensures { λ r. ⌜ r ≡ held (diskOf (now (image .entry))) k ⌝ }
@@ -57,7 +57,7 @@ pub fn held_slot(image: &[u8], dir: &BlockRow, k: usize) -> bool
     !vacant_at(image, slot_place(dir, k))
 }
 
-// The 36 bytes from a place on.
+// The 36 bytes from a place on (§6.13).
 fn name_at(image: &[u8], at: usize) -> [u8; NAME_MOST]
     ensures { λ r. ⌜ r ≡ tab (elementAt (now (image .entry)) at) nameMost ⌝ }
 {
@@ -68,7 +68,7 @@ fn name_at(image: &[u8], at: usize) -> [u8; NAME_MOST]
     name
 }
 
-// The entry in the 64 bytes at a place.
+// The entry in the 64 bytes at a place (§6.13).
 pub fn read_entry(image: &[u8], at: usize) -> Entry
     requires { ⌜ at ≤ imageBytes ⌝ }
     ensures { λ r. ⌜ r ≡ entryOf (elementAt (now (image .entry)) at) ⌝ }
@@ -82,7 +82,7 @@ pub fn read_entry(image: &[u8], at: usize) -> Entry
     }
 }
 
-// How many bytes the name in the slot at a place has.
+// How many bytes the name in the slot at a place has: 36 at most (§6.13).
 pub fn name_length(image: &[u8], at: usize) -> usize
     requires { ⌜ at ≤ imageBytes ⌝ }
     ensures { λ r. ⌜ r ≡ min (at16 (elementAt (now (image .entry)) at) 14) nameMost ⌝ }
@@ -95,7 +95,7 @@ pub fn name_length(image: &[u8], at: usize) -> usize
     }
 }
 
-// Whether the slot at a place has this name.
+// Whether the slot at a place has this name: the same length and the same bytes (§6.14).
 fn entry_has_name(image: &[u8], at: usize, name: &[u8]) -> bool
     requires { ⌜ at ≤ imageBytes ⌝ }
     ensures { λ r. ⌜ r ≡ nameEq (nameOf (entryOf (elementAt (now (image .entry)) at))) (now (name .entry)) ⌝ }
@@ -122,7 +122,7 @@ pub fn slot_has_name(image: &[u8], dir: &BlockRow, k: usize, name: &[u8]) -> boo
     false
 }
 
-// The held slot of this name, or the directory's end.
+// The held slot of this name, or the directory's end (§7.13 §7.14).
 pub fn find_name(image: &[u8], dir: &BlockRow, name: &[u8]) -> usize
     requires { ⌜ (length (now image) ≡ imageBytes) × (dirEnd (diskOf (now image)) ≤ slotCount) × Located (now dir) (diskOf (now image)) ⌝ }
     ensures { λ r. ⌜ r ≡ findName (diskOf (now (image .entry))) (now (name .entry)) ⌝ }
@@ -136,7 +136,7 @@ pub fn find_name(image: &[u8], dir: &BlockRow, name: &[u8]) -> usize
     end
 }
 
-// The lowest vacant slot, or the directory's end.
+// The lowest vacant slot, or the directory's end (§8.9).
 pub fn vacant_slot(image: &[u8], dir: &BlockRow) -> usize
     requires { ⌜ (length (now image) ≡ imageBytes) × (dirEnd (diskOf (now image)) ≤ slotCount) × Located (now dir) (diskOf (now image)) ⌝ }
     ensures { λ r. ⌜ r ≡ vacantSlot (diskOf (now (image .entry))) ⌝ }

@@ -23,10 +23,10 @@ use sectors::SIDE_PLACE;
 use sectors::done;
 use sectors::refused;
 
-// What pads the name.
+// What fills a disk's name to ten bytes (§6.2).
 const SPACE: u8 = 32;
 
-// The signature, the name padded with spaces, and the number.
+// The letters (§6.1), the name filled with spaces, and the number (§6.2).
 fn put_title(head: &mut [u8], name: &[u8], number: u16)
     requires { ⌜ length (now name) ≤ titleMost ⌝ }
     ensures { λ _. ⌜ now (head .exit) ≡ titled (now (head .entry)) (argumentsOf (now (name .entry)) number) ⌝ }
@@ -37,7 +37,7 @@ fn put_title(head: &mut [u8], name: &[u8], number: u16)
     fields::put_high2(head, 14, number);
 }
 
-// The sizes of the disk kind, and its turn.
+// The sizes of the disk kind (§6.5), and its track offset (§6.7).
 fn put_dimensions(head: &mut [u8])
     ensures { λ _. ⌜ now (head .exit) ≡ sized (now (head .entry)) ⌝ }
 {
@@ -50,7 +50,7 @@ fn put_dimensions(head: &mut [u8])
     fields::put_high2(head, 38, Geometry::TRACK_OFFSET as u16);
 }
 
-// The two tables, no update yet, all sectors free but those of two blocks, and a directory of one slot.
+// The two tables (§6.7), no update yet, all sectors free but those of two blocks, and a directory of one slot (§8.4).
 fn put_start(head: &mut [u8])
     ensures { λ _. ⌜ now (head .exit) ≡ started (now (head .entry)) ⌝ }
 {
@@ -66,7 +66,7 @@ fn put_start(head: &mut [u8])
     fields::put_high2(head, 36, SLOT_BYTES as u16);
 }
 
-// The header of a fresh disk.
+// The header of a fresh disk (§8.4).
 fn header_bytes(name: &[u8], number: u16) -> [u8; MAP_START]
     requires { ⌜ length (now name) ≤ titleMost ⌝ }
     ensures { λ r. ⌜ r ≡ tab (freshHeader (argumentsOf (now (name .entry)) number)) mapStart ⌝ }
@@ -78,7 +78,7 @@ fn header_bytes(name: &[u8], number: u16) -> [u8; MAP_START]
     head
 }
 
-// The record of block b of a fresh disk: block 1 is the directory's first.
+// The record of block b of a fresh disk: block 1 is the directory's first (§8.4).
 fn fresh_record(b: usize) -> Record
     ensures { λ r. ⌜ r ≡ freshOwner b ⌝ }
 {
@@ -91,7 +91,7 @@ fn fresh_record(b: usize) -> Record
     Record::Free
 }
 
-// The map of a fresh disk.
+// The map of a fresh disk (§8.4).
 fn write_map(image: &mut [u8])
     requires { ⌜ length (now image) ≡ imageBytes ⌝ }
     ensures { λ _. ⌜ now (image .exit) ≡ imageOf (withRecords (diskOf (now (image .entry))) freshOwner blocks) ⌝ }
@@ -101,7 +101,7 @@ fn write_map(image: &mut [u8])
     }
 }
 
-// All zero but the header and the map.
+// A fresh disk: all zero but the header and the map (§8.4).
 fn write_fresh(image: &mut [u8], name: &[u8], number: u16)
     requires { ⌜ (length (now image) ≡ imageBytes) × (length (now name) ≤ titleMost) ⌝ }
     ensures { λ _. ⌜ now (image .exit) ≡ imageOf (formatDisk (argumentsOf (now (name .entry)) number)) ⌝ }
@@ -112,7 +112,8 @@ fn write_fresh(image: &mut [u8], name: &[u8], number: u16)
     write_map(image);
 }
 
-// Formats an image. A refusal leaves it as it was.
+// The call format (§8.4), or 1 (§7.1) or 12 (§7.12). A refusal leaves the image as it was (§7.19). A history begins
+// with it (§9.1), and its arguments are all that the model knows then (§9.2).
 pub fn format(image: &mut [u8], name: &[u8], number: u16) -> Reply
     ensures { λ r. ⌜ (r ≡ Calls.format (now (image .entry)) (argumentsOf (now (name .entry)) number) .answer) × (now (image .exit) ≡ Calls.format (now (image .entry)) (argumentsOf (now (name .entry)) number) .image) ⌝ }
 {

@@ -22,7 +22,7 @@ use sectors::or_fault;
 use sectors::refused;
 use sectors::wrong_at;
 
-// The number in two bytes of block 0.
+// The number in two bytes of block 0 (§6.5).
 pub fn head_word(image: &[u8], o: usize) -> usize
     requires { ⌜ o < 2 ^ 16 ⌝ }
     ensures { λ r. ⌜ (r ≡ at16 (diskOf (now (image .entry)) 0) o) × (r < 65536) ⌝ }
@@ -30,21 +30,21 @@ pub fn head_word(image: &[u8], o: usize) -> usize
     block_word2(image, 0, o) as usize
 }
 
-// The directory's length in bytes.
+// The directory's length in bytes (§6.6).
 pub fn dir_bytes(image: &[u8]) -> usize
     ensures { λ r. ⌜ (r ≡ dirBytes (diskOf (now (image .entry)))) × (r < 2 ^ 27) ⌝ }
 {
     head_word(image, 34) * BLOCK_BYTES + head_word(image, 36)
 }
 
-// The directory's end: the first slot past it.
+// The directory's end: the number of the first slot that it does not have (§6.11).
 pub fn dir_end(image: &[u8]) -> usize
     ensures { λ r. ⌜ (r ≡ dirEnd (diskOf (now (image .entry)))) × (r < 2 ^ 21) ⌝ }
 {
     dir_bytes(image) / SLOT_BYTES
 }
 
-// The directory's length: a multiple of 64, at least 64, and bytes over below a block.
+// The directory's length: a multiple of 64, at least 64, and the bytes more below a block's (§6.6).
 fn length_right(image: &[u8]) -> bool
     ensures { λ r. ⌜ r ≡ lengthRight (diskOf (now (image .entry))) ⌝ }
 {
@@ -61,7 +61,7 @@ fn word_fault(image: &[u8], o: usize, wanted: usize) -> Fault
     wrong_at(o, head_word(image, o) == wanted)
 }
 
-// The words that say the disk's sizes.
+// The words that say the disk's sizes (§6.5).
 fn dimensions_fault(image: &[u8]) -> Fault
     ensures { λ r. ⌜ r ≡ dimensionsFault (diskOf (now (image .entry))) ⌝ }
 {
@@ -75,7 +75,8 @@ fn dimensions_fault(image: &[u8]) -> Fault
     or_fault(good, or_fault(total, rest))
 }
 
-// The lowest wrong field of the header; its fields stand in the first sector of block 0, which is the image's first.
+// The lowest wrong field of the header: letters (§6.1), sizes, length, track offset and tables (§6.7). Its fields stand
+// in the first sector of block 0, which is the image's first.
 fn disk_header_fault(image: &[u8]) -> Fault
     requires { ⌜ sectorBytes ≤ length (now image) ⌝ }
     ensures { λ r. ⌜ r ≡ diskHeaderFault (diskOf (now (image .entry))) ⌝ }
@@ -89,7 +90,7 @@ fn disk_header_fault(image: &[u8]) -> Fault
     or_fault(signature, or_fault(dimensions_fault(image), rest))
 }
 
-// Refusal 8.
+// Refusal 8: the header (§7.8).
 pub fn judge_header(image: &[u8]) -> Verdict
     requires { ⌜ sectorBytes ≤ length (now image) ⌝ }
     ensures { λ r. ⌜ r ≡ verdictOf (refusal8 (diskOf (now (image .entry)))) ⌝ }

@@ -30,7 +30,7 @@ use sectors::Geometry;
 use sectors::done_with;
 use sectors::refused;
 
-// How many slots below the end are held.
+// How many slots below the end are held (§6.12).
 fn count_held(image: &[u8], dir: &BlockRow, end: usize) -> usize
     requires { ⌜ (length (now image) ≡ imageBytes) × (end ≤ slotCount) × Located (now dir) (diskOf (now image)) ⌝ }
     ensures { λ r. ⌜ (r ≡ count end (held (diskOf (now (image .entry))))) × (r ≤ slotCount) ⌝ }
@@ -66,7 +66,7 @@ fn list_slot(image: &[u8], dir: &BlockRow, k: usize, out: &mut [u8], c: usize) -
     c
 }
 
-// Writes the held slots below the end, one after the other.
+// Writes the held slots below the end, unchanged and in order (§8.6).
 fn list_slots(image: &[u8], dir: &BlockRow, end: usize, out: &mut [u8])
     requires { ⌜ (length (now image) ≡ imageBytes) × (end ≤ slotCount) × Located (now dir) (diskOf (now image)) × (length (Calls.entries (diskOf (now image)) end) ≤ length (now out)) ⌝ }
     ensures { λ _. ⌜ now (out .exit) ≡ put (now (out .entry)) 0 (Calls.entries (diskOf (now (image .entry))) end) ⌝ }
@@ -77,7 +77,7 @@ fn list_slots(image: &[u8], dir: &BlockRow, end: usize, out: &mut [u8])
     }
 }
 
-// Lists a sound disk, or 16.
+// Lists a sound disk (§8.6), or 16 with the bytes needed (§7.16).
 fn list_sound(image: &[u8], map: &MapNumbers, out: &mut [u8]) -> Reply
     requires { ⌜ (length (now image) ≡ imageBytes) × (dirEnd (diskOf (now image)) ≤ slotCount) × MapLoaded (now map) (diskOf (now image)) ⌝ }
     ensures { λ r. ⌜ (r ≡ listSound (diskOf (now (image .entry))) (now (out .entry)) .answer) × (now (out .exit) ≡ listSound (diskOf (now (image .entry))) (now (out .entry)) .buffer) ⌝ }
@@ -93,7 +93,8 @@ fn list_sound(image: &[u8], map: &MapNumbers, out: &mut [u8]) -> Reply
     done_with(needed)
 }
 
-// Lists the held entries, 64 bytes each; a refusal leaves the buffer as it was.
+// The call list (§8.6): the held entries, 64 bytes each, as the model answers it (§9.3). A refusal leaves the buffer as
+// it was (§7.19).
 pub fn list(image: &[u8], out: &mut [u8]) -> Reply
     ensures { λ r. ⌜ (r ≡ Calls.list (now (image .entry)) (now (out .entry)) .answer) × (now (out .exit) ≡ Calls.list (now (image .entry)) (now (out .entry)) .buffer) ⌝ }
 {

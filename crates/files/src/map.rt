@@ -20,13 +20,14 @@ use file_rules::MapRecord;
 use sector_rules::BlockNumber;
 use sectors::Geometry;
 
+// A byte as a wider number.
 fn wide(x: u8) -> u32
     ensures { λ r. ⌜ (r ≡ x) × (r < 256) ⌝ }
 {
     x as u32
 }
 
-// The number of block b's record.
+// The number of block b's record (§6.8).
 fn load_record(image: &[u8], b: usize) -> u32
     requires { ⌜ b < blocks ⌝ }
     ensures { λ r. ⌜ r ≡ numberAt (diskOf (now (image .entry))) b ⌝ }
@@ -58,7 +59,7 @@ pub fn map_record(map: &MapNumbers, block: BlockNumber) -> MapRecord
     MapRecord { block, record }
 }
 
-// The lowest block whose record may not stand there, or the number of blocks.
+// The lowest block whose record is wrong, or the number of blocks (§7.9).
 pub fn map_fault(map: &MapNumbers) -> usize
     ensures { λ r. ⌜ (r ≡ lowest (λ (b : ℕ). recordFault b (loadedRecord (now (map .entry)) b)) blocks) × (r ≤ blocks) ⌝ }
 {
@@ -70,7 +71,7 @@ pub fn map_fault(map: &MapNumbers) -> usize
     Geometry::BLOCKS
 }
 
-// How many records are free.
+// How many records are free (§6.4).
 pub fn count_free(map: &MapNumbers) -> usize
     ensures { λ r. ⌜ (r ≡ count blocks (λ (b : ℕ). isFree (loadedRecord (now (map .entry)) b))) × (r ≤ blocks) ⌝ }
 {
@@ -85,7 +86,8 @@ pub fn count_free(map: &MapNumbers) -> usize
     n
 }
 
-// The block that is sequence s of file f, the lowest if there are several; the number of blocks if there is none.
+// The block that is sequence s of file f, the lowest if there are several (§6.10); the number of blocks if there is
+// none.
 pub fn part_block(map: &MapNumbers, f: usize, s: usize) -> usize
     ensures { λ r. ⌜ (r ≡ lowest (λ (b : ℕ). isPart f s (loadedRecord (now (map .entry)) b)) blocks) × (r ≤ blocks) ⌝ }
 {

@@ -1,4 +1,4 @@
-// Whether the name of a slot is new. Names are compared only where their marks are not told apart.
+// Whether the name of a slot is new. Names are compared only where their hashes are equal.
 ghost use mathlib.Core.Path.{_≡_};
 ghost use mathlib.Core.Bool.{true, not, _&&_};
 ghost use Prim.Native.Nat.{ℕ, suc, _≤_, _<_};
@@ -20,19 +20,20 @@ use crate::directory::slot_place;
 use crate::parts::more;
 use crate::sizes::BlockRow;
 
-// How many marks there are; a vacant slot has the next one.
+// How many hashes there are; a vacant slot has the next number.
 pub const HASHES: usize = 16384;
 
-// How many slots have each mark: none, one, or 2 for more.
+// How many slots have each hash: none, one, or 2 for more.
 pub type NameTally = [u8; HASHES + 1];
 
+// A byte as a wider number.
 fn wide(x: u8) -> usize
     ensures { λ r. ⌜ (r ≡ x) × (r < 256) ⌝ }
 {
     x as usize
 }
 
-// The mark of the name in the slot at a place.
+// The hash of the name in the slot at a place.
 fn name_hash(image: &[u8], at: usize) -> usize
     requires { ⌜ at ≤ imageBytes ⌝ }
     ensures { λ r. ⌜ (r ≡ nameHash (nameOf (entryOf (elementAt (now (image .entry)) at)))) × (r < hashCount) ⌝ }
@@ -45,7 +46,7 @@ fn name_hash(image: &[u8], at: usize) -> usize
     mark
 }
 
-// The mark of slot k.
+// The hash of slot k.
 fn slot_hash(image: &[u8], dir: &BlockRow, k: usize) -> usize
     requires { ⌜ (length (now image) ≡ imageBytes) × (k < slotCount) × Located (now dir) (diskOf (now image)) ⌝ }
     ensures { λ r. ⌜ (r ≡ slotHash (diskOf (now (image .entry))) k) × (r < suc hashCount) ⌝ }
@@ -56,7 +57,7 @@ fn slot_hash(image: &[u8], dir: &BlockRow, k: usize) -> usize
     HASHES
 }
 
-// Counts the slots below the end by their marks.
+// Counts the slots below the end by their hashes.
 pub fn tally_names(image: &[u8], dir: &BlockRow, end: usize, names: &mut NameTally)
     requires { ⌜ (length (now image) ≡ imageBytes) × (end ≤ slotCount) × Located (now dir) (diskOf (now image)) × Tallied (now names) (suc hashCount) (slotHash (diskOf (now image))) 0 ⌝ }
     ensures { λ _. ⌜ Tallied (now (names .exit)) (suc hashCount) (slotHash (diskOf (now (image .entry)))) end ⌝ }
@@ -67,7 +68,7 @@ pub fn tally_names(image: &[u8], dir: &BlockRow, end: usize, names: &mut NameTal
     }
 }
 
-// Whether no slot below k is held and has this name.
+// Whether no slot below k is held and has this name (§7.21).
 fn new_name(image: &[u8], dir: &BlockRow, k: usize, name: &[u8]) -> bool
     requires { ⌜ (length (now image) ≡ imageBytes) × (k < slotCount) × Located (now dir) (diskOf (now image)) ⌝ }
     ensures { λ r. ⌜ r ≡ all (λ (j : ℕ). not (held (diskOf (now (image .entry))) j && nameEq (slotName (diskOf (now (image .entry))) j) (now (name .entry)))) k ⌝ }
@@ -80,8 +81,8 @@ fn new_name(image: &[u8], dir: &BlockRow, k: usize, name: &[u8]) -> bool
     true
 }
 
-// The same for the first n bytes of a name, which are those of the held slot k: a mark that no other slot has tells
-// at once.
+// The same for the first n bytes of a name, which are those of the held slot k (§7.21): a hash that no other slot has
+// tells at once.
 pub fn new_by_hash(
     image: &[u8],
     dir: &BlockRow,

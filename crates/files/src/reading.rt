@@ -34,14 +34,14 @@ use sectors::Geometry;
 use sectors::done_with;
 use sectors::refused;
 
-// Whether a file's name has 1 to 36 bytes.
+// Whether a file's name has 1 to 36 bytes (§6.15).
 pub fn name_right(name: &[u8]) -> bool
     ensures { λ r. ⌜ r ≡ nameRight (now (name .entry)) ⌝ }
 {
     (1 <= name.len()) & (name.len() <= NAME_MOST)
 }
 
-// The bytes of data of the file in slot k.
+// The bytes of data of the file in slot k: 64 fewer than its length (§6.13).
 fn data_length(image: &[u8], dir: &BlockRow, k: usize) -> usize
     requires { ⌜ (length (now image) ≡ imageBytes) × (k < slotCount) × Located (now dir) (diskOf (now image)) ⌝ }
     ensures { λ r. ⌜ (r ≡ slotEntry (diskOf (now (image .entry))) k .length - slotBytes) × (r < 2 ^ 32) ⌝ }
@@ -92,7 +92,7 @@ fn part_length(o: usize, n: usize) -> usize
     if room < n { room } else { n }
 }
 
-// Copies n bytes of the file in slot k, those after its first 64, to the buffer, block by block.
+// Copies n bytes of the file in slot k, those after its first 64 (§6.16), to the buffer, block by block (§8.7).
 fn copy_data(image: &[u8], map: &MapNumbers, k: usize, n: usize, out: &mut [u8])
     requires { ⌜ (length (now image) ≡ imageBytes) × MapLoaded (now map) (diskOf (now image)) × (n < 2 ^ 32) × (n ≤ length (now out)) ⌝ }
     ensures { λ _. ⌜ now (out .exit) ≡ overlay (now (out .entry)) 0 n (λ (i : ℕ). fileByte (diskOf (now (image .entry))) k (slotBytes + i)) ⌝ }
@@ -109,7 +109,7 @@ fn copy_data(image: &[u8], map: &MapNumbers, k: usize, n: usize, out: &mut [u8])
     }
 }
 
-// Reads the file in slot k, or 16.
+// Reads the file in slot k to the beginning of the buffer (§8.8), or 16 with the bytes needed (§7.16).
 fn read_slot(image: &[u8], map: &MapNumbers, dir: &BlockRow, k: usize, out: &mut [u8]) -> Reply
     requires { ⌜ (length (now image) ≡ imageBytes) × (k < slotCount) × MapLoaded (now map) (diskOf (now image)) × Located (now dir) (diskOf (now image)) ⌝ }
     ensures { λ r. ⌜ (r ≡ Calls.deliver (Calls.dataOf (diskOf (now (image .entry))) k) (now (out .entry)) .answer) × (now (out .exit) ≡ Calls.deliver (Calls.dataOf (diskOf (now (image .entry))) k) (now (out .entry)) .buffer) ⌝ }
@@ -122,7 +122,7 @@ fn read_slot(image: &[u8], map: &MapNumbers, dir: &BlockRow, k: usize, out: &mut
     done_with(needed)
 }
 
-// Reads a file of a sound disk, or 12, 14 or 16.
+// Reads a file of a sound disk (§8.7), or 12 (§7.12), 14 (§7.14) or 16 (§7.16).
 fn read_sound(image: &[u8], map: &MapNumbers, name: &[u8], out: &mut [u8]) -> Reply
     requires { ⌜ (length (now image) ≡ imageBytes) × (dirEnd (diskOf (now image)) ≤ slotCount) × MapLoaded (now map) (diskOf (now image)) ⌝ }
     ensures { λ r. ⌜ (r ≡ readSound (diskOf (now (image .entry))) (now (name .entry)) (now (out .entry)) .answer) × (now (out .exit) ≡ readSound (diskOf (now (image .entry))) (now (name .entry)) (now (out .entry)) .buffer) ⌝ }
@@ -139,7 +139,8 @@ fn read_sound(image: &[u8], map: &MapNumbers, name: &[u8], out: &mut [u8]) -> Re
     read_slot(image, map, &dir, k, out)
 }
 
-// Reads a file's data; a refusal leaves the buffer as it was.
+// The call read (§8.7): a file's data. A file present is read as it was added (§9.6), as the model answers it (§9.3). A
+// refusal leaves the buffer as it was (§7.19).
 pub fn read(image: &[u8], name: &[u8], out: &mut [u8]) -> Reply
     ensures { λ r. ⌜ (r ≡ Calls.read (now (image .entry)) (now (name .entry)) (now (out .entry)) .answer) × (now (out .exit) ≡ Calls.read (now (image .entry)) (now (name .entry)) (now (out .entry)) .buffer) ⌝ }
 {

@@ -1,5 +1,5 @@
 // Map records: their numbers and bytes, and every question that is asked of one. A record's number has 24 bits, 12 of
-// file and 12 of sequence; those from FILE_BOUND on say other kinds.
+// file number and 12 of sequence (§6.8); those from FILE_BOUND on are of other kinds (§6.9).
 ghost use mathlib.Core.Path.{_≡_};
 ghost use Prim.Native.Nat.{_+_, _≤_, _<_};
 ghost use Rattle.laws.specs.Lists.{tab};
@@ -14,27 +14,31 @@ use file_rules::MapRecord;
 use file_rules::Record;
 use sectors::Geometry;
 
-// Records whose numbers are below this bear a file; then the numbers of a free record, of the system's, and of one that
-// is none of the kinds.
+// The numbers below this are files' records (§6.9).
 const FILE_BOUND: u32 = 0xF8_0000;
 
+// The number of a free record (§6.9).
 const FREE: u32 = 0xFD_FFFF;
 
+// The number of the system's record (§6.9).
 const SYSTEM: u32 = 0xF8_0000;
 
+// A number of no kind (§6.9).
 const OTHER: u32 = 0xFF_FFFF;
 
-// How many sequences, and file numbers, 12 bits have; so this many is no file's number.
+// How many sequences, and file numbers, 12 bits have (§6.8).
 const SEQUENCES: u32 = 4096;
 
+// No file's number.
 pub const NO_FILE: usize = SEQUENCES as usize;
 
-// What is told of a record that is a later part of a file than those asked for, and of one that is no part of it.
+// What is told of a record that is a later part of a file than those asked for.
 pub const LATER: usize = Geometry::BLOCKS;
 
+// What is told of a record that is no part of the file.
 const ELSEWHERE: usize = Geometry::BLOCKS + 1;
 
-// What a number says.
+// The record of a number (§6.9).
 pub fn record_of(n: u32) -> Record
     ensures { λ r. ⌜ r ≡ decode n ⌝ }
 {
@@ -50,7 +54,7 @@ pub fn record_of(n: u32) -> Record
     Record::Other
 }
 
-// The number of a record.
+// The number of a record (§6.8 §6.9).
 pub fn number_of(r: Record) -> u32
     ensures { λ n. ⌜ n ≡ numberOf r ⌝ }
 {
@@ -62,7 +66,7 @@ pub fn number_of(r: Record) -> u32
     }
 }
 
-// The three bytes of a record.
+// The three bytes of a record, high byte first (§6.8).
 pub fn record_bytes(r: Record) -> [u8; RECORD_BYTES]
     ensures { λ b. ⌜ b ≡ tab (encode r) recordBytes ⌝ }
 {
@@ -74,7 +78,7 @@ pub fn record_bytes(r: Record) -> [u8; RECORD_BYTES]
     ]
 }
 
-// Whether a record is free.
+// Whether a record is free (§6.9).
 pub fn is_free(r: Record) -> bool
     ensures { λ a. ⌜ a ≡ isFree r ⌝ }
 {
@@ -86,7 +90,7 @@ pub fn is_free(r: Record) -> bool
     }
 }
 
-// Whether a record bears file f.
+// Whether a record bears the number of file f (§6.8).
 pub fn bears_file(r: Record, f: usize) -> bool
     ensures { λ a. ⌜ a ≡ bears f r ⌝ }
 {
@@ -146,7 +150,8 @@ pub fn part_of(r: Record, f: usize, n: usize) -> usize
     }
 }
 
-// Whether a record may not stand at its block: block 0 is system, and no other is.
+// Whether a record is wrong for its block: block 0 has the system's and no other block has it, and each is of a kind
+// (§7.9).
 pub fn record_fault(m: MapRecord) -> bool
     ensures { λ r. ⌜ r ≡ recordFault (m .block .0) (m .«record») ⌝ }
 {

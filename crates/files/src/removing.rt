@@ -24,7 +24,8 @@ use sectors::Geometry;
 use sectors::done;
 use sectors::refused;
 
-// The file of slot k is removed; the directory keeps its length.
+// The file of slot k is removed: blocks, slot and header are written; the directory keeps its length (§8.13). After it
+// the image is the model's (§9.5).
 fn remove_at(image: &mut [u8], map: &mut MapNumbers, k: usize)
     requires { ⌜ InStep (now map) (now image) ⌝ }
     ensures { λ _. ⌜ now (image .exit) ≡ imageOf (removeAt (diskOf (now (image .entry))) k) ⌝ }
@@ -34,7 +35,7 @@ fn remove_at(image: &mut [u8], map: &mut MapNumbers, k: usize)
     update_counts(image, map);
 }
 
-// Removes a file from a sound disk, or 12 or 14.
+// Removes a file from a sound disk (§8.13), or 12 (§7.12) or 14 (§7.14).
 fn remove_sound(image: &mut [u8], map: &mut MapNumbers, name: &[u8]) -> Reply
     requires { ⌜ InStep (now map) (now image) × (diskRefusal (diskOf (now image)) ≡ none) ⌝ }
     ensures { λ r. ⌜ Gave (removeSound (diskOf (now (image .entry))) (now (name .entry))) r (now (image .exit)) ⌝ }
@@ -52,7 +53,7 @@ fn remove_sound(image: &mut [u8], map: &mut MapNumbers, name: &[u8]) -> Reply
     done()
 }
 
-// Removes a file. A refusal leaves the image as it was.
+// The call remove (§8.13), by which the model's slot is emptied (§9.4). A refusal leaves the image as it was (§7.19).
 pub fn remove(image: &mut [u8], name: &[u8]) -> Reply
     ensures { λ r. ⌜ (r ≡ Calls.remove (now (image .entry)) (now (name .entry)) .answer) × (now (image .exit) ≡ Calls.remove (now (image .entry)) (now (name .entry)) .image) ⌝ }
 {

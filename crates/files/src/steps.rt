@@ -38,7 +38,7 @@ use file_rules::Record;
 use sector_rules::BlockNumber;
 use sectors::Geometry;
 
-// The record of block b.
+// The record of block b (§6.8).
 pub fn set_record(image: &mut [u8], b: usize, r: Record)
     requires { ⌜ (length (now image) ≡ imageBytes) × (b < blocks) × FitsRecord r ⌝ }
     ensures { λ _. ⌜ now (image .exit) ≡ imageOf (setRecord (diskOf (now (image .entry))) b r) ⌝ }
@@ -64,7 +64,7 @@ fn zero_block(image: &mut [u8], b: usize)
     zero_bytes(image, b, 0, BLOCK_BYTES);
 }
 
-// The 64 bytes of an entry.
+// The 64 bytes of an entry as written (§6.13).
 pub fn entry_bytes(e: Entry) -> [u8; SLOT_BYTES]
     ensures { λ r. ⌜ r ≡ tab (entryByte e) slotBytes ⌝ }
 {
@@ -77,7 +77,7 @@ pub fn entry_bytes(e: Entry) -> [u8; SLOT_BYTES]
     row
 }
 
-// Byte i of a file: its first 64 bytes repeat its entry, then come its data, then zeros.
+// Byte i of a file as written: its entry, its data, then zeros (§6.16).
 fn stored_byte(head: &[u8], content: &[u8], i: usize) -> u8
     ensures { λ r. ⌜ r ≡ storedRow (now (head .entry)) (now (content .entry)) i ⌝ }
 {
@@ -131,7 +131,7 @@ fn put_part(image: &mut [u8], b: usize, s: usize, head: &[u8], content: &[u8])
     }
 }
 
-// The directory's length becomes k slots, in whole blocks and bytes over.
+// The directory's length becomes k slots, in whole blocks and bytes more (§6.6).
 pub fn set_end(image: &mut [u8], k: usize)
     requires { ⌜ (length (now image) ≡ imageBytes) × (k < 2 ^ 32) ⌝ }
     ensures { λ _. ⌜ now (image .exit) ≡ imageOf (setEnd (diskOf (now (image .entry))) k) ⌝ }
@@ -140,7 +140,7 @@ pub fn set_end(image: &mut [u8], k: usize)
     put_word2(image, 0, 36, k * SLOT_BYTES % BLOCK_BYTES);
 }
 
-// The update count grows by 1; what no longer fits its four bytes is left out, so it wraps.
+// The update count grows by 1; what no longer fits its four bytes is left out, so that 0 follows 2^32 - 1 (§6.3).
 fn step_update(image: &mut [u8])
     requires { ⌜ length (now image) ≡ imageBytes ⌝ }
     ensures { λ _. ⌜ now (image .exit) ≡ imageOf (stepUpdate (diskOf (now (image .entry)))) ⌝ }
@@ -149,7 +149,7 @@ fn step_update(image: &mut [u8])
     put_word4(image, 0, 16, updates + 1);
 }
 
-// The free word becomes 3 times the free records.
+// The free word becomes 3 times the free records (§6.4).
 fn set_free(image: &mut [u8], map: &MapNumbers)
     requires { ⌜ InStep (now map) (now image) ⌝ }
     ensures { λ _. ⌜ now (image .exit) ≡ imageOf (setFree (diskOf (now (image .entry)))) ⌝ }
@@ -158,7 +158,7 @@ fn set_free(image: &mut [u8], map: &MapNumbers)
     put_word2(image, 0, 20, Geometry::BLOCK_SECTORS * free);
 }
 
-// What every accepted add and remove ends with: the free word, then the update count.
+// What every accepted add and remove ends with: the free word (§6.4), then the update count (§6.3).
 pub fn update_counts(image: &mut [u8], map: &MapNumbers)
     requires { ⌜ InStep (now map) (now image) ⌝ }
     ensures { λ _. ⌜ now (image .exit) ≡ imageOf (stepUpdate (setFree (diskOf (now (image .entry))))) ⌝ }
@@ -177,7 +177,7 @@ pub fn write_entry(image: &mut [u8], map: &MapNumbers, k: usize, e: Entry)
     put_bytes(image, b, k % BLOCK_SLOTS * SLOT_BYTES, &row);
 }
 
-// Slot k becomes vacant.
+// Slot k becomes vacant: 64 zero bytes (§8.13).
 pub fn zero_slot(image: &mut [u8], map: &MapNumbers, k: usize)
     requires { ⌜ InStep (now map) (now image) ⌝ }
     ensures { λ _. ⌜ now (image .exit) ≡ imageOf (setSlot (diskOf (now (image .entry))) k zeros) ⌝ }
@@ -186,7 +186,7 @@ pub fn zero_slot(image: &mut [u8], map: &MapNumbers, k: usize)
     zero_bytes(image, b, k % BLOCK_SLOTS * SLOT_BYTES, SLOT_BYTES);
 }
 
-// Block b is zeroed and its record freed if it bears file f.
+// Block b is zeroed and its record freed if it bears the number of file f (§8.13), so that no byte of it stays (§9.8).
 fn free_block(image: &mut [u8], map: &mut MapNumbers, f: usize, b: usize)
     requires { ⌜ InStep (now map) (now image) × (b < blocks) ⌝ }
     ensures { λ _. ⌜ (now (image .exit) ≡ imageOf (freeBlock (diskOf (now (image .entry))) f b)) × InStep (now (map .exit)) (now (image .exit)) ⌝ }
@@ -200,7 +200,7 @@ fn free_block(image: &mut [u8], map: &mut MapNumbers, f: usize, b: usize)
     place_record(image, map, b, Record::Free);
 }
 
-// So for all blocks.
+// So for all blocks (§8.13).
 pub fn free_blocks(image: &mut [u8], map: &mut MapNumbers, f: usize)
     requires { ⌜ InStep (now map) (now image) ⌝ }
     ensures { λ _. ⌜ (now (image .exit) ≡ imageOf (freeBlocks blocks (diskOf (now (image .entry))) f)) × InStep (now (map .exit)) (now (image .exit)) ⌝ }
@@ -227,7 +227,7 @@ fn give_block(
     place_record(image, map, b, Record::File(f as u16, s as u16));
 }
 
-// The n lowest free blocks are given to file f, from sequence s on.
+// The n lowest free blocks are given to file f, from sequence s on (§8.11).
 pub fn give_blocks(
     image: &mut [u8],
     map: &mut MapNumbers,

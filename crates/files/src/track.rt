@@ -24,7 +24,7 @@ use sectors::Geometry;
 use sectors::done;
 use sectors::refused;
 
-// A refusal has no counts.
+// A refusal has no counts (§8.14).
 fn refused_track(reply: Reply) -> FirstTrack
     ensures { λ r. ⌜ r ≡ Tracks.refusedTrack reply ⌝ }
 {
@@ -36,7 +36,7 @@ fn refused_track(reply: Reply) -> FirstTrack
     }
 }
 
-// The free word, the good word, and the records that are not free.
+// The free word, the good sectors of the header, and the number of records that are not free (§8.14).
 fn counted_track(track: &[u8], map: &MapNumbers) -> FirstTrack
     requires { ⌜ MapLoaded (now map) (diskOf (now track)) ⌝ }
     ensures { λ r. ⌜ r ≡ Tracks.counted (diskOf (now (track .entry))) ⌝ }
@@ -50,7 +50,7 @@ fn counted_track(track: &[u8], map: &MapNumbers) -> FirstTrack
     }
 }
 
-// The judgements 8, 9 and 11, in order.
+// The judgements 8, 9 and 11, in order (§8.14).
 fn judge_track(track: &[u8], map: &MapNumbers) -> Verdict
     requires { ⌜ (sectorBytes ≤ length (now track)) × MapLoaded (now map) (diskOf (now track)) ⌝ }
     ensures { λ r. ⌜ r ≡ verdictOf (orElse (refusal8 (diskOf (now (track .entry)))) (orElse (refusal9 (diskOf (now (track .entry)))) (refusal11 (diskOf (now (track .entry)))))) ⌝ }
@@ -65,7 +65,7 @@ fn judge_track(track: &[u8], map: &MapNumbers) -> Verdict
     }
 }
 
-// Judges the first track of a disk.
+// The call first track (§8.14), or 1 (§7.1).
 pub fn first_track(track: &[u8]) -> FirstTrack
     ensures { λ r. ⌜ r ≡ Tracks.firstTrack (now (track .entry)) ⌝ }
 {

@@ -1,4 +1,4 @@
-// Document 01's program: judges track 0 on standard input, and prints a refusal or three counts.
+// The example program: judges track 0 on standard input (§8.14), and prints a refusal or three counts.
 use sectors::Geometry;
 
 const TRACK_BYTES: usize = Geometry::TRACK_SECTORS * Geometry::SECTOR_BYTES;

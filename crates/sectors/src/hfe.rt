@@ -11,10 +11,10 @@ use crate::faults::wrong_at;
 use cells::Side;
 use sector_rules::Fault;
 
-// The unit in which header, table and tracks are placed.
+// Bytes of a unit, by which the places of the table and of tracks are counted (§2.1).
 pub const UNIT: usize = 512;
 
-// Revision, tracks, sides, encoding and bit rate.
+// Revision, which is version 1's alone (§2.2); tracks, sides, encoding and bit rate (§2.3).
 fn format_fault(hfe: &[u8]) -> Fault
     ensures { λ r. ⌜ r ≡ formatFault (now (hfe .entry)) ⌝ }
 {
@@ -29,7 +29,7 @@ fn format_fault(hfe: &[u8]) -> Fault
     )
 }
 
-// A byte that is FF or 00, and where it is 00 a 0 after it.
+// A flag that is FF or 00, and where it is 00 a 0 after it (§2.3).
 fn flag_fault(hfe: &[u8], o: usize) -> Fault
     requires { ⌜ o < 2 ^ 16 ⌝ }
     ensures { λ r. ⌜ r ≡ flagFault (now (hfe .entry)) o ⌝ }
@@ -42,7 +42,7 @@ fn flag_fault(hfe: &[u8], o: usize) -> Fault
     )
 }
 
-// The lowest wrong field of the header.
+// Refusal 2: the lowest wrong field of the header (§7.2), its letters first (§2.2).
 pub fn hfe_header_fault(hfe: &[u8]) -> Fault
     ensures { λ r. ⌜ r ≡ hfeHeaderFault (now (hfe .entry)) ⌝ }
 {
@@ -53,7 +53,7 @@ pub fn hfe_header_fault(hfe: &[u8]) -> Fault
     or_fault(signature, or_fault(format, or_fault(table, flags)))
 }
 
-// Where the four bytes of a track stand.
+// Where the four bytes of the entry of a track begin (§2.4).
 fn entry_place(hfe: &[u8], t: usize) -> usize
     requires { ⌜ t < 2 ^ 16 ⌝ }
     ensures { λ r. ⌜ (r ≡ entryPlace (now (hfe .entry)) t) × (r < 2 ^ 26) ⌝ }
@@ -61,7 +61,7 @@ fn entry_place(hfe: &[u8], t: usize) -> usize
     UNIT * fields::low2(hfe, 18) as usize + 4 * t
 }
 
-// Where a track begins.
+// Where a track begins in the image, by its unit (§2.1 §2.4).
 pub fn track_start(hfe: &[u8], t: usize) -> usize
     requires { ⌜ t < 2 ^ 16 ⌝ }
     ensures { λ r. ⌜ (r ≡ trackStart (now (hfe .entry)) t) × (r < 2 ^ 25) ⌝ }
@@ -69,7 +69,7 @@ pub fn track_start(hfe: &[u8], t: usize) -> usize
     UNIT * fields::low2(hfe, entry_place(hfe, t)) as usize
 }
 
-// A track's length in bytes.
+// The length of a track in bytes, both sides together (§2.4).
 pub fn track_length(hfe: &[u8], t: usize) -> u16
     requires { ⌜ t < 2 ^ 16 ⌝ }
     ensures { λ r. ⌜ r ≡ trackLength (now (hfe .entry)) t ⌝ }
@@ -77,7 +77,7 @@ pub fn track_length(hfe: &[u8], t: usize) -> u16
     fields::low2(hfe, entry_place(hfe, t) + 2)
 }
 
-// The bytes of a track's units.
+// The bytes of all units that a track's length needs (§2.5).
 pub fn track_unit_bytes(hfe: &[u8], t: usize) -> usize
     requires { ⌜ t < 2 ^ 16 ⌝ }
     ensures { λ r. ⌜ (r ≡ trackUnitBytes (now (hfe .entry)) t) × (r < 2 ^ 17) ⌝ }
@@ -85,7 +85,7 @@ pub fn track_unit_bytes(hfe: &[u8], t: usize) -> usize
     UNIT * ((track_length(hfe, t) as usize + (UNIT - 1)) / UNIT)
 }
 
-// Whether a track's table entry is good.
+// Whether a track's table entry is good (§2.5).
 fn track_good(hfe: &[u8], t: usize) -> bool
     requires { ⌜ t < 2 ^ 16 ⌝ }
     ensures { λ r. ⌜ r ≡ trackGood (now (hfe .entry)) t ⌝ }
@@ -96,7 +96,7 @@ fn track_good(hfe: &[u8], t: usize) -> bool
     (entry + 4 <= hfe.len()) & (length % 2 == 0) & (0 < length) & (end <= hfe.len())
 }
 
-// The lowest track whose entry is not good.
+// Refusal 3: the lowest track whose entry is not good (§7.3). Entries from 80 on are not looked at (§2.4).
 pub fn table_fault(hfe: &[u8]) -> Fault
     ensures { λ r. ⌜ r ≡ tableFault (now (hfe .entry)) ⌝ }
 {
@@ -108,7 +108,7 @@ pub fn table_fault(hfe: &[u8]) -> Fault
     Fault::Sound
 }
 
-// The part of the image that begins at the track's offset.
+// The track's part of the image: its units (§2.6).
 pub fn track_part(hfe: &[u8], t: usize) -> &[u8]
     requires { ⌜ (t < tracks) × (tableFault (now hfe) ≡ Fault.Sound) ⌝ }
     ensures { λ r. ⌜ now r ≡ trackPart (now (hfe .entry)) t ⌝ }
@@ -118,7 +118,7 @@ pub fn track_part(hfe: &[u8], t: usize) -> &[u8]
     &hfe[start..end]
 }
 
-// Where a side lies in the track's part.
+// Where a side lies in the track's part (§2.6).
 pub fn track_side(hfe: &[u8], t: usize, head: usize) -> Side
     requires { ⌜ (t < tracks) × (head < sides) ⌝ }
     ensures { λ r. ⌜ r ≡ hfeSide head (trackLength (now (hfe .entry)) t) ⌝ }

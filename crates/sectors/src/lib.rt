@@ -20,5 +20,5 @@ pub use replies::done_with;
 pub use replies::refused;
 pub use unpacking::unpack;
 
-// The disk kind.
+// The disk kind (§1.1).
 pub struct Geometry {}

@@ -16,30 +16,34 @@ use crate::written::SIDE_ITEMS;
 use crate::written::write_items;
 use sector_rules::Reply;
 
-// Units of a track, and the unit of the first track.
+// Units of a track (§5.3).
 const TRACK_UNITS: usize = 49;
 
+// The unit of the first track (§5.3).
 const FIRST_UNIT: usize = 2;
 
-// Bytes of a side.
+// Bytes that the cells of a side take (§5.2).
 const SIDE_BYTES: usize = 2 * SIDE_ITEMS;
 
+// Bytes of the written image (§5.3).
 const HFE_BYTES: usize = UNIT * (FIRST_UNIT + TRACK_UNITS * Geometry::TRACKS);
 
-// The bytes of a unit that belong to one side, and the items that they spell.
+// The bytes of a unit that belong to one side (§2.6).
 const RUN: usize = UNIT / Geometry::SIDES;
 
+// The items of these bytes.
 const RUN_ITEMS: usize = RUN / 2;
 
-// What is not named is FF.
+// The byte wherever no rule names another (§5.5).
 const FILL: u8 = 0xFF;
 
-// Where the signature ends, and the header as it is named.
+// Where the letters of the header end.
 const SIGNATURE_END: usize = 8;
 
+// Where the fields of the header end, which are named (§5.4).
 const HEADER_END: usize = 20;
 
-// The header after the signature, up to the table offset; the rest is FF. Tracks and sides are the disk kind's.
+// The header after its letters, up to the table's unit; tracks and sides are the disk kind's (§5.4).
 const HEADER_REST: [u8; HEADER_END - SIGNATURE_END] = [
     0x00,
     Geometry::TRACKS as u8,
@@ -55,7 +59,7 @@ const HEADER_REST: [u8; HEADER_END - SIGNATURE_END] = [
     0x00,
 ];
 
-// Writes the header's unit.
+// Writes the header's unit: its fields (§5.4), and FF in the rest (§5.5).
 fn write_header(hfe: &mut [u8])
     requires { ⌜ length (now hfe) ≡ hfeBytes ⌝ }
     ensures { λ _. ⌜ now (hfe .exit) ≡ overlay (now (hfe .entry)) 0 unitBytes hfeHeaderByte ⌝ }
@@ -65,7 +69,7 @@ fn write_header(hfe: &mut [u8])
     fields::fill(hfe, HEADER_END, UNIT - HEADER_END, FILL);
 }
 
-// Byte j of the track table.
+// Byte j of the table's unit: the tracks' units and lengths (§5.3).
 fn table_byte(j: usize) -> u8
     requires { ⌜ j < unitBytes ⌝ }
     ensures { λ x. ⌜ x ≡ hfeTableByte j ⌝ }
@@ -102,7 +106,7 @@ fn run_items(u: usize) -> usize
     if RUN_ITEMS < left { RUN_ITEMS } else { left }
 }
 
-// Writes what unit u of a track has of side s, from `at` on: items, and FF after the side's last one.
+// Writes what unit u of a track has of side s, from `at` on: items, and FF after the side's last one (§5.5).
 fn write_run(image: &[u8], t: usize, s: usize, u: usize, hfe: &mut [u8], at: usize)
     requires { ⌜ (length (now image) ≡ imageBytes) × (t < tracks) × (s < sides) × (u < trackUnits) × (at + runBytes ≤ length (now hfe)) ⌝ }
     ensures { λ _. ⌜ now (hfe .exit) ≡ overlay (now (hfe .entry)) at runBytes (runByte (now (image .entry)) t s u) ⌝ }
@@ -112,7 +116,7 @@ fn write_run(image: &[u8], t: usize, s: usize, u: usize, hfe: &mut [u8], at: usi
     fields::fill(hfe, at + 2 * n, RUN - 2 * n, FILL);
 }
 
-// Writes the units of all tracks: 256 bytes of side 0, then 256 of side 1.
+// Writes the units of all tracks: 256 bytes of side 0, then 256 of side 1 (§2.6).
 fn write_tracks(image: &[u8], hfe: &mut [u8])
     requires { ⌜ (length (now image) ≡ imageBytes) × (length (now hfe) ≡ hfeBytes) ⌝ }
     ensures { λ _. ⌜ now (hfe .exit) ≡ overlay (now (hfe .entry)) (firstUnit * unitBytes) (trackUnits * tracks * unitBytes) (tracksByte (now (image .entry))) ⌝ }
@@ -131,7 +135,7 @@ fn write_tracks(image: &[u8], hfe: &mut [u8])
     }
 }
 
-// Writes all bytes of the HFE image.
+// Writes all bytes of the HFE image: header, table, tracks (§5.3).
 fn write_hfe(image: &[u8], hfe: &mut [u8])
     requires { ⌜ (length (now image) ≡ imageBytes) × (length (now hfe) ≡ hfeBytes) ⌝ }
     ensures { λ _. ⌜ now (hfe .exit) ≡ tab (hfeByte (now (image .entry))) hfeBytes ⌝ }
@@ -141,7 +145,8 @@ fn write_hfe(image: &[u8], hfe: &mut [u8])
     write_tracks(image, hfe);
 }
 
-// Packs a block image into an HFE image. A refusal leaves the HFE image as it was.
+// Packs a block image into an HFE image (§8.2), or 1, with the HFE image first (§7.1). A refusal leaves the HFE image
+// as it was.
 pub fn pack(image: &[u8], hfe: &mut [u8]) -> Reply
     ensures { λ r. ⌜ (r ≡ packReply (length (now (image .entry))) (length (now (hfe .entry)))) × (now (hfe .exit) ≡ packHfe (now (image .entry)) (now (hfe .entry))) ⌝ }
 {

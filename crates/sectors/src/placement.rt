@@ -10,7 +10,7 @@ use sector_rules::ImageSector;
 use sector_rules::Reply;
 use sector_rules::RunningSector;
 
-// The side (0x80 marks side 1) and the place of each running sector of a track.
+// Side and place by the remainder of a running sector by 18; 0x80 is added on side 1 (§1.4).
 pub const SIDE_PLACE: [u8; Geometry::TRACK_SECTORS] = [
     0x00,
     0x03,
@@ -32,7 +32,7 @@ pub const SIDE_PLACE: [u8; Geometry::TRACK_SECTORS] = [
     0x88,
 ];
 
-// The same table backward, on track 0.
+// The backward table: by side and place on track 0 the running sector (§1.6).
 pub const BACKWARD: [u8; Geometry::TRACK_SECTORS] = [
     0x00,
     0x06,
@@ -54,6 +54,7 @@ pub const BACKWARD: [u8; Geometry::TRACK_SECTORS] = [
     0x11,
 ];
 
+// The numbers of the disk kind (§1.1).
 impl Geometry {
     pub const TRACKS: usize = 80;
 
@@ -65,7 +66,7 @@ impl Geometry {
 
     pub const BLOCK_SECTORS: usize = 3;
 
-    // How far a track is turned against the one before it.
+    // How far a track's places are moved against those of the track before it (§1.5).
     pub const TRACK_OFFSET: usize = 5;
 
     pub const TRACK_SECTORS: usize = Geometry::SIDES * Geometry::SECTORS;
@@ -76,7 +77,7 @@ impl Geometry {
 
     pub const IMAGE_BYTES: usize = Geometry::ALL_SECTORS * Geometry::SECTOR_BYTES;
 
-    // The running number of sector s of a block.
+    // The running sector of sector s of a block (§1.3).
     pub fn running(b: BlockNumber, s: usize) -> RunningSector
         requires { do ⌜ (b .0 < (← ⟦Geometry::BLOCKS⟧)) × (s < (← ⟦Geometry::BLOCK_SECTORS⟧)) ⌝ }
         ensures { λ r. ⌜ r .0 ≡ running (b .0) s ⌝ }
@@ -84,7 +85,7 @@ impl Geometry {
         RunningSector(Geometry::BLOCK_SECTORS * b.0 + s)
     }
 
-    // The image sector of a running sector number.
+    // The image sector of a running sector (§1.5).
     pub fn place(n: RunningSector) -> ImageSector
         requires { do ⌜ n .0 < (← ⟦Geometry::ALL_SECTORS⟧) ⌝ }
         ensures { λ r. ⌜ r .0 ≡ imageSector (n .0) ⌝ }
@@ -97,7 +98,7 @@ impl Geometry {
         ImageSector(Geometry::TRACK_SECTORS * track + Geometry::SECTORS * side + place)
     }
 
-    // The running sector number of an image sector.
+    // The running sector of an image sector (§1.6).
     pub fn running_of(m: ImageSector) -> RunningSector
         requires { do ⌜ m .0 < (← ⟦Geometry::ALL_SECTORS⟧) ⌝ }
         ensures { λ r. ⌜ r .0 ≡ runningSector (m .0) ⌝ }
@@ -111,7 +112,7 @@ impl Geometry {
     }
 }
 
-// The image sector of a block's sector, or 12 where the block or the sector is out of range.
+// The call place: the image sector of a block's sector (§8.3), or 12 where block or sector is out of range (§7.12).
 pub fn place(block: usize, sector: usize) -> Reply
     ensures { λ r. ⌜ r ≡ placeReply block sector ⌝ }
 {

@@ -1,9 +1,9 @@
-// Numbered replies.
+// Replies.
 ghost use mathlib.Core.Path.{_≡_};
 ghost use Rattle.sector_rules.specs.Replies as Replies;
 use sector_rules::Reply;
 
-// Done, with no place named.
+// Done, with no place named (§7.17).
 pub fn done() -> Reply
     ensures { λ r. ⌜ r ≡ Replies.done ⌝ }
 {
@@ -15,7 +15,7 @@ pub fn done() -> Reply
     }
 }
 
-// Done, with the first place named.
+// Done, with the first place named (§7.17).
 pub fn done_with(first: usize) -> Reply
     ensures { λ r. ⌜ r ≡ Replies.reply 0 first 0 0 ⌝ }
 {
@@ -27,7 +27,7 @@ pub fn done_with(first: usize) -> Reply
     }
 }
 
-// A refusal with its number and first place.
+// A refusal with its number and first place (§7.17).
 pub fn refused(number: usize, first: usize) -> Reply
     ensures { λ r. ⌜ r ≡ Replies.reply number first 0 0 ⌝ }
 {

@@ -12,29 +12,31 @@ use sector_rules::Header;
 use sector_rules::Id;
 use sector_rules::Sector;
 
-// The marks after three sync bytes.
+// The byte after the run of a header (§4.1).
 pub const HEADER_MARK: u8 = 0xFE;
 
+// The byte after the run of a data field (§4.5).
 pub const DATA_MARK: u8 = 0xFB;
 
-// N, by which a header names a sector of 512 bytes.
+// N of a header that belongs to a sector: it stands for 512 bytes (§4.2).
 pub const SIZE_CODE: u8 = 2;
 
-// Cells of a header, from its first sync byte to its CRC.
+// Cells of a header, from its first sync byte to the end of its CRC (§4.1).
 const HEADER_CELLS: usize = 160;
 
-// Bytes of a data field before its CRC: three sync bytes, the mark and a sector; and its cells with the CRC.
+// Bytes of a data field before its CRC: three sync bytes, the mark and a sector (§4.5).
 const FIELD_BYTES: usize = 4 + Geometry::SECTOR_BYTES;
 
+// Cells of a data field with its CRC (§4.5).
 const FIELD_CELLS: usize = 16 * (FIELD_BYTES + 2);
 
-// The field begins at most this many cells after the header.
+// The field begins at most this many cells after the end of the header (§4.4).
 const GAP_CELLS: usize = 688;
 
-// The highest R of a side.
+// The highest R of a side (§4.2).
 const LAST_SECTOR: u8 = Geometry::SECTORS as u8;
 
-// Whether the CRC of the n bytes from place i on follows them.
+// Whether the CRC of the n bytes from place i on follows them (§3.9). Damage that it always detects: §10.2.
 fn crc_holds(part: &[u8], side: Side, i: usize, n: usize) -> bool
     requires { ⌜ n < 2 ^ 16 ⌝ }
     ensures { λ r. ⌜ r ≡ crcHolds (from (stream (now (part .entry)) side) i) n ⌝ }
@@ -44,7 +46,7 @@ fn crc_holds(part: &[u8], side: Side, i: usize, n: usize) -> bool
     cells::crc_at(part, side, i, 0, n) == high * 256 + low
 }
 
-// The header at place i.
+// The header at place i, or none (§4.1).
 pub fn header_at(part: &[u8], side: Side, i: usize) -> Header
     ensures { λ r. ⌜ r ≡ headerOf (from (stream (now (part .entry)) side) i) ⌝ }
 {
@@ -66,7 +68,7 @@ pub fn header_at(part: &[u8], side: Side, i: usize) -> Header
     Header::Absent
 }
 
-// One more place found.
+// The answer with one more place found (§4.3).
 fn more(f: Found, i: usize) -> Found
     ensures { λ r. ⌜ r ≡ moreFound f i ⌝ }
 {
@@ -77,7 +79,7 @@ fn more(f: Found, i: usize) -> Found
     }
 }
 
-// Which of the nine sectors of this track and side a header belongs to, from 0; 9 where to none.
+// Which of the nine sectors of this track and side a header belongs to, from 0; 9 where to none (§4.2).
 fn sector_index(header: Header, track: u8, head: u8) -> usize
     ensures { λ r. ⌜ Indexed r header track head ⌝ }
 {
@@ -97,7 +99,7 @@ fn sector_index(header: Header, track: u8, head: u8) -> usize
     }
 }
 
-// The search's answer for each of the nine sectors of a side: each place is tried once.
+// The search's answer for each of the nine sectors of a side: each place is tried once (§4.3).
 pub fn scan(part: &[u8], side: Side, track: u8, head: u8) -> [Found; Geometry::SECTORS]
     ensures { λ r. ⌜ Scanned r (stream (now (part .entry)) side) track head ⌝ }
 {
@@ -113,7 +115,7 @@ pub fn scan(part: &[u8], side: Side, track: u8, head: u8) -> [Found; Geometry::S
     found
 }
 
-// The field whose three sync bytes begin at place j.
+// The field whose run begins at place j (§4.5). With detectable damage it is refused (§10.3).
 fn field_at(part: &[u8], side: Side, j: usize) -> Sector
     requires { ⌜ j < 2 ^ 33 ⌝ }
     ensures { λ r. ⌜ r ≡ fieldAt (stream (now (part .entry)) side) j ⌝ }
@@ -131,7 +133,7 @@ fn field_at(part: &[u8], side: Side, j: usize) -> Sector
     Sector::NoField
 }
 
-// The field of the header at place i.
+// The field of the header at place i: at the first run after it, and at no later one (§4.4).
 fn field_of(part: &[u8], side: Side, i: usize) -> Sector
     ensures { λ r. ⌜ r ≡ fieldOf (stream (now (part .entry)) side) i ⌝ }
 {
@@ -146,7 +148,7 @@ fn field_of(part: &[u8], side: Side, i: usize) -> Sector
     Sector::NoField
 }
 
-// What the search's answer gives.
+// What a sector gives, by the search's answer (§4.6).
 pub fn sector_found(part: &[u8], side: Side, found: Found) -> Sector
     ensures { λ r. ⌜ r ≡ sectorFound (stream (now (part .entry)) side) found ⌝ }
 {

@@ -17,7 +17,8 @@ use cells::Side;
 use sector_rules::Fault;
 use sector_rules::Sector;
 
-// What the nine sectors of a side give, each judged alone, R from 1.
+// What the nine sectors of a side give, each judged alone, R from 1 (§4.6). On a side with damage anywhere, without a
+// new run, a sector gives its recorded bytes or none (§10.4).
 pub fn side_sectors(part: &[u8], side: Side, track: u8, head: u8) -> [Sector; Geometry::SECTORS]
     ensures { λ r. ⌜ SideGives r (stream (now (part .entry)) side) track head ⌝ }
 {
@@ -30,7 +31,7 @@ pub fn side_sectors(part: &[u8], side: Side, track: u8, head: u8) -> [Sector; Ge
     gives
 }
 
-// What the nine sectors of the n-th side of an HFE image give: image sectors 9n to 9n + 8.
+// What the nine sectors of the n-th side of an HFE image give: image sectors 9n to 9n + 8 (§1.2).
 pub fn image_side(hfe: &[u8], n: usize) -> [Sector; Geometry::SECTORS]
     requires { ⌜ (tableFault (now hfe) ≡ Fault.Sound) × (n < tracks * sides) ⌝ }
     ensures { λ r. ⌜ ImageSideGives r (now (hfe .entry)) n ⌝ }
@@ -42,7 +43,7 @@ pub fn image_side(hfe: &[u8], n: usize) -> [Sector; Geometry::SECTORS]
     side_sectors(part, side, track as u8, head as u8)
 }
 
-// Writes the 512 bytes whose cells begin at place p into the image from `at` on.
+// Writes the 512 bytes whose cells begin at place p into the image from `at` on (§4.6).
 fn write_sector(part: &[u8], side: Side, p: usize, image: &mut [u8], at: usize)
     requires { ⌜ at + sectorBytes ≤ length (now image) ⌝ }
     ensures { λ _. ⌜ now (image .exit) ≡ overlay (now (image .entry)) at sectorBytes (sectorByte (stream (now (part .entry)) side) p) ⌝ }

@@ -22,9 +22,10 @@ use sector_rules::Fault;
 use sector_rules::Reply;
 use sector_rules::Sector;
 
-// An HFE image to read has at least this many bytes.
+// An HFE image that is read has at least this many bytes (§7.1).
 const LEAST_HFE: usize = 1024;
 
+// Whether a sector is bad: its reply is a refusal (§7.18).
 fn is_bad(sector: Sector) -> bool
     ensures { λ r. ⌜ r ≡ isBad sector ⌝ }
 {
@@ -50,7 +51,7 @@ fn place_of(sector: Sector) -> usize
     }
 }
 
-// A refusal that names sector m by track, side and R.
+// A refusal that names sector m by track, side and R (§1.2).
 fn at_sector(number: usize, m: usize) -> Reply
     requires { ⌜ m < allSectors ⌝ }
     ensures { λ r. ⌜ r ≡ reply number (trackOf m) (sideOf m) (rOf m) ⌝ }
@@ -63,7 +64,7 @@ fn at_sector(number: usize, m: usize) -> Reply
     }
 }
 
-// The reply for what sector m gives.
+// The reply for what sector m gives: 4, 5, 6 or 7, or done (§7.4 §7.5 §7.6 §7.7).
 fn sector_reply(m: usize, sector: Sector) -> Reply
     requires { ⌜ m < allSectors ⌝ }
     ensures { λ r. ⌜ r ≡ sectorReply m sector ⌝ }
@@ -77,7 +78,8 @@ fn sector_reply(m: usize, sector: Sector) -> Reply
     }
 }
 
-// Judges the nine sectors of the n-th side, where those before it are good, and notes the places of their bytes.
+// Judges the nine sectors of the n-th side, where those before it are good, and notes the places of their bytes. The
+// first bad sector decides, whatever its number (§7.18).
 fn judge_side(hfe: &[u8], n: usize, places: &mut [usize]) -> Reply
     requires { ⌜ (tableFault (now hfe) ≡ Fault.Sound) × (n < tracks * sides) × (length (now places) ≡ allSectors) × Noted (now hfe) (now places) (sectors * n) ⌝ }
     ensures { λ r. ⌜ SectorsJudged (now (hfe .entry)) (now (places .exit)) (sectors * (n + 1)) r ⌝ }
@@ -108,7 +110,7 @@ fn judge_all(hfe: &[u8], places: &mut [usize]) -> Reply
     done()
 }
 
-// Writes all sectors' bytes, which are at these places, side by side.
+// Writes all sectors' bytes, which are at these places, side after side (§8.1).
 fn write_sides(hfe: &[u8], places: &[usize], image: &mut [u8])
     requires { ⌜ (tableFault (now hfe) ≡ Fault.Sound) × (length (now places) ≡ allSectors) × (length (now image) ≡ imageBytes) × Noted (now hfe) (now places) allSectors ⌝ }
     ensures { λ _. ⌜ now (image .exit) ≡ tab (unpackedByte (now (hfe .entry))) imageBytes ⌝ }
@@ -122,7 +124,7 @@ fn write_sides(hfe: &[u8], places: &[usize], image: &mut [u8])
     }
 }
 
-// Judges the sectors, and writes them where all are good.
+// Judges the sectors, and writes them where all are good, so that a refusal changes no byte (§7.19).
 fn unpack_sectors(hfe: &[u8], image: &mut [u8]) -> Reply
     requires { ⌜ (tableFault (now hfe) ≡ Fault.Sound) × (length (now image) ≡ imageBytes) ⌝ }
     ensures { λ r. ⌜ SectorsUnpacked (now (hfe .entry)) (now (image .entry)) (now (image .exit)) r ⌝ }
@@ -136,7 +138,8 @@ fn unpack_sectors(hfe: &[u8], image: &mut [u8]) -> Reply
     reply
 }
 
-// Unpacks an HFE image to a block image. A refusal leaves the block image as it was.
+// Unpacks an HFE image to a block image (§8.1): 1, with the HFE image first (§7.1), to 7. A refusal leaves the block
+// image as it was. A packed image with one burst a side at most is refused or gives what was packed (§10.5).
 pub fn unpack(hfe: &[u8], image: &mut [u8]) -> Reply
     ensures { λ r. ⌜ (r ≡ unpackReply (now (hfe .entry)) (length (now (image .entry)))) × (now (image .exit) ≡ unpackImage (now (hfe .entry)) (now (image .entry))) ⌝ }
 {

@@ -16,15 +16,16 @@ use crate::search::HEADER_MARK;
 use crate::search::SIZE_CODE;
 use cells::Item;
 
-// Items of a side.
+// Items of a side (§5.2).
 pub const SIDE_ITEMS: usize = 6250;
 
+// The byte of all gaps (§5.1 §5.2).
 const GAP: u8 = 0x4E;
 
-// What a sync mark spells, as the CRC takes it.
+// The byte of a sync mark, as the CRC takes it (§3.9).
 const SYNC_BYTE: u8 = 0xA1;
 
-// Where the parts of a side's lead end: gap, zeros, index marks, their byte, and the gap before the first sector.
+// Where the parts of a side's lead end: gap, zeros, index marks, their byte, and the gap before the first sector (§5.2).
 const INDEX_GAP: usize = 80;
 
 const INDEX_ZEROS: usize = INDEX_GAP + 12;
@@ -35,7 +36,8 @@ const INDEX_END: usize = INDEX_MARKS + 1;
 
 const LEAD: usize = INDEX_END + 50;
 
-// Where the parts of a sector end, before its data field: zeros, sync marks, header with CRC, gap, zeros, sync marks.
+// Where the parts of a sector end, before its data field (§5.1): zeros, sync marks, header with CRC, gap, zeros, sync
+// marks.
 const ZEROS: usize = 12;
 
 const HEADER_START: usize = ZEROS + 3;
@@ -54,9 +56,10 @@ const HIGH_CRC: usize = 1 + Geometry::SECTOR_BYTES;
 // Where the data field ends: mark, data and CRC; then comes the gap to the next sector.
 const FIELD_END: usize = FIELD_START + 1 + Geometry::SECTOR_BYTES + 2;
 
+// Items of a sector (§5.1).
 const SECTOR_ITEMS: usize = FIELD_END + 84;
 
-// Where sector R of a side begins in the block image.
+// Where sector R of a side begins in the block image (§1.2).
 fn sector_start(t: usize, s: usize, r: usize) -> usize
     requires { ⌜ (t < tracks) × (s < sides) × (1 ≤ r) × (r ≤ sectors) ⌝ }
     ensures { λ k. ⌜ k ≡ sectorBytes * imageSectorOf t s r ⌝ }
@@ -64,7 +67,7 @@ fn sector_start(t: usize, s: usize, r: usize) -> usize
     Geometry::SECTOR_BYTES * (Geometry::TRACK_SECTORS * t + Geometry::SECTORS * s + (r - 1))
 }
 
-// Byte k of a header from its mark on, with its CRC.
+// Byte k of a header from its mark on, with its CRC (§5.1 §3.9).
 fn sector_header_byte(t: usize, s: usize, r: usize, k: usize) -> u8
     requires { ⌜ (t < tracks) × (s < sides) × (r ≤ sectors) × (k < headerItems) ⌝ }
     ensures { λ x. ⌜ x ≡ getD (withCrc (headerRow t s r)) k 0 ⌝ }
@@ -90,7 +93,7 @@ fn sector_header_byte(t: usize, s: usize, r: usize, k: usize) -> u8
     }
 }
 
-// Byte k of a data field from its mark on, with its CRC; its 512 bytes stand in the image from `at` on.
+// Byte k of a data field from its mark on, with its CRC; its 512 bytes stand in the image from `at` on (§5.1 §3.9).
 fn field_byte(image: &[u8], at: usize, k: usize) -> u8
     requires { ⌜ (at + sectorBytes ≤ length (now image)) × (k < fieldItems) ⌝ }
     ensures { λ x. ⌜ x ≡ getD (withCrc (dataMark ∷ window (now (image .entry)) at sectorBytes)) k 0 ⌝ }
@@ -111,7 +114,7 @@ fn field_byte(image: &[u8], at: usize, k: usize) -> u8
     }
 }
 
-// Item o of sector R, before its data field.
+// Item o of sector R, before its data field (§5.1).
 fn header_item(t: usize, s: usize, r: usize, o: usize) -> Item
     requires { ⌜ (t < tracks) × (s < sides) × (r ≤ sectors) × (o < fieldStart) ⌝ }
     ensures { λ x. ⌜ ((d : List ℕ) → x ≡ sectorItem t s r d o) ⌝ }
@@ -134,7 +137,7 @@ fn header_item(t: usize, s: usize, r: usize, o: usize) -> Item
     Item::Sync
 }
 
-// Item o of sector R of a side.
+// Item o of sector R of a side (§5.1).
 fn sector_item(image: &[u8], t: usize, s: usize, r: usize, o: usize) -> Item
     requires { ⌜ (length (now image) ≡ imageBytes) × (t < tracks) × (s < sides) × (1 ≤ r) × (r ≤ sectors) ⌝ }
     ensures { λ x. ⌜ x ≡ sectorItem t s r (sectorData (now (image .entry)) t s r) o ⌝ }
@@ -148,7 +151,7 @@ fn sector_item(image: &[u8], t: usize, s: usize, r: usize, o: usize) -> Item
     Item::Plain(GAP)
 }
 
-// Item q of a side, before its first sector.
+// Item q of a side, before its first sector (§5.2).
 fn lead_item(q: usize) -> Item
     requires { ⌜ q < leadItems ⌝ }
     ensures { λ x. ⌜ ((image : List ℕ) (t s : ℕ) → x ≡ imageSide image t s q) ⌝ }
@@ -168,7 +171,7 @@ fn lead_item(q: usize) -> Item
     Item::Plain(GAP)
 }
 
-// Item q of a side.
+// Item q of a side: its beginning, its sectors, and 4E to the end (§5.2).
 fn side_item(image: &[u8], t: usize, s: usize, q: usize) -> Item
     requires { ⌜ (length (now image) ≡ imageBytes) × (t < tracks) × (s < sides) ⌝ }
     ensures { λ x. ⌜ x ≡ imageSide (now (image .entry)) t s q ⌝ }
@@ -183,7 +186,7 @@ fn side_item(image: &[u8], t: usize, s: usize, q: usize) -> Item
     Item::Plain(GAP)
 }
 
-// The bit before item q of a side; before the first it counts as 0.
+// The bit before item q of a side; before the first it is 0 (§3.4).
 fn bit_before(image: &[u8], t: usize, s: usize, q: usize) -> u8
     requires { ⌜ (length (now image) ≡ imageBytes) × (t < tracks) × (s < sides) ⌝ }
     ensures { λ x. ⌜ x ≡ bitBefore (imageSide (now (image .entry)) t s) q ⌝ }
