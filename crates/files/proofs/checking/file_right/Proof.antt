@@ -9,7 +9,7 @@ use Rattle.file_rules.specs.Disk.{diskOf}
 use Rattle.file_rules.specs.Directory.{held}
 use Rattle.file_rules.specs.Check.{partsRight}
 use Rattle.files.specs.Laws.Loading.Chains.{chain-empty}
-use Rattle.files.specs.Laws.Judging.Sound.{parts-loaded, no-record-mapped, file-zero, file-listed, file-unlisted}
+use Rattle.files.specs.Laws.Judging.Sound.{parts-loaded, no-record-loaded, file-zero, file-listed, file-unlisted}
 use borrow.Author.Needs.{needs}
 use Rattle.files.proofs.checking.file_right.Statement.{statement}
 use Rattle.files.proofs.checking.file_right.Tie as tie
@@ -39,7 +39,7 @@ first-block-requires : tie.Need-first-block-requires
 first-block-requires c κs = search needs
 
 returns-3 : tie.Need-returns-3
-returns-3 c = ap (λ (b : ℕ). eqb b blocks) (c .first-block .ensures) ∙ chain-empty _ _ _ _ (c .before .before .before .before .before .pre .0 .loadedChains) ∙ no-record-mapped _ _ (c .before .before .before .before .before .pre .0 .loadedMap) _ ∙ file-unlisted _ _ (c .before .before .before .if1 .left) (ap (λ (x : ℕ). ltb (c .before .before .before .before .before .args .f) x && held (diskOf (c .before .before .before .before .before .args .image .now)) (c .before .before .before .before .before .args .f)) (sym (c .before .before .before .before .before .pre .2)) ∙ sym (c .before .before .is-listed .ensures) ∙ c .before .if2 .left)
+returns-3 c = ap (λ (b : ℕ). eqb b blocks) (c .first-block .ensures) ∙ chain-empty _ _ _ _ (c .before .before .before .before .before .pre .0 .loadedChains) ∙ no-record-loaded _ _ (c .before .before .before .before .before .pre .0 .loadedMap) _ ∙ file-unlisted _ _ (c .before .before .before .if1 .left) (ap (λ (x : ℕ). ltb (c .before .before .before .before .before .args .f) x && held (diskOf (c .before .before .before .before .before .args .image .now)) (c .before .before .before .before .before .args .f)) (sym (c .before .before .before .before .before .pre .2)) ∙ sym (c .before .before .is-listed .ensures) ∙ c .before .if2 .left)
 
 pub file-right-spec : {M : Type 1} → statement M
 file-right-spec = tie.close (tie.spec dir-bytes-requires blocks-of-requires parts-right-requires returns is-listed-requires entry-right-requires returns-2 first-block-requires returns-3)

@@ -1,5 +1,5 @@
 -- Add and remove as chains of their steps on an image.
--- Assumes nothing.
+-- Rests on the steps on disks that agree (Writing).
 use mathlib.Core.Path.{_≡_, refl, sym, ap, ap₂, _∙_}
 use mathlib.Core.Logic.{_≢_}
 use mathlib.Core.List.{List, []}
@@ -24,6 +24,7 @@ use Rattle.file_rules.specs.Written.{storedByte, blocksFor, zeros, setSlot, set
 
 -- ---- remove
 
+-- blocks freed, slot zeroed, free word and update count, one after the other, are a remove
 pub remove-written : (l₀ l₁ l₂ l₃ : List ℕ) (k : ℕ) → l₁ ≡ imageOf (freeBlocks blocks (diskOf l₀) k)
     → l₂ ≡ imageOf (setSlot (diskOf l₁) k zeros) → l₃ ≡ imageOf (stepUpdate (setFree (diskOf l₂))) → l₃ ≡ imageOf (removeAt (diskOf l₀) k)
 unfolding removeAt
@@ -35,17 +36,21 @@ remove-written l₀ l₁ l₂ l₃ k e₁ e₂ e₃ =
 -- ---- add: the directory's block
 
 module _ (l : List ℕ) (k end : ℕ) (long : length l ≡ imageBytes) (e : end ≡ dirEnd (diskOf l)) where
+  -- where the slot is not at the directory's end, the directory takes no block
   pub grow-inside : k ≢ end → l ≡ imageOf (growDir (diskOf l) k)
   unfolding growDir opensBlock
   grow-inside h =
       let q : k ≢ dirEnd (diskOf l) = λ z. h (z ∙ sym e) in
       sym (image-disk l long) ∙ ap imageOf (sym (cond-false _ _ (and-false-left (eqb (k % blockSlots) 0) (eq-false q))))
 
+  -- where the slot is not the first of a block, the directory takes no block
   pub grow-within : k % blockSlots ≢ 0 → l ≡ imageOf (growDir (diskOf l) k)
   unfolding growDir opensBlock
   grow-within h = sym (image-disk l long) ∙ ap imageOf (sym (cond-false _ _ (and-false-right (eqb k (dirEnd (diskOf l))) (eq-false h))))
 
-  pub grow-block : (m : List ℕ) → k ≡ end → k % blockSlots ≡ 0 → m ≡ imageOf (giveLowest (diskOf l) 0 (storedRow [] []) (k / blockSlots) 1 blocks) → m ≡ imageOf (growDir (diskOf l) k)
+  -- else it takes the lowest free block, zeroed
+  pub grow-block : (m : List ℕ) → k ≡ end → k % blockSlots ≡ 0
+      → m ≡ imageOf (giveLowest (diskOf l) 0 (storedRow [] []) (k / blockSlots) 1 blocks) → m ≡ imageOf (growDir (diskOf l) k)
   unfolding growDir opensBlock giveLowest
   grow-block m h z q =
       q
@@ -55,10 +60,12 @@ module _ (l : List ℕ) (k end : ℕ) (long : length l ≡ imageBytes) (e : end 
 -- ---- the directory's end
 
 module _ (k end : ℕ) where
+  -- where the slot is not at the directory's end, its length stays
   pub end-kept : (l : List ℕ) → length l ≡ imageBytes → k ≢ end → l ≡ imageOf (endAfter k end (diskOf l))
   unfolding endAfter
   end-kept l long h = sym (image-disk l long) ∙ ap imageOf (sym (cond-false _ _ (eq-false h)))
 
+  -- else it is longer by that slot
   pub end-grown : (l m : List ℕ) → k ≡ end → m ≡ imageOf (setEnd (diskOf l) (k + 1)) → m ≡ imageOf (endAfter k end (diskOf l))
   unfolding endAfter
   end-grown l m h q = q ∙ ap (λ (n : ℕ). imageOf (setEnd (diskOf l) n)) (add-one k) ∙ ap imageOf (sym (cond-true _ _ (eq-true h)))
@@ -95,6 +102,7 @@ module _ (l₀ : List ℕ) (k end : ℕ) (x : Entry) (content : List ℕ) where
   unfolding addAt giveLowest
   add-steps = refl
 
+  -- directory's block, file's blocks, slot, directory's end, free word and update count, one after the other, are an add
   pub add-written : (l₁ l₂ l₃ l₄ l₅ head : List ℕ) (n : ℕ) → end ≡ dirEnd d₀
       → head ≡ tab (entryByte x) slotBytes
       → n ≡ blocksFor (length content)

@@ -1,5 +1,5 @@
--- Laws of list and read: the parts of which the result is made, one after the other, and read by its cases.
--- Assumes nothing.
+-- List and read: the parts of which the result is made, one after the other, and read by its cases.
+-- Rests on slots as rows (Loading.Slots) and on the laws of written rows (laws, Overlay).
 use mathlib.Core.Path.{_≡_, refl, sym, ap, ap₂, _∙_}
 use mathlib.Core.Bool.{true, false, cond}
 use mathlib.Core.List.{List, [], _++_}
@@ -28,6 +28,7 @@ use Rattle.files.specs.Laws.Loading.Slots.{Located, slotPlace, slot-row}
 
 -- ---- put, one list after the other
 
+-- no bytes put leave the list as it is
 pub put-none : (d : List ℕ) (at : ℕ) → d ≡ put d at []
 unfolding put
 put-none d at = overlay-none d at (elementAt [] 0)
@@ -43,6 +44,7 @@ unfoldable pub slotPart : Disk → ℕ → List ℕ
 slotPart d k = cond (held d k) (tab (slotByte d k) slotBytes) []
 
 module _ (d : Disk) where
+  -- one slot more of the entries
   pub entries-more : (k : ℕ) → entries d (k + 1) ≡ entries d k ++ slotPart d k
   unfolding entries slotPart
   entries-more k = ap (entries d) (add-one k)
@@ -51,10 +53,12 @@ module _ (d : Disk) where
   unfolding slotPart
   part-length-held k e = ap length (cond-true (tab (slotByte d k) slotBytes) [] e) ∙ tab-length (slotByte d k) slotBytes
 
+  -- a vacant slot adds nothing
   pub part-vacant : (k : ℕ) → held d k ≡ false → slotPart d k ≡ []
   unfolding slotPart
   part-vacant k e = cond-false (tab (slotByte d k) slotBytes) [] e
 
+  -- a held slot adds 64 bytes
   pub part-held : (k : ℕ) → held d k ≡ true → slotBytes ≡ length (slotPart d k)
   part-held k e = sym (part-length-held k e)
 
@@ -62,6 +66,7 @@ module _ (d : Disk) where
   unfolding entries slotPart
   entries-step k = length-append (entries d k) (slotPart d k)
 
+  -- the entries have 64 bytes for each held slot
   pub entries-length : (n : ℕ) → slotBytes * count n (held d) ≡ length (entries d n)
   unfolding entries count
   entries-length zero = refl
@@ -99,22 +104,27 @@ module _ (bytes buf : List ℕ) (n : ℕ) (e : n ≡ length bytes) where
   unfolding deliver
   misses h = cond-false _ _ (le-false {a = length bytes} {b = length buf} (omega arith))
 
+  -- a result that fits is done, with its length
   pub fits-answer : n ≤ length buf → reply 0 n 0 0 ≡ deliver bytes buf .answer
   fits-answer h = ap (λ (x : ℕ). reply 0 x 0 0) e ∙ ap (λ (o : Outcome). o .answer) (sym (fits h))
 
+  -- a result that fits stands at the beginning of the buffer
   pub fits-buffer : n ≤ length buf → put buf 0 bytes ≡ deliver bytes buf .buffer
   fits-buffer h = ap (λ (o : Outcome). o .buffer) (sym (fits h))
 
+  -- a result that does not fit is refused with 16 and its length
   pub misses-answer : length buf < n → reply 16 n 0 0 ≡ deliver bytes buf .answer
   unfolding bufferKept
   misses-answer h = ap (λ (x : ℕ). reply 16 x 0 0) e ∙ ap (λ (o : Outcome). o .answer) (sym (misses h))
 
+  -- a result that does not fit leaves the buffer as it was
   pub misses-buffer : length buf < n → buf ≡ deliver bytes buf .buffer
   unfolding bufferKept
   misses-buffer h = ap (λ (o : Outcome). o .buffer) (sym (misses h))
 
 -- ---- a file's bytes
 
+-- bytes of a file in one block stand in a row there
 pub file-run : (d : Disk) (k i j b : ℕ) → b ≡ partBlock d k ((slotBytes + i) / blockBytes) → (slotBytes + i) % blockBytes + j < blockBytes
     → d b ((slotBytes + i) % blockBytes + j) ≡ fileByte d k (slotBytes + (i + j))
 unfolding fileByte
@@ -125,10 +135,12 @@ file-run d k i j b e h =
     ∙ ap₂ (λ (x y : ℕ). d (partBlock d k x) y) (sym q) (sym r)
 
 module _ (d : Disk) (k : ℕ) where
+  -- the data is as long as the entry says
   pub data-length : (n : ℕ) → n ≡ slotEntry d k .length - slotBytes → n ≡ length (dataOf d k)
   unfolding dataOf
   data-length n e = e ∙ sym (tab-length (λ (i : ℕ). fileByte d k (slotBytes + i)) (slotEntry d k .length - slotBytes))
 
+  -- the file's bytes from 64 on, put into the buffer, are the data
   pub data-put : (buf : List ℕ) (n : ℕ) → n ≡ slotEntry d k .length - slotBytes
       → overlay buf 0 n (λ (i : ℕ). fileByte d k (slotBytes + i)) ≡ put buf 0 (dataOf d k)
   unfolding dataOf
@@ -139,43 +151,52 @@ module _ (d : Disk) (k : ℕ) where
 -- ---- read of a sound disk
 
 module _ (d : Disk) (name buf : List ℕ) where
+  -- a read of a name that is not acceptable is refused with 12
   pub read-misnamed : nameRight name ≡ false → readSound d name buf ≡ bufferKept buf (refusal 12)
   unfolding readSound
   read-misnamed t = cond-false _ _ t
 
   module _ (t : nameRight name ≡ true) (k : ℕ) (e : k ≡ findName d name) (end : ℕ) (q : end ≡ dirEnd d) where
+    -- a read of a name that no slot has is refused with 14
     pub read-absent : end ≤ k → readSound d name buf ≡ bufferKept buf (refusal 14)
     unfolding readSound
     read-absent h = rw (t, ← e, ← q, lt-false h)
 
+    -- a read of a slot's name delivers its data
     pub read-present : k < end → readSound d name buf ≡ deliver (dataOf d k) buf
     unfolding readSound
     read-present h = rw (t, ← e, ← q, lt-true h)
 
 -- ---- what a call that reads gave, by its refusal or by what it is equal to
 
+-- a refusal gives its reply and the buffer as it was
 pub gave-kept : (buf : List ℕ) (o : Outcome) (r q : Reply) → o ≡ bufferKept buf q → r ≡ q → (r ≡ o .answer) × (buf ≡ o .buffer)
 unfolding bufferKept
 gave-kept buf o r q e h = (h ∙ sym (ap (λ (x : Outcome). x .answer) e), sym (ap (λ (x : Outcome). x .buffer) e))
 
+-- what equals an outcome gives its reply and buffer
 pub gave-same : (o o′ : Outcome) (r : Reply) (l : List ℕ) → o ≡ o′ → (r ≡ o′ .answer) × (l ≡ o′ .buffer) → (r ≡ o .answer) × (l ≡ o .buffer)
 gave-same o o′ r l e h = (h .0 ∙ sym (ap (λ (x : Outcome). x .answer) e), h .1 ∙ sym (ap (λ (x : Outcome). x .buffer) e))
 
 -- ---- one slot more of a list
 
 module _ (d : Disk) (k c : ℕ) (e : c ≡ length (entries d k)) where
+  -- after one slot more the entries end there
   pub next-place : (r : ℕ) → r ≡ c + length (slotPart d k) → r ≡ length (entries d (k + 1))
   next-place r q =
       q ∙ ap (λ (x : ℕ). x + length (slotPart d k)) e ∙ sym (length-append (entries d k) (slotPart d k)) ∙ ap length (sym (entries-more d k))
 
+  -- one slot more put after the entries before it
   pub next-put : (buf out out′ : List ℕ) → out ≡ put buf 0 (entries d k) → out′ ≡ put out c (slotPart d k) → out′ ≡ put buf 0 (entries d (k + 1))
   next-put buf out out′ p q =
       q ∙ ap (λ (x : ℕ). put out x (slotPart d k)) e ∙ put-next buf out (entries d k) (slotPart d k) p ∙ ap (put buf 0) (sym (entries-more d k))
 
+-- a list put into another leaves its length
 pub put-length : (d : List ℕ) (at : ℕ) (vs : List ℕ) → length (put d at vs) ≡ length d
 unfolding put
 put-length d at vs = overlay-length d at (length vs) (elementAt vs 0)
 
+-- no entries put leave the buffer as it is
 pub entries-none : (d : Disk) (buf : List ℕ) → buf ≡ put buf 0 (entries d 0)
 unfolding entries
 entries-none d buf = put-none buf 0

@@ -1,5 +1,5 @@
 -- A fresh disk as it is written: zeros, then the header's 96 bytes, then the records from block 0 upwards.
--- Assumes nothing.
+-- Rests on rows and steps (Writing) and on a whole disk (file_rules, Laws.Base.Whole).
 use mathlib.Core.Path.{_≡_, refl, sym, ap, ap₂, _∙_, subst}
 use mathlib.Core.Logic.{_≢_}
 use mathlib.Core.List.{List, [], _∷_}
@@ -34,11 +34,11 @@ use Rattle.file_rules.specs.Written.{fixedByte, diskHeaderByte, diskWith, setRe
 
 -- ---- the header, field by field
 
--- signature, name padded with spaces, number
+-- header h with signature, name filled with spaces, number
 unfoldable pub titled : List ℕ → FormatArguments → List ℕ
 titled h args = overlay (overlay (put h 0 diskSignature) 4 titleMost (λ (i : ℕ). getD (args .title) i 32)) 14 2 (highByte 2 (args .number))
 
--- the sizes of the disk kind and its turn
+-- header h with the sizes of the disk kind and its track offset
 unfoldable pub sized : List ℕ → List ℕ
 sized h =
     overlay (overlay (overlay (overlay (overlay (overlay (overlay h
@@ -50,7 +50,7 @@ sized h =
     32 2 (highByte 2 blockSectors))
     38 2 (highByte 2 trackOffset)
 
--- the two tables; no update yet, free sectors, and a directory of one slot
+-- header h with the two tables of places, no update yet, the free word, and a directory of one slot
 unfoldable pub started : List ℕ → List ℕ
 started h =
     overlay (overlay (overlay (overlay (put (put h 40 sidePlace) 58 backward)
@@ -59,7 +59,7 @@ started h =
     34 2 (highByte 2 0))
     36 2 (highByte 2 slotBytes)
 
--- a header whole
+-- the three parts of the header, written into 96 bytes FF, are the fresh header
 pub header-row : (h₀ h₁ h₂ h₃ : List ℕ) (args : FormatArguments) → h₀ ≡ tab (λ (i : ℕ). 0xFF) mapStart
     → h₁ ≡ titled h₀ args → h₂ ≡ sized h₁ → h₃ ≡ started h₂ → h₃ ≡ tab (freshHeader args) mapStart
 unfolding diskHeaderByte fixedByte titled sized started diskSignature sidePlace backward
@@ -111,13 +111,16 @@ module _ (h title : List ℕ) (short : length title ≤ titleMost) where
       ∙ overlay-in h 4 titleMost (λ (i : ℕ). 32) k a b l
       ∙ sym (List·getD-eq-default title 32 (omega arith)))
 
+  -- spaces, then the name over them, are the name filled with spaces
   pub padded : put spaces 4 title ≡ overlay h 4 titleMost (λ (i : ℕ). getD title i 32)
   unfolding put
   padded =
-      overlay-is h 4 titleMost (λ (i : ℕ). getD title i 32) (overlay spaces 4 n g) (overlay-length spaces 4 n g ∙ overlay-length h 4 titleMost (λ (i : ℕ). 32)) in-new
+      overlay-is h 4 titleMost (λ (i : ℕ). getD title i 32) (overlay spaces 4 n g)
+      (overlay-length spaces 4 n g ∙ overlay-length h 4 titleMost (λ (i : ℕ). 32)) in-new
       (λ k l. overlay-before spaces 4 n g k l ∙ overlay-before h 4 titleMost (λ (i : ℕ). 32) k l)
       (λ k l. overlay-after spaces 4 n g k (omega arith) ∙ overlay-after h 4 titleMost (λ (i : ℕ). 32) k l)
 
+-- signature, spaces, name and number written one after the other
 pub titled-is : (h : List ℕ) (args : FormatArguments) (h₁ h₂ h₃ h₄ : List ℕ) → length (args .title) ≤ titleMost
     → h₁ ≡ put h 0 diskSignature → h₂ ≡ overlay h₁ 4 titleMost (λ (i : ℕ). 32) → h₃ ≡ put h₂ 4 (args .title) → h₄ ≡ overlay h₃ 14 2 (highByte 2 (args .number))
     → h₄ ≡ titled h args
@@ -125,8 +128,10 @@ unfolding titled
 titled-is h args h₁ h₂ h₃ h₄ short e₁ e₂ e₃ e₄ =
     e₄
     ∙ ap (λ (l : List ℕ). overlay l 14 2 (highByte 2 (args .number)))
-    (e₃ ∙ ap (λ (l : List ℕ). put l 4 (args .title)) e₂ ∙ padded h₁ (args .title) short ∙ ap (λ (l : List ℕ). overlay l 4 titleMost (λ (i : ℕ). getD (args .title) i 32)) e₁)
+    (e₃ ∙ ap (λ (l : List ℕ). put l 4 (args .title)) e₂ ∙ padded h₁ (args .title) short
+    ∙ ap (λ (l : List ℕ). overlay l 4 titleMost (λ (i : ℕ). getD (args .title) i 32)) e₁)
 
+-- the sizes and the track offset written one after the other
 pub sized-is : (h h₁ h₂ h₃ h₄ h₅ h₆ h₇ : List ℕ)
     → h₁ ≡ overlay h 22 2 (highByte 2 allSectors)
     → h₂ ≡ overlay h₁ 24 2 (highByte 2 allSectors)
@@ -138,8 +143,14 @@ pub sized-is : (h h₁ h₂ h₃ h₄ h₅ h₆ h₇ : List ℕ)
     → h₇ ≡ sized h
 unfolding sized
 sized-is h h₁ h₂ h₃ h₄ h₅ h₆ h₇ e₁ e₂ e₃ e₄ e₅ e₆ e₇ =
-    e₇ ∙ ap (λ (l : List ℕ). overlay l 38 2 (highByte 2 trackOffset)) (e₆ ∙ ap (λ (l : List ℕ). overlay l 32 2 (highByte 2 blockSectors)) (e₅ ∙ ap (λ (l : List ℕ). overlay l 30 2 (highByte 2 tracks)) (e₄ ∙ ap (λ (l : List ℕ). overlay l 28 2 (highByte 2 trackSectors)) (e₃ ∙ ap (λ (l : List ℕ). overlay l 26 2 (highByte 2 sectors)) (e₂ ∙ ap (λ (l : List ℕ). overlay l 24 2 (highByte 2 allSectors)) (e₁))))))
+    let a₂ = e₂ ∙ ap (λ (l : List ℕ). overlay l 24 2 (highByte 2 allSectors)) e₁ in
+    let a₃ = e₃ ∙ ap (λ (l : List ℕ). overlay l 26 2 (highByte 2 sectors)) a₂ in
+    let a₄ = e₄ ∙ ap (λ (l : List ℕ). overlay l 28 2 (highByte 2 trackSectors)) a₃ in
+    let a₅ = e₅ ∙ ap (λ (l : List ℕ). overlay l 30 2 (highByte 2 tracks)) a₄ in
+    let a₆ = e₆ ∙ ap (λ (l : List ℕ). overlay l 32 2 (highByte 2 blockSectors)) a₅ in
+    e₇ ∙ ap (λ (l : List ℕ). overlay l 38 2 (highByte 2 trackOffset)) a₆
 
+-- the tables, update count, free word and directory's length written one after the other
 pub started-is : (h h₁ h₂ h₃ h₄ h₅ h₆ : List ℕ)
     → h₁ ≡ put h 40 sidePlace
     → h₂ ≡ put h₁ 58 backward
@@ -150,23 +161,31 @@ pub started-is : (h h₁ h₂ h₃ h₄ h₅ h₆ : List ℕ)
     → h₆ ≡ started h
 unfolding started
 started-is h h₁ h₂ h₃ h₄ h₅ h₆ e₁ e₂ e₃ e₄ e₅ e₆ =
-    e₆ ∙ ap (λ (l : List ℕ). overlay l 36 2 (highByte 2 slotBytes)) (e₅ ∙ ap (λ (l : List ℕ). overlay l 34 2 (highByte 2 0)) (e₄ ∙ ap (λ (l : List ℕ). overlay l 20 2 (highByte 2 (freeSectors (blocks - 2)))) (e₃ ∙ ap (λ (l : List ℕ). overlay l 16 4 (highByte 4 0)) (e₂ ∙ ap (λ (l : List ℕ). put l 58 backward) (e₁)))))
+    let a₂ = e₂ ∙ ap (λ (l : List ℕ). put l 58 backward) e₁ in
+    let a₃ = e₃ ∙ ap (λ (l : List ℕ). overlay l 16 4 (highByte 4 0)) a₂ in
+    let a₄ = e₄ ∙ ap (λ (l : List ℕ). overlay l 20 2 (highByte 2 (freeSectors (blocks - 2)))) a₃ in
+    let a₅ = e₅ ∙ ap (λ (l : List ℕ). overlay l 34 2 (highByte 2 0)) a₄ in
+    e₆ ∙ ap (λ (l : List ℕ). overlay l 36 2 (highByte 2 slotBytes)) a₅
 
 -- ---- the map, record by record
 
+-- disk d with the records below n written
 unfoldable pub withRecords : Disk → (ℕ → Record) → ℕ → Disk
 withRecords d owner zero = d
 withRecords d owner (suc n) = setRecord (withRecords d owner n) n (owner n)
 
-pub inside-mapped : (d e : Disk) → EqualInside d e → (owner : ℕ → Record) (n : ℕ) → EqualInside (withRecords d owner n) (withRecords e owner n)
+-- records written on disks that agree leave disks that agree
+pub inside-records : (d e : Disk) → EqualInside d e → (owner : ℕ → Record) (n : ℕ) → EqualInside (withRecords d owner n) (withRecords e owner n)
 unfolding withRecords
-inside-mapped d e near owner zero = near
-inside-mapped d e near owner (suc n) = inside-set (withRecords d owner n) (withRecords e owner n) (inside-mapped d e near owner n) n (owner n)
+inside-records d e near owner zero = near
+inside-records d e near owner (suc n) = inside-set (withRecords d owner n) (withRecords e owner n) (inside-records d e near owner n) n (owner n)
 
+-- no record written leaves the image as it is
 pub records-none : (l : List ℕ) (owner : ℕ → Record) → length l ≡ imageBytes → l ≡ imageOf (withRecords (diskOf l) owner 0)
 unfolding withRecords
 records-none l owner e = sym (image-disk l e)
 
+-- one record more is written
 pub records-more : (d : Disk) (owner : ℕ → Record) (n : ℕ) (l m : List ℕ) (r : Record)
     → l ≡ imageOf (withRecords d owner n) → m ≡ imageOf (setRecord (diskOf l) n r) → r ≡ owner n → m ≡ imageOf (withRecords d owner (n + 1))
 unfolding withRecords
@@ -180,7 +199,8 @@ module _ (d : Disk) (owner : ℕ → Record) where
   unfolding withRecords setRecord
   records-other zero b o z = refl
   records-other (suc n) b o z =
-      upd₂-other (withRecords d owner n) 0 (patch (withRecords d owner n 0) (mapStart + recordBytes * n) recordBytes (encode (owner n))) b o z ∙ records-other n b o z
+      upd₂-other (withRecords d owner n) 0 (patch (withRecords d owner n 0) (mapStart + recordBytes * n) recordBytes (encode (owner n))) b o z
+      ∙ records-other n b o z
 
   records-head : (n o : ℕ) → o < mapStart → withRecords d owner n 0 o ≡ d 0 o
   unfolding withRecords setRecord
@@ -194,30 +214,36 @@ module _ (d : Disk) (owner : ℕ → Record) where
   unfolding withRecords setRecord
   records-at zero b i h k = absurd (not-suc-le-zero h)
   records-at (suc n) b i h k =
-      upd₂-same (withRecords d owner n) 0 (patch (withRecords d owner n 0) (mapStart + recordBytes * n) recordBytes (encode (owner n))) 0 (mapStart + recordBytes * b + i) refl
+      upd₂-same (withRecords d owner n) 0 (patch (withRecords d owner n 0) (mapStart + recordBytes * n) recordBytes (encode (owner n))) 0
+      (mapStart + recordBytes * b + i) refl
       ∙ by-equal b n
       (λ e.
       let q : mapStart + recordBytes * b + i - (mapStart + recordBytes * n) ≡ i = omega arith in
-      patch-in (withRecords d owner n 0) (mapStart + recordBytes * n) recordBytes (encode (owner n)) (mapStart + recordBytes * b + i) (omega arith) (omega arith)
+      patch-in (withRecords d owner n 0) (mapStart + recordBytes * n) recordBytes
+      (encode (owner n)) (mapStart + recordBytes * b + i) (omega arith) (omega arith)
       ∙ ap₂ (λ (x j : ℕ). encode (owner x) j) (sym e) q)
       (λ e.
       patch-below (withRecords d owner n 0) (mapStart + recordBytes * n) recordBytes (encode (owner n)) (mapStart + recordBytes * b + i) (omega arith)
       ∙ records-at n b i (omega arith) k)
 
+-- record 0 of a fresh disk is the system's
 pub fresh-zero : (b : ℕ) → b ≡ 0 → System ≡ freshOwner b
 unfolding freshOwner
 fresh-zero b e = ap freshOwner (sym e)
 
+-- record 1 of a fresh disk is the directory's first
 pub fresh-one : (b : ℕ) → b ≡ 1 → File 0 0 ≡ freshOwner b
 unfolding freshOwner
 fresh-one b e = ap freshOwner (sym e)
 
+-- all other records of a fresh disk are free
 pub fresh-free : (b : ℕ) → b ≢ 0 → b ≢ 1 → Free ≡ freshOwner b
 unfolding freshOwner
 fresh-free zero p q = absurd (p refl)
 fresh-free (suc zero) p q = absurd (q refl)
 fresh-free (suc (suc b)) p q = refl
 
+-- the records of a fresh disk fit their three bytes
 pub fresh-fits : (b : ℕ) → FitsRecord (freshOwner b)
 unfolding freshOwner
 fresh-fits zero = tt
@@ -264,6 +290,7 @@ module _ (args : FormatArguments) where
       ∙ upd₂-other nothing 0 (patch (nothing 0) 0 mapStart H) b o z
       ∙ sym (whole .block b o (omega arith) hb ho))
 
+  -- zeros, then header, then records are the formatted disk
   pub fresh-written : (l₀ l₁ l₂ l₃ h : List ℕ) → length l₀ ≡ imageBytes → l₁ ≡ overlay l₀ 0 imageBytes (λ (i : ℕ). 0)
       → h ≡ tab H mapStart
       → l₂ ≡ imageOf (patched (diskOf l₁) 0 0 (length h) (λ (i : ℕ). getD h i 0))
@@ -274,16 +301,18 @@ module _ (args : FormatArguments) where
       let q₂ : l₂ ≡ imageOf headed =
       inside-step (λ (d : Disk). patched d 0 0 mapStart H) (λ d x n. inside-patched d x n 0 0 mapStart H) l₁ l₂ nothing q₁
       (e₂ ∙ patched-row (diskOf l₁) 0 0 h mapStart H eh) in
-      inside-step (λ (d : Disk). withRecords d freshOwner blocks) (λ d x n. inside-mapped d x n freshOwner blocks) l₂ l₃ headed q₂ e₃
+      inside-step (λ (d : Disk). withRecords d freshOwner blocks) (λ d x n. inside-records d x n freshOwner blocks) l₂ l₃ headed q₂ e₃
       ∙ image-cong (withRecords headed freshOwner blocks) (formatDisk args) fresh-inside
 
 -- ---- the call
 
 module _ (image : List ℕ) (args : FormatArguments) where
+  -- a format of another length is refused with 1
   pub format-length : length image ≢ imageBytes → format image args ≡ imageKept image wrongLength
   unfolding format imageRight
   format-length h = cond-false _ _ (eq-false h)
 
+  -- a format with a name over ten bytes is refused with 12
   pub format-name : length image ≡ imageBytes → titleMost < length (args .title) → format image args ≡ imageKept image (refusal 12)
   unfolding format imageRight
   format-name e h = cond-true _ _ (eq-true e) ∙ cond-false _ _ (le-false h)

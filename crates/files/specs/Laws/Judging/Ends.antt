@@ -1,6 +1,5 @@
--- What a sound disk has: its directory ends within the disk, since each of its blocks stands once in the map, so it has no more blocks than the disk; and block 0 is
--- the system's.
--- Assumes nothing.
+-- What a sound disk has: its directory ends within the disk, and block 0 is the system's.
+-- Rests on the parts of files: each block of the directory stands once in the map, so it has no more blocks than the disk (Loading.Parts).
 use mathlib.Core.Path.{_≡_, refl, sym, ap, _∙_}
 use mathlib.Core.Bool.{true, false, not}
 use mathlib.Core.Option.{Option, none, some}
@@ -32,16 +31,19 @@ parts-most d f n t = once-most (recordAt d) f n (and-right (all (λ (b : ℕ). w
 
 -- ---- what a disk without a refusal has
 
+-- if neither refuses, the first does not
 pub or-none-left : {A : Type 0} (a b : Option A) → orElse a b ≡ none → a ≡ none
 unfolding orElse
 or-none-left none b e = refl
 or-none-left (some x) b e = e
 
+-- if neither refuses, the second does not
 pub or-none-right : {A : Type 0} (a b : Option A) → orElse a b ≡ none → b ≡ none
 unfolding orElse
 or-none-right none b e = e
 or-none-right (some x) b e = let z : _≡_ {A = ℕ} 0 1 = cc in absurd (omega arith)
 
+-- a disk that passes 10 has no file at fault
 pub files-right : (d : Disk) → refusal10 d ≡ none → slotCount ≤ fileFault d
 unfolding refusal10 faultBelow
 files-right d e =
@@ -55,6 +57,7 @@ dir-right : (d : Disk) → slotCount ≤ fileFault d → partsRight d 0 (blocksO
 unfolding fileFault fileRight
 dir-right d h = not-false (fileRight d 0) (lowest-all (λ (f : ℕ). not (fileRight d f)) slotCount h 0 (omega arith))
 
+-- a sound disk's directory has no more slots than fit all blocks
 pub end-within : (d : Disk) → diskRefusal d ≡ none → dirEnd d ≤ slotCount
 unfolding diskRefusal dirEnd quotientUp
 end-within d e =
@@ -71,6 +74,7 @@ system-only System e = refl
 system-only (File f s) e = true≢false true refl e
 system-only Other e = true≢false true refl e
 
+-- record 0 of a sound disk is the system's
 pub first-system : (d : Disk) → diskRefusal d ≡ none → recordAt d 0 ≡ System
 unfolding diskRefusal refusal9 faultBelow mapFault
 first-system d e =

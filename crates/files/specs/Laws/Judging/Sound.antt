@@ -1,5 +1,5 @@
--- The soundness of the directory as the code judges it, on a loaded map.
--- Assumes nothing.
+-- The judgements 9 to 11 as the code makes them, on a loaded map and the other tables.
+-- Rests on the tables (Loading) and on verdicts (Verdict).
 use mathlib.Core.Path.{_≡_, refl, sym, ap, ap₂, _∙_}
 use mathlib.Core.Bool.{Bool, true, false, not, cond, _&&_}
 use mathlib.Core.List.{List}
@@ -29,7 +29,8 @@ use Rattle.file_rules.specs.Sizes.{slotBytes, slotCount, nameMost, blocksOf, fr
 use Rattle.file_rules.specs.Disk.{Disk, diskOf}
 use Rattle.file_rules.specs.Map.{freeCount, recordAt, bears, isPart, within}
 use Rattle.file_rules.specs.Directory.{nameEq, nameOf, entryOf, slotEntry, slotName, held, dirBytes, dirEnd}
-use Rattle.file_rules.specs.Check.{recordFault, partsRight, noRecordBears, newName, entryRight, fileRight, fileFault, freeRight, refusal8, refusal9, refusal10, refusal11, diskRefusal}
+use Rattle.file_rules.specs.Check.{recordFault, partsRight, noRecordBears, newName, entryRight, fileRight, fileFault}
+use Rattle.file_rules.specs.Check.{freeRight, refusal8, refusal9, refusal10, refusal11, diskRefusal}
 use Rattle.files.specs.Laws.Loading.Loaded.{loadedRecord, MapLoaded, record-loaded, fault-loaded}
 use Rattle.files.specs.Laws.Loading.Chains.{Chained, noRecordBearsIn}
 use Rattle.files.specs.Laws.Loading.Slots.{Located}
@@ -41,6 +42,7 @@ use Rattle.files.specs.Laws.Judging.Verdict.{verdictOf, verdict-or-some,
 -- ---- a file's parts
 
 module _ (map : List ℕ) (d : Disk) (m : MapLoaded map d) where
+  -- the parts of a file by the loaded map are sound if the disk's are
   pub parts-loaded : (f n : ℕ) → partsIn map f n ≡ partsRight d f n
   unfolding partsIn partsRight
   parts-loaded f n =
@@ -51,11 +53,13 @@ module _ (map : List ℕ) (d : Disk) (m : MapLoaded map d) where
       (λ (s : ℕ). eqb (count blocks (λ (b : ℕ). isPart f s (recordAt d b))) 1)
       n
       (λ s l. ap (λ (c : ℕ). eqb c 1)
-      (count-cong blocks (λ (b : ℕ). isPart f s (loadedRecord map b)) (λ (b : ℕ). isPart f s (recordAt d b)) (λ b h. ap (isPart f s) (record-loaded map d m b h)))))
+      (count-cong blocks (λ (b : ℕ). isPart f s (loadedRecord map b))
+      (λ (b : ℕ). isPart f s (recordAt d b)) (λ b h. ap (isPart f s) (record-loaded map d m b h)))))
 
-  pub no-record-mapped : (f : ℕ) → noRecordBearsIn map f ≡ noRecordBears d f
+  -- no record of the loaded map bears a file if none of the disk's does
+  pub no-record-loaded : (f : ℕ) → noRecordBearsIn map f ≡ noRecordBears d f
   unfolding noRecordBearsIn noRecordBears
-  no-record-mapped f =
+  no-record-loaded f =
       all-cong (λ (b : ℕ). not (bears f (loadedRecord map b))) (λ (b : ℕ). not (bears f (recordAt d b))) blocks
       (λ b h. ap (λ (r : Record). not (bears f r)) (record-loaded map d m b h))
 
@@ -73,6 +77,7 @@ pub record Tables (image map dir first next names : List ℕ) : Type 0 where
 unfoldable pub mapRefusal : List ℕ → Option Reply
 mapRefusal map = refusalAt 9 (faultBelow blocks (lowest (λ (b : ℕ). recordFault b (loadedRecord map b)) blocks))
 
+-- refusal 9 by the loaded map is the disk's
 pub refusal-loaded : (map : List ℕ) (d : Disk) → MapLoaded map d → mapRefusal map ≡ refusal9 d
 unfolding mapRefusal refusal9
 refusal-loaded map d m = ap (λ (b : ℕ). refusalAt 9 (faultBelow blocks b)) (fault-loaded map d m)
@@ -84,6 +89,7 @@ name-room : (f : ℕ → ℕ) → length (entryOf f .name) ≡ nameMost
 unfolding entryOf
 name-room f = tab-length (λ (i : ℕ). f (16 + i)) nameMost
 
+-- an entry whose sizes are right has all bytes of its name
 pub sizes-name : (e : Entry) (f : ℕ → ℕ) → e ≡ entryOf f
     → (leb slotBytes (e .length) && (leb 1 (e .namelen) && leb (e .namelen) nameMost)) ≡ true → e .namelen ≤ length (e .name)
 sizes-name e f q t =
@@ -92,6 +98,7 @@ sizes-name e f q t =
     omega arith
 
 module _ (d : Disk) (k : ℕ) (e : Entry) (q : e ≡ slotEntry d k) where
+  -- the name of an entry is the slot's
   pub entry-name : take (e .namelen) (e .name) ≡ slotName d k
   unfolding slotName nameOf
   entry-name = ap (λ (x : Entry). take (x .namelen) (x .name)) q
@@ -114,13 +121,16 @@ module _ (d : Disk) (k : ℕ) (e : Entry) (q : e ≡ slotEntry d k) where
       (three (leb slotBytes (slotEntry d k .length)) (leb 1 (slotEntry d k .namelen)) (leb (slotEntry d k .namelen) nameMost) (newName d k)
       (partsRight d k (blocksOf (slotEntry d k .length))))
 
+  -- an entry with a wrong length or name length is not sound
   pub entry-sizes-wrong : sizes ≡ false → false ≡ entryRight d k
   entry-sizes-wrong t = sym (entry-tests ∙ and-false-left (names && partsRight d k (blocksOf (e .length))) t)
 
+  -- an entry with the name of a lower held slot is not sound
   pub entry-name-wrong : sizes ≡ true → names ≡ false → false ≡ entryRight d k
   entry-name-wrong t u =
       sym (entry-tests ∙ and-false-right sizes (and-false-left (partsRight d k (blocksOf (e .length))) u))
 
+  -- an entry that is right in sizes and name is sound if its parts are
   pub entry-parts : sizes ≡ true → names ≡ true → (p : Bool) → p ≡ partsRight d k (blocksOf (e .length)) → p ≡ entryRight d k
   entry-parts t u p v =
       v ∙ sym (entry-tests ∙ ap₂ (λ (x y : Bool). x && (y && partsRight d k (blocksOf (e .length)))) t u)
@@ -128,6 +138,7 @@ module _ (d : Disk) (k : ℕ) (e : Entry) (q : e ≡ slotEntry d k) where
 -- ---- a file
 
 module _ (d : Disk) where
+  -- file 0 is sound if the directory's parts are
   pub file-zero : (n : ℕ) → n ≡ dirBytes d → partsRight d 0 (blocksOf n) ≡ fileRight d 0
   unfolding fileRight
   file-zero n e = ap (λ (x : ℕ). partsRight d 0 (blocksOf x)) e
@@ -137,16 +148,20 @@ module _ (d : Disk) where
     unfolding fileRight
     by-slot = cond-false (partsRight d 0 (blocksOf (dirBytes d))) (cond (ltb f (dirEnd d) && held d f) (entryRight d f) (noRecordBears d f)) (eq-false n)
 
+    -- a held slot's file is sound if its entry is
     pub file-listed : (ltb f (dirEnd d) && held d f) ≡ true → entryRight d f ≡ fileRight d f
     file-listed t = sym (by-slot ∙ cond-true (entryRight d f) (noRecordBears d f) t)
 
+    -- another file number is sound if no record bears it
     pub file-unlisted : (ltb f (dirEnd d) && held d f) ≡ false → noRecordBears d f ≡ fileRight d f
     file-unlisted t = sym (by-slot ∙ cond-false (entryRight d f) (noRecordBears d f) t)
 
+  -- the first file that is not sound is the one at fault
   pub fault-here : (f : ℕ) → f < slotCount → ((j : ℕ) → j < f → not (fileRight d j) ≡ false) → not (fileRight d f) ≡ true → f ≡ fileFault d
   unfolding fileFault
   fault-here f h l t = sym (lowest-some (λ (j : ℕ). not (fileRight d j)) slotCount f h l t)
 
+  -- if all are sound, no file is at fault
   pub file-fault-none : ((j : ℕ) → j < slotCount → not (fileRight d j) ≡ false) → slotCount ≡ fileFault d
   unfolding fileFault
   file-fault-none l = sym (lowest-none (λ (j : ℕ). not (fileRight d j)) slotCount l)
@@ -162,19 +177,23 @@ unfolding verdictOf faultBelow
 lowest-passed b n k h = ap (λ (f : Fault). verdictOf (refusalAt k f)) (sym (cond-false (At b) Sound (lt-false h)))
 
 module _ (map : List ℕ) (b : ℕ) (e : b ≡ lowest (λ (j : ℕ). recordFault j (loadedRecord map j)) blocks) where
+  -- a bad record is refusal 9 at its block
   pub refused-map : b < blocks → Refused (reply 9 b 0 0) ≡ verdictOf (mapRefusal map)
   unfolding mapRefusal
   refused-map h = rw (← e) (lowest-refused b blocks 9 h)
 
+  -- a map without bad record passes 9
   pub passed-map : blocks ≤ b → Passed ≡ verdictOf (mapRefusal map)
   unfolding mapRefusal
   passed-map h = rw (← e) (lowest-passed b blocks 9 h)
 
 module _ (d : Disk) (b : ℕ) where
+  -- a file at fault is refusal 10 with its number
   pub refused-files : b ≡ fileFault d → b < slotCount → Refused (reply 10 b 0 0) ≡ verdictOf (refusal10 d)
   unfolding refusal10
   refused-files e h = rw (← e) (lowest-refused b slotCount 10 h)
 
+  -- without a file at fault the disk passes 10
   pub passed-files : b ≡ fileFault d → slotCount ≤ b → Passed ≡ verdictOf (refusal10 d)
   unfolding refusal10
   passed-files e h = rw (← e) (lowest-passed b slotCount 10 h)
@@ -184,10 +203,12 @@ module _ (d : Disk) (w c : ℕ) (ew : w ≡ at16 (d 0) 20) (ec : c ≡ freeCount
   unfolding freeRight
   free-is = rw (ew, ec)
 
+  -- a free word that is 3 times the free records passes 11
   pub passed-free : w ≡ freeSectors c → Passed ≡ verdictOf (refusal11 d)
   unfolding refusal11 verdictOf
   passed-free h = ap verdictOf (sym (cond-true none (some (refusal 11)) (sym free-is ∙ eq-true h)))
 
+  -- another free word is refusal 11
   pub refused-free : w ≢ freeSectors c → Refused (refusal 11) ≡ verdictOf (refusal11 d)
   unfolding refusal11 verdictOf
   refused-free h = ap verdictOf (sym (cond-false none (some (refusal 11)) (sym free-is ∙ eq-false h)))
@@ -195,20 +216,24 @@ module _ (d : Disk) (w c : ℕ) (ew : w ≡ at16 (d 0) 20) (ec : c ≡ freeCount
 -- ---- the judgements in order
 
 module _ (d : Disk) where
+  -- refusal 8 is the disk's refusal
   pub disk-refusal-header : (r : Reply) → Refused r ≡ verdictOf (refusal8 d) → Refused r ≡ verdictOf (diskRefusal d)
   unfolding diskRefusal
   disk-refusal-header r e = verdict-or-some (refusal8 d) _ r e
 
   module _ (a : Passed ≡ verdictOf (refusal8 d)) where
+    -- after 8 passed, refusal 9 is the disk's
     pub disk-refusal-map : (r : Reply) → Refused r ≡ verdictOf (refusal9 d) → Refused r ≡ verdictOf (diskRefusal d)
     unfolding diskRefusal
     disk-refusal-map r e = verdict-or-some (refusal9 d) _ r e ∙ sym (verdict-or-none (refusal8 d) _ a)
 
     module _ (b : Passed ≡ verdictOf (refusal9 d)) where
+      -- after 8 and 9 passed, refusal 10 is the disk's
       pub disk-refusal-files : (r : Reply) → Refused r ≡ verdictOf (refusal10 d) → Refused r ≡ verdictOf (diskRefusal d)
       unfolding diskRefusal
       disk-refusal-files r e = verdict-or-some (refusal10 d) _ r e ∙ sym (verdict-or-none (refusal9 d) _ b) ∙ sym (verdict-or-none (refusal8 d) _ a)
 
+      -- after 8 to 10 passed, the verdict of 11 is the disk's
       pub disk-refusal-free : (v : Verdict) → v ≡ verdictOf (refusal11 d) → Passed ≡ verdictOf (refusal10 d) → v ≡ verdictOf (diskRefusal d)
       unfolding diskRefusal
       disk-refusal-free v e c = e ∙ sym (verdict-or-none (refusal10 d) _ c) ∙ sym (verdict-or-none (refusal9 d) _ b) ∙ sym (verdict-or-none (refusal8 d) _ a)

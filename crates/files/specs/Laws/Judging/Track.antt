@@ -1,10 +1,10 @@
--- Laws of the judgement of track 0.
--- Assumes nothing.
-use mathlib.Core.Path.{_≡_, refl, sym, ap, ap₂, _∙_}
+-- The judgement of the first track (§8.14).
+-- Rests on verdicts (Verdict) and on the laws of counts (laws, Count).
+use mathlib.Core.Path.{_≡_, refl, sym, ap, _∙_}
 use mathlib.Core.Logic.{_≢_}
-use mathlib.Core.Bool.{Bool, true, false, not, cond}
+use mathlib.Core.Bool.{Bool, not}
 use mathlib.Core.List.{List}
-use mathlib.Core.Option.{Option, none, some}
+use mathlib.Core.Option.{Option}
 use Prim.Native.Nat.{ℕ, zero, suc, _+_, _-_}
 use native.Mathlib.Omega.{arith}
 use lib.ListN.{length}
@@ -37,6 +37,7 @@ count-both (suc n) p =
     (λ t. omega (arith, count-yes n p t, count-no n (λ (i : ℕ). not (p i)) (ap not t), count-both n p))
     (λ t. omega (arith, count-no n p t, count-yes n (λ (i : ℕ). not (p i)) (ap not t), count-both n p))
 
+-- the three counts that are read are those of the definition
 pub counted-is : (d : Disk) (r : Reply) (c f g : ℕ) → r ≡ done → c ≡ freeCount d → f ≡ at16 (d 0) 20 → g ≡ at16 (d 0) 22
     → _≡_ {A = FirstTrack} (record { reply = r; free = f; good = g; held = blocks - c }) (counted d)
 unfolding counted freeCount
@@ -50,14 +51,17 @@ module _ (d : Disk) where
   abbrev judgedTrack : Option Reply
   judgedTrack = orElse (refusal8 d) (orElse (refusal9 d) (refusal11 d))
 
+  -- refusal 8 is the first track's
   pub track-header : (r : Reply) → Refused r ≡ verdictOf (refusal8 d) → Refused r ≡ verdictOf judgedTrack
   track-header r e = verdict-or-some (refusal8 d) (orElse (refusal9 d) (refusal11 d)) r e
 
   module _ (a : Passed ≡ verdictOf (refusal8 d)) where
+    -- after 8 passed, refusal 9 is the first track's
     pub track-map : (r : Reply) → Refused r ≡ verdictOf (refusal9 d) → Refused r ≡ verdictOf judgedTrack
     track-map r e =
         verdict-or-some (refusal9 d) (refusal11 d) r e ∙ sym (verdict-or-none (refusal8 d) (orElse (refusal9 d) (refusal11 d)) a)
 
+    -- after 8 and 9 passed, the verdict of 11 is the first track's
     pub track-free : (v : Verdict) → v ≡ verdictOf (refusal11 d) → Passed ≡ verdictOf (refusal9 d) → v ≡ verdictOf judgedTrack
     track-free v e b =
         e ∙ sym (verdict-or-none (refusal9 d) (refusal11 d) b) ∙ sym (verdict-or-none (refusal8 d) (orElse (refusal9 d) (refusal11 d)) a)
@@ -65,6 +69,7 @@ module _ (d : Disk) where
 -- ---- the call
 
 module _ (l : List ℕ) where
+  -- a first track of another length is refused with 1
   pub track-length : length l ≢ firstTrackBytes → refusedTrack wrongLength ≡ firstTrack l
   unfolding firstTrack
   track-length h = sym (cond-false (unless (judgedTrack (diskOf l)) refusedTrack (counted (diskOf l))) (refusedTrack wrongLength) (eq-false h))
@@ -74,11 +79,13 @@ module _ (l : List ℕ) where
     unfolding firstTrack
     disk-refusal-track = cond-true (unless (judgedTrack (diskOf l)) refusedTrack (counted (diskOf l))) (refusedTrack wrongLength) (eq-true long)
 
+    -- a refused judgement is the call's reply, with three zeros
     pub track-refused : (r : Reply) → Refused r ≡ verdictOf (judgedTrack (diskOf l)) → refusedTrack r ≡ firstTrack l
     unfolding unless
     track-refused r e =
         sym (disk-refusal-track ∙ ap (λ (v : Option Reply). unless v refusedTrack (counted (diskOf l))) (verdict-some (judgedTrack (diskOf l)) r e))
 
+    -- a judgement that passed gives the counts
     pub track-passed : Passed ≡ verdictOf (judgedTrack (diskOf l)) → counted (diskOf l) ≡ firstTrack l
     unfolding unless
     track-passed e =

@@ -1,5 +1,5 @@
 -- The verdict of a judgement as the code has it, against the definitions' options; and the header's fields.
--- Assumes nothing.
+-- Rests on the disk's bytes (Loading.Blocks) and on the first sector's place (sector_rules, Laws.Base.Geometry).
 use mathlib.Core.Path.{_≡_, refl, sym, ap, ap₂, _∙_}
 use mathlib.Core.Bool.{Bool, _&&_}
 use mathlib.Core.List.{List}
@@ -26,25 +26,30 @@ use Rattle.files.specs.Laws.Loading.Blocks.{disk-in}
 
 -- ---- a verdict
 
+-- the verdict that a refusal, or none, stands for
 unfoldable pub verdictOf : Option Reply → Verdict
 verdictOf none = Passed
 verdictOf (some r) = Refused r
 
+-- a first refusal is the verdict of both judgements
 pub verdict-or-some : (a b : Option Reply) (r : Reply) → Refused r ≡ verdictOf a → Refused r ≡ verdictOf (orElse a b)
 unfolding verdictOf orElse
 verdict-or-some none b r e = let z : _≡_ {A = ℕ} 0 1 = cc in absurd (omega arith)
 verdict-or-some (some x) b r e = e
 
+-- where the first judgement passes, the second is the verdict
 pub verdict-or-none : (a b : Option Reply) → Passed ≡ verdictOf a → verdictOf (orElse a b) ≡ verdictOf b
 unfolding verdictOf orElse
 verdict-or-none none b e = refl
 verdict-or-none (some x) b e = let z : _≡_ {A = ℕ} 0 1 = cc in absurd (omega arith)
 
+-- a verdict that passed is no refusal
 pub verdict-none : (a : Option Reply) → Passed ≡ verdictOf a → a ≡ none
 unfolding verdictOf
 verdict-none none e = refl
 verdict-none (some x) e = let z : _≡_ {A = ℕ} 0 1 = cc in absurd (omega arith)
 
+-- a refused verdict is that refusal
 pub verdict-some : (a : Option Reply) (r : Reply) → Refused r ≡ verdictOf a → a ≡ some r
 unfolding verdictOf
 verdict-some none r e = let z : _≡_ {A = ℕ} 0 1 = cc in absurd (omega arith)
@@ -76,10 +81,12 @@ bytes-fault f right l o xs h k e q = e ∙ ap (wrongAt o) (q ∙ bytes-stand l o
 
 -- ---- refusal 8
 
+-- a header fault is refusal 8 at its field
 pub refused-header : (d : Disk) (o : ℕ) → At o ≡ diskHeaderFault d → Refused (reply 8 o 0 0) ≡ verdictOf (refusal8 d)
 unfolding refusal8 verdictOf
 refused-header d o e = ap (λ (f : Fault). verdictOf (refusalAt 8 f)) e
 
+-- a header without fault passes 8
 pub passed-header : (d : Disk) → Sound ≡ diskHeaderFault d → Passed ≡ verdictOf (refusal8 d)
 unfolding refusal8 verdictOf
 passed-header d e = ap (λ (f : Fault). verdictOf (refusalAt 8 f)) e

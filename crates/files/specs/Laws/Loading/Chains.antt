@@ -1,5 +1,5 @@
 -- The blocks of each file in chains, upwards, as the code follows them from a file to its records.
--- Assumes nothing.
+-- Rests on the parts of files (Parts) and on tallies (Tally).
 use mathlib.Core.Path.{_≡_, refl, sym, ap, _∙_}
 use mathlib.Core.Bool.{Bool, true, false, not, cond}
 use mathlib.Core.List.{List}
@@ -30,25 +30,31 @@ pub record Bearer (g : ℕ) (r : Record) : Type 0 where
   pub low : g < suc sequences
   pub bears-it : (f : ℕ) → f < sequences → bears f r ≡ eqb g f
 
+-- a record that bears no file has no bearer
 pub bearer-none : (r : Record) → ((f : ℕ) → bears f r ≡ false) → Bearer sequences r
 bearer-none r h = record { low = omega arith; bears-it = λ f l. h f ∙ sym (eq-false {a = sequences} {b = f} (λ e. omega arith)) }
 
+-- a free record bears no file
 pub bearer-free : Bearer sequences Free
 unfolding bears
 bearer-free = bearer-none Free (λ f. refl)
 
+-- the system's record bears no file
 pub bearer-system : Bearer sequences System
 unfolding bears
 bearer-system = bearer-none System (λ f. refl)
 
+-- a record of no kind bears no file
 pub bearer-other : Bearer sequences Other
 unfolding bears
 bearer-other = bearer-none Other (λ f. refl)
 
+-- a file's record bears that file
 pub bearer-file : (g s : ℕ) → g < sequences → Bearer g (File g s)
 unfolding bears
 bearer-file g s h = record { low = omega arith; bears-it = λ f l. refl }
 
+-- a record of a file number past the last bears no file
 pub bearer-far : (g s : ℕ) → sequences ≤ g → Bearer sequences (File g s)
 unfolding bears
 bearer-far g s h =
@@ -73,6 +79,7 @@ pub record Chained (first next map : List ℕ) (k : ℕ) : Type 0 where
   pub firsts : (f : ℕ) → f < sequences → NextBlock map f k (getD first f 0)
   pub nexts : (b : ℕ) → k ≤ b → b < blocks → (f : ℕ) → f < sequences → bears f (loadedRecord map b) ≡ true → NextBlock map f (b + 1) (getD next b 0)
 
+-- before the walk every chain is empty
 pub chain-none : (n m : ℕ) → n ≡ suc sequences → m ≡ blocks → (map : List ℕ) → Chained (replicate n blocks) (replicate m blocks) map blocks
 chain-none n m en em map =
     record {
@@ -90,7 +97,9 @@ chain-none n m en em map =
     }
 
 -- block b, the one below k, is put before the chain of its file g
-module _ (first next map : List ℕ) (k j b : ℕ) (d : j ≡ b) (e : b + 1 ≡ k) (l : k ≤ blocks) (c : Chained first next map k) (g : ℕ) (w : Bearer g (loadedRecord map b)) where
+module _ (first next map : List ℕ) (k j b : ℕ) (d : j ≡ b) (e : b + 1 ≡ k) (l : k ≤ blocks)
+    (c : Chained first next map k) (g : ℕ) (w : Bearer g (loadedRecord map b)) where
+  -- block b, the next one down, is put before the chain of the file that it bears
   pub chain-more : Chained (set first g b) (set next b (getD first g 0)) map j
   chain-more =
       record {
@@ -98,7 +107,8 @@ module _ (first next map : List ℕ) (k j b : ℕ) (d : j ≡ b) (e : b + 1 ≡ 
         long = length-set next b (getD first g 0) ∙ c .long;
         firsts = λ f h. by-equal f g
             (λ z.
-            let here : getD (set first g b) f 0 ≡ b = ap (λ (x : ℕ). getD (set first g b) x 0) z ∙ getD-set-same first g b 0 (omega (arith, c .files, w .low)) in
+            let here : getD (set first g b) f 0 ≡ b =
+            ap (λ (x : ℕ). getD (set first g b) x 0) z ∙ getD-set-same first g b 0 (omega (arith, c .files, w .low)) in
             record {
               most = omega arith;
               none-before = λ i p q. absurd (omega arith);
@@ -120,7 +130,8 @@ module _ (first next map : List ℕ) (k j b : ℕ) (d : j ≡ b) (e : b + 1 ≡ 
             (λ z.
             let same : g ≡ f = true-eq (sym (w .bears-it f h) ∙ ap (λ (x : ℕ). bears f (loadedRecord map x)) (sym z) ∙ t) in
             let here : getD (set next b (getD first g 0)) i 0 ≡ getD first f 0 =
-            ap (λ (x : ℕ). getD (set next b (getD first g 0)) x 0) z ∙ getD-set-same next b (getD first g 0) 0 (omega (arith, c .long)) ∙ ap (λ (x : ℕ). getD first x 0) same in
+            ap (λ (x : ℕ). getD (set next b (getD first g 0)) x 0) z
+            ∙ getD-set-same next b (getD first g 0) 0 (omega (arith, c .long)) ∙ ap (λ (x : ℕ). getD first x 0) same in
             let old : NextBlock map f k (getD first f 0) = c .firsts f h in
             record {
               most = omega (arith, old .most);
@@ -141,6 +152,7 @@ module _ (first next map : List ℕ) (k j b : ℕ) (d : j ≡ b) (e : b + 1 ≡ 
 
 -- ---- the first block of a file
 
+-- the first block of file f's chain, `blocks` where the file has none
 unfoldable pub firstOf : List ℕ → ℕ → ℕ
 firstOf first f = cond (ltb f sequences) (getD first f 0) blocks
 
@@ -154,6 +166,7 @@ unfolding loadedRecord bears
 far-file map f b h = decode-none (getD map b 0) (bears f) refl refl refl (λ g s q. eq-false {a = g} {b = f} (λ e. omega arith))
 
 module _ (first next map : List ℕ) (f : ℕ) (c : Chained first next map 0) where
+  -- the first block of a chain is the lowest block of the file
   pub first-next : NextBlock map f 0 (firstOf first f)
   unfolding firstOf
   first-next =
@@ -173,6 +186,7 @@ module _ (first next map : List ℕ) (f : ℕ) (c : Chained first next map 0) wh
   unfolding firstOf
   first-file q = by-order f sequences (λ h. h) (λ h. absurd (omega (arith, cond-false (getD first f 0) blocks (lt-false h))))
 
+  -- a chain is empty if no record bears the file
   pub chain-empty : eqb (firstOf first f) blocks ≡ noRecordBearsIn map f
   unfolding noRecordBearsIn
   chain-empty =
@@ -180,7 +194,8 @@ module _ (first next map : List ℕ) (f : ℕ) (c : Chained first next map 0) wh
       let p : ℕ → Bool = λ (b : ℕ). not (bears f (loadedRecord map b)) in
       by-order (firstOf first f) blocks
       (λ h. eq-false {a = firstOf first f} {b = blocks} (λ z. omega arith) ∙ sym (all-false p blocks (firstOf first f) h (ap not (n .hit h))))
-      (λ h. eq-true {a = firstOf first f} {b = blocks} (omega (arith, n .most)) ∙ sym (all-is p blocks (λ b l. ap not (n .none-before b (omega arith) (omega arith)))))
+      (λ h. eq-true {a = firstOf first f} {b = blocks} (omega (arith, n .most))
+      ∙ sym (all-is p blocks (λ b l. ap not (n .none-before b (omega arith) (omega arith)))))
 
 -- ---- a tally along a chain
 
@@ -191,7 +206,7 @@ module _ (t : List ℕ) (size : ℕ) (key : ℕ → ℕ) (k : ℕ) (m : Tallied 
       rw (add-suc k i, ← add-one (k + i))
       (tally-skip t size key (k + i) (tally-past i (λ j p q. h j p (omega arith))) (key (k + i)) refl (h (k + i) (omega arith) (omega arith)))
 
--- the records up to the next block of the file are none of its parts
+-- the records up to the next block of the file are none of its parts, so that the tally stays
 pub tally-next : (map : List ℕ) (f n k b : ℕ) (t : List ℕ) → n ≤ blocks → k ≤ blocks → NextBlock map f k b
     → Tallied t (suc blocks) (λ (j : ℕ). partOf f n (loadedRecord map j)) k → Tallied t (suc blocks) (λ (j : ℕ). partOf f n (loadedRecord map j)) b
 tally-next map f n k b t h l x m =

@@ -1,5 +1,5 @@
 -- The map as the code holds it: a number of 24 bits for each record, read from the image once.
--- Assumes nothing.
+-- Rests on the laws of numbers in bytes (laws, Numbers).
 use mathlib.Core.Path.{_≡_, ap}
 use mathlib.Core.List.{List}
 use Prim.Native.Nat.{ℕ, _+_, _*_, _≤_, _<_}
@@ -24,11 +24,11 @@ use Rattle.file_rules.specs.Sizes.{blockBytes, mapStart, recordBytes}
 unfoldable pub loadedRecord : List ℕ → ℕ → Record
 loadedRecord map b = decode (getD map b 0)
 
--- the same beside its block number, as the map is walked
+-- the same with its block number, as the map is walked
 abbrev pub mapRecord : List ℕ → BlockNumber → MapRecord
 mapRecord map b = record { block = b; «record» = loadedRecord map (b .0) }
 
--- a loaded map is the disk's
+-- a loaded map has the numbers of the disk's records
 pub record MapLoaded (map : List ℕ) (d : Disk) : Type 0 where
   pub long : length map ≡ blocks
   pub numbers : (b : ℕ) → b < blocks → getD map b 0 ≡ numberAt d b
@@ -42,6 +42,7 @@ number-cong d e b k h =
 
 -- ---- the map is loaded
 
+-- one number more is loaded
 pub numbers-more : (map : List ℕ) (d : Disk) (k v : ℕ) → k < length map
     → ((b : ℕ) → b < k → getD map b 0 ≡ numberAt d b) → v ≡ numberAt d k
     → (b : ℕ) → b < k + 1 → getD (set map k v) b 0 ≡ numberAt d b
@@ -53,20 +54,24 @@ numbers-more map d k v l h e b i =
 -- ---- what is asked of a loaded map is asked of the disk's
 
 module _ (map : List ℕ) (d : Disk) (m : MapLoaded map d) where
+  -- a record of the loaded map is the disk's
   pub record-loaded : (b : ℕ) → b < blocks → loadedRecord map b ≡ recordAt d b
   unfolding loadedRecord recordAt
   record-loaded b h = ap decode (m .numbers b h)
 
+  -- the first bad record of the loaded map is the disk's
   pub fault-loaded : lowest (λ (b : ℕ). recordFault b (loadedRecord map b)) blocks ≡ mapFault d
   unfolding mapFault
   fault-loaded =
       lowest-cong (λ (b : ℕ). recordFault b (loadedRecord map b)) (λ (b : ℕ). recordFault b (recordAt d b)) blocks
       (λ b h. ap (recordFault b) (record-loaded b h))
 
+  -- the loaded map has as many free records as the disk
   pub free-loaded : count blocks (λ (b : ℕ). isFree (loadedRecord map b)) ≡ freeCount d
   unfolding freeCount freeAt
   free-loaded = count-cong blocks (λ (b : ℕ). isFree (loadedRecord map b)) (λ (b : ℕ). isFree (recordAt d b)) (λ b h. ap isFree (record-loaded b h))
 
+  -- the block of a part by the loaded map is the disk's
   pub part-loaded : (f s : ℕ) → lowest (λ (b : ℕ). isPart f s (loadedRecord map b)) blocks ≡ partBlock d f s
   unfolding partBlock
   part-loaded f s =

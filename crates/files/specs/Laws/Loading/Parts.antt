@@ -1,5 +1,5 @@
 -- The parts of a file as the code counts and places them, on a loaded map.
--- Assumes nothing.
+-- Rests on tallies (Tally) and on the loaded map (Loaded).
 use mathlib.Core.Path.{_≡_, refl, sym, ap, _∙_}
 use mathlib.Core.Logic.{_≢_}
 use mathlib.Core.Bool.{Bool, true, false, not, cond, _&&_, false≢true}
@@ -64,9 +64,10 @@ module _ (rec : ℕ → Record) (f n : ℕ) where
   parts-below (suc m) =
       let F : ℕ → ℕ = λ (s : ℕ). count (suc m) (λ (b : ℕ). isPart f s (rec b)) in
       let G : ℕ → ℕ = λ (s : ℕ). count m (λ (b : ℕ). isPart f s (rec b)) in
-      omega (arith, one-more n (seqOf (rec m)) F G (λ s q. count-no m (λ (b : ℕ). isPart f s (rec b)) (other-seq f s (rec m) q)) (count-step m (seqOf (rec m))), parts-below m)
+      let others : (s : ℕ) → s ≢ seqOf (rec m) → F s ≡ G s = λ s q. count-no m (λ (b : ℕ). isPart f s (rec b)) (other-seq f s (rec m) q) in
+      omega (arith, one-more n (seqOf (rec m)) F G others (count-step m (seqOf (rec m))), parts-below m)
 
-  -- sequences that stand once each are no more than the blocks
+  -- sequences that have one block each are no more than the blocks
   pub once-most : all (λ (s : ℕ). eqb (count blocks (λ (b : ℕ). isPart f s (rec b))) 1) n ≡ true → n ≤ blocks
   once-most t =
       let c : ℕ → ℕ = λ (s : ℕ). count blocks (λ (b : ℕ). isPart f s (rec b)) in
@@ -83,7 +84,7 @@ partOf f n (File g t) = cond (eqb g f) (cond (ltb t n) t blocks) (suc blocks)
 partOf f n Other = suc blocks
 
 module _ (f n g t : ℕ) where
-  -- of a record of file g, sequence t
+  -- the key of another file's record is that of no part
   pub part-other : (g ≡ f → ⊥) → suc blocks ≡ partOf f n (File g t)
   unfolding partOf
   part-other q = sym (cond-false (cond (ltb t n) t blocks) (suc blocks) (eq-false q))
@@ -93,14 +94,16 @@ module _ (f n g t : ℕ) where
     unfolding partOf
     of-file = cond-true (cond (ltb t n) t blocks) (suc blocks) (eq-true q)
 
+    -- the key of one of the first n parts is its sequence
     pub part-low : t < n → t ≡ partOf f n (File g t)
     part-low l = sym (of-file ∙ cond-true t blocks (lt-true l))
 
+    -- the key of a later part is `blocks`
     pub part-later : n ≤ t → blocks ≡ partOf f n (File g t)
     part-later l = sym (of-file ∙ cond-false t blocks (lt-false l))
 
 module _ (f n : ℕ) (h : n ≤ blocks) where
-  -- a record that bears the file is a part of it, and no other is
+  -- a record that bears the file has the key of a part
   pub part-borne : (r : Record) → bears f r ≡ true → partOf f n r < suc blocks
   unfolding partOf bears
   part-borne Free t = absurd (false≢true t)
@@ -109,6 +112,7 @@ module _ (f n : ℕ) (h : n ≤ blocks) where
       by-test (ltb s n) (λ q. rw (t, q) (omega (arith, true-lt {a = s} {b = n} q))) (λ q. rw (t, q) (omega arith))
   part-borne Other t = absurd (false≢true t)
 
+  -- a record that does not bear the file has the key of no part
   pub part-no-record : (r : Record) → bears f r ≡ false → suc blocks ≡ partOf f n r
   unfolding partOf bears
   part-no-record Free t = refl
@@ -135,7 +139,7 @@ module _ (f n : ℕ) (h : n ≤ blocks) where
       (λ e. rw e (no-part s l))
   part-is s l Other = no-part s l
 
-  -- it is `blocks` exactly for a part that is not within
+  -- the key is `blocks` exactly for a part that is not among the first n
   pub part-within : (r : Record) → not (eqb (partOf f n r) blocks) ≡ within f n r
   unfolding partOf within
   part-within Free = refl
@@ -152,12 +156,14 @@ module _ (f n : ℕ) (h : n ≤ blocks) where
 
 -- ---- whether each part stands once, by a tally
 
+-- whether a loaded map has the first n parts of file f, each once, and no later one
 unfoldable pub partsIn : List ℕ → ℕ → ℕ → Bool
 partsIn map f n =
     all (λ (b : ℕ). within f n (loadedRecord map b)) blocks
     && all (λ (s : ℕ). eqb (count blocks (λ (b : ℕ). isPart f s (loadedRecord map b))) 1) n
 
 module _ (map : List ℕ) (f n : ℕ) where
+  -- a file of more parts than there are blocks is not sound
   pub parts-many : blocks < n → false ≡ partsIn map f n
   unfolding partsIn
   parts-many h =
@@ -178,13 +184,16 @@ module _ (map : List ℕ) (f n : ℕ) where
         (λ s l.
         tally-one t (suc blocks) (λ (b : ℕ). partOf f n (loadedRecord map b)) blocks m s (omega arith)
         ∙ ap (λ (c : ℕ). eqb c 1)
-        (count-cong blocks (λ (b : ℕ). eqb (partOf f n (loadedRecord map b)) s) (λ (b : ℕ). isPart f s (loadedRecord map b)) (λ b q. part-is f n h s l (loadedRecord map b))))
+        (count-cong blocks (λ (b : ℕ). eqb (partOf f n (loadedRecord map b)) s)
+        (λ (b : ℕ). isPart f s (loadedRecord map b)) (λ b q. part-is f n h s l (loadedRecord map b))))
 
+    -- where the tally has a later part, the file is not sound
     pub parts-later : (getD t blocks 0 ≡ 0 → ⊥) → false ≡ partsIn map f n
     unfolding partsIn
     parts-later q =
         sym (and-false-left (all (λ (s : ℕ). eqb (count blocks (λ (b : ℕ). isPart f s (loadedRecord map b))) 1) n) (sym later ∙ eq-false q))
 
+    -- where it has none, the file is sound if each part is tallied once
     pub parts-once : (r : Bool) → getD t blocks 0 ≡ 0 → r ≡ all (λ (s : ℕ). eqb (getD t s 0) 1) n → r ≡ partsIn map f n
     unfolding partsIn
     parts-once r q e =
@@ -192,18 +201,19 @@ module _ (map : List ℕ) (f n : ℕ) where
 
 -- ---- the blocks of a file in sequence, scanned from the last block down
 
--- the lowest block from k on that is the part, `blocks` where there is none
+-- a row that has, for each sequence of file f, the lowest block from k on that is its part, `blocks` where there is none
 pub record PartsFrom (row map : List ℕ) (f k : ℕ) : Type 0 where
   pub long : length row ≡ blocks
   pub most : (s : ℕ) → s < blocks → getD row s 0 ≤ blocks
   pub none-below : (s : ℕ) → s < blocks → (b : ℕ) → k ≤ b → b < getD row s 0 → isPart f s (loadedRecord map b) ≡ false
   pub hit : (s : ℕ) → s < blocks → getD row s 0 < blocks → isPart f s (loadedRecord map (getD row s 0)) ≡ true
 
--- all of them
+-- a row that has the block of every part of file f
 pub record PartsAt (row map : List ℕ) (f : ℕ) : Type 0 where
   pub long : length row ≡ blocks
   pub parts : (s : ℕ) → s < blocks → getD row s 0 ≡ lowest (λ (b : ℕ). isPart f s (loadedRecord map b)) blocks
 
+-- before the walk no part has a block
 pub from-none : (map : List ℕ) (f : ℕ) → PartsFrom (replicate blocks blocks) map f blocks
 from-none map f =
     record {
@@ -217,7 +227,7 @@ from-none map f =
     at s h = getD-replicate blocks s blocks 0 h
 
 module _ (row map : List ℕ) (f k j b : ℕ) (d : j ≡ b) (e : b + 1 ≡ k) (l : k ≤ blocks) (p : PartsFrom row map f k) where
-  -- the record of b is part s
+  -- the record of block b is part s of the file: the row has b there
   pub from-part : (s : ℕ) → s ≡ partOf f blocks (loadedRecord map b) → s < blocks → PartsFrom (set row s b) map f j
   from-part s q h =
       record {
@@ -225,7 +235,8 @@ module _ (row map : List ℕ) (f k j b : ℕ) (d : j ≡ b) (e : b + 1 ≡ k) (l
         most = λ t g. by-equal t s (λ z. omega (arith, same t z)) (λ z. omega (arith, other t z, p .most t g));
         none-below = λ t g c u v. by-equal t s (λ z. absurd (omega (arith, same t z)))
             (λ z. by-equal c b
-            (λ y. ap (λ (x : ℕ). isPart f t (loadedRecord map x)) y ∙ sym (part-is f blocks (omega arith) t g (loadedRecord map b)) ∙ eq-false (λ w. z (sym w ∙ sym q)))
+            (λ y. ap (λ (x : ℕ). isPart f t (loadedRecord map x)) y
+            ∙ sym (part-is f blocks (omega arith) t g (loadedRecord map b)) ∙ eq-false (λ w. z (sym w ∙ sym q)))
             (λ y. p .none-below t g c (omega arith) (omega (arith, other t z))));
         hit = λ t g u. by-equal t s
             (λ z.
@@ -240,25 +251,28 @@ module _ (row map : List ℕ) (f k j b : ℕ) (d : j ≡ b) (e : b + 1 ≡ k) (l
       other : (t : ℕ) → t ≢ s → getD (set row s b) t 0 ≡ getD row t 0
       other t z = getD-set-other row s t b 0 z
 
-  -- it is none of the file's
+  -- the record of block b is no part of the file: the row stays
   pub from-other : (s : ℕ) → s ≡ partOf f blocks (loadedRecord map b) → blocks ≤ s → PartsFrom row map f j
   from-other s q h =
       record {
         long = p .long;
         most = p .most;
         none-below = λ t g c u v. by-equal c b
-            (λ y. ap (λ (x : ℕ). isPart f t (loadedRecord map x)) y ∙ sym (part-is f blocks (omega arith) t g (loadedRecord map b)) ∙ eq-false {a = partOf f blocks (loadedRecord map b)} {b = t} (λ w. omega arith))
+            (λ y. ap (λ (x : ℕ). isPart f t (loadedRecord map x)) y ∙ sym (part-is f blocks (omega arith) t g (loadedRecord map b))
+            ∙ eq-false {a = partOf f blocks (loadedRecord map b)} {b = t} (λ w. omega arith))
             (λ y. p .none-below t g c (omega arith) v);
         hit = p .hit;
       }
 
+-- after the walk down to block 0 the row has the block of every part
 pub from-all : (row map : List ℕ) (f : ℕ) → PartsFrom row map f 0 → PartsAt row map f
 from-all row map f p =
     record {
       long = p .long;
       parts = λ s h.
           by-order (getD row s 0) blocks
-          (λ l. sym (lowest-some (λ (b : ℕ). isPart f s (loadedRecord map b)) blocks (getD row s 0) l (λ b q. p .none-below s h b (omega arith) q) (p .hit s h l)))
+          (λ l. sym (lowest-some (λ (b : ℕ). isPart f s (loadedRecord map b)) blocks
+          (getD row s 0) l (λ b q. p .none-below s h b (omega arith) q) (p .hit s h l)))
           (λ l.
           let e : getD row s 0 ≡ blocks = omega (arith, p .most s h) in
           e ∙ sym (lowest-none (λ (b : ℕ). isPart f s (loadedRecord map b)) blocks (λ b q. p .none-below s h b (omega arith) (omega arith))));

@@ -1,5 +1,5 @@
 -- A tally: for each key, whether none, one or more of the numbers below a bound have it.
--- Assumes nothing.
+-- Rests on the laws of counts (laws, Count).
 use mathlib.Core.Path.{_≡_, refl, sym, ap, _∙_}
 use mathlib.Core.Logic.{_≢_}
 use mathlib.Core.Bool.{Bool, false, not, _&&_}
@@ -17,21 +17,24 @@ use Rattle.laws.specs.Laws.Tests.{eq-true, eq-false, and-false-left}
 use Rattle.laws.specs.Laws.Changes.{upd-same, upd-other}
 use Rattle.laws.specs.Laws.Count.{count-yes, count-no, count-drop}
 
--- none, one or more
+-- none, one or more, as 0, 1 and 2
 unfoldable pub cap : ℕ → ℕ
 cap zero = 0
 cap (suc zero) = 1
 cap (suc (suc n)) = 2
 
+-- one more of these
 unfoldable pub more : ℕ → ℕ
 more zero = 1
 more (suc n) = 2
 
+-- after none comes one
 pub more-none : (v : ℕ) → v ≡ 0 → 1 ≡ more v
 unfolding more
 more-none zero e = refl
 more-none (suc n) e = absurd (omega arith)
 
+-- after one or more comes more
 pub more-some : (v : ℕ) → v ≢ 0 → 2 ≡ more v
 unfolding more
 more-some zero h = absurd (h refl)
@@ -68,11 +71,12 @@ none-passes p (suc n) =
     (λ e. ap (λ (y : ℕ). eqb (cap y) 0) (count-yes n p e) ∙ some-passes (count n p) ∙ sym (and-false-left (all (λ (b : ℕ). not (p b)) n) (ap not e)))
     (λ e. ap (λ (y : ℕ). eqb (cap y) 0) (count-no n p e) ∙ none-passes p n ∙ sym (ap (λ (y : Bool). not y && all (λ (b : ℕ). not (p b)) n) e))
 
--- of the numbers below k, by their keys
+-- t tallies the numbers below k by their keys
 pub record Tallied (t : List ℕ) (keys : ℕ) (key : ℕ → ℕ) (k : ℕ) : Type 0 where
   pub long : length t ≡ keys
   pub counts : (x : ℕ) → x < keys → getD t x 0 ≡ cap (count k (λ (b : ℕ). eqb (key b) x))
 
+-- a tally of zeros has no number yet
 pub tally-none : (n : ℕ) (key : ℕ → ℕ) → Tallied (replicate n 0) n key 0
 unfolding count cap
 tally-none n key = record { long = length-replicate n 0; counts = λ x h. getD-replicate n x 0 0 h }
@@ -83,6 +87,7 @@ module _ (t : List ℕ) (keys : ℕ) (key : ℕ → ℕ) (k : ℕ) (m : Tallied 
 
   -- number k has the key x
   module _ (x : ℕ) (e : x ≡ key k) where
+    -- number k is tallied under its key
     pub tally-more : (v : ℕ) → x < keys → v ≡ more (getD t x 0) → Tallied (set t x v) keys key (k + 1)
     tally-more v l w =
         record {
@@ -102,17 +107,19 @@ module _ (t : List ℕ) (keys : ℕ) (key : ℕ → ℕ) (k : ℕ) (m : Tallied 
               (λ q. getD-set-other t x y v 0 q ∙ m .counts y h ∙ ap cap (sym (other y (λ z. q (sym z ∙ sym e)))));
         }
 
+    -- a number with no key of the tally leaves it as it is
     pub tally-skip : keys ≤ x → Tallied t keys key (k + 1)
     tally-skip l = record { long = m .long; counts = λ y h. m .counts y h ∙ ap cap (sym (other y (λ z. omega (arith, e)))) }
 
-  -- what a cell says of the numbers
+  -- a key is tallied once if exactly one number has it
   pub tally-one : (x : ℕ) → x < keys → eqb (getD t x 0) 1 ≡ eqb (count k (λ (b : ℕ). eqb (key b) x)) 1
   tally-one x h = ap (λ (y : ℕ). eqb y 1) (m .counts x h) ∙ cap-one (count k (λ (b : ℕ). eqb (key b) x))
 
+  -- a key is not tallied if no number has it
   pub tally-zero : (x : ℕ) → x < keys → eqb (getD t x 0) 0 ≡ all (λ (b : ℕ). not (eqb (key b) x)) k
   tally-zero x h = ap (λ (y : ℕ). eqb y 0) (m .counts x h) ∙ none-passes (λ (b : ℕ). eqb (key b) x) k
 
-  -- two numbers of one key are more than one
+  -- a key that two numbers have is tallied as more than one
   pub tally-two : (x i j : ℕ) → x < keys → getD t x 0 < 2 → i < k → j < k → i ≢ j → key i ≡ x → key j ≡ x → ⊥
   tally-two x i j h low hi hj d ei ej =
       let p : ℕ → Bool = λ (b : ℕ). eqb (key b) x in

@@ -1,5 +1,5 @@
 -- Blocks given and freed one by one: the lowest free blocks in one walk of the map, and the steps on disks that agree inside their blocks.
--- Assumes nothing.
+-- Rests on rows and steps (Stored, Steps) and on the lowest numbers that pass (laws, Firsts).
 use mathlib.Core.Path.{_≡_, refl, sym, ap, ap₂, _∙_, fun-ext}
 use mathlib.Core.Bool.{Bool, true, false, not, cond, _&&_}
 use mathlib.Core.List.{List, [], _∷_, _++_}
@@ -29,33 +29,40 @@ use Rattle.file_rules.specs.Written.{part, zeros, setBlock, setRecord, setSlot,
 -- ---- the steps, of disks that agree
 
 module _ (d e : Disk) (near : EqualInside d e) where
+  -- a block written on disks that agree leaves disks that agree
   pub inside-block : (b : ℕ) (g : ℕ → ℕ) → EqualInside (setBlock d b g) (setBlock e b g)
   unfolding setBlock
   inside-block b g b′ i hb hi =
-      by-equal b′ b (λ z. upd₂-same d b g b′ i z ∙ sym (upd₂-same e b g b′ i z)) (λ z. upd₂-other d b g b′ i z ∙ near b′ i hb hi ∙ sym (upd₂-other e b g b′ i z))
+      by-equal b′ b (λ z. upd₂-same d b g b′ i z ∙ sym (upd₂-same e b g b′ i z))
+      (λ z. upd₂-other d b g b′ i z ∙ near b′ i hb hi ∙ sym (upd₂-other e b g b′ i z))
 
+  -- a record written on disks that agree leaves disks that agree
   pub inside-set : (b : ℕ) (r : Record) → EqualInside (setRecord d b r) (setRecord e b r)
   unfolding setRecord
   inside-set b r = inside-patched d e near 0 (mapStart + recordBytes * b) recordBytes (encode r)
 
+  -- disks that agree have a part in the same block
   pub inside-part : (f s : ℕ) → partBlock d f s ≡ partBlock e f s
   unfolding partBlock
   inside-part f s =
       lowest-cong (λ (b : ℕ). isPart f s (recordAt d b)) (λ (b : ℕ). isPart f s (recordAt e b)) blocks (λ b h. ap (isPart f s) (inside-record d e near b h))
 
+  -- a slot written on disks that agree leaves disks that agree
   pub inside-slot : (k : ℕ) (g : ℕ → ℕ) → EqualInside (setSlot d k g) (setSlot e k g)
   unfolding setSlot
   inside-slot k g b o hb ho =
       inside-patched d e near (partBlock d 0 (k / blockSlots)) (k % blockSlots * slotBytes) slotBytes g b o hb ho
       ∙ ap (λ (p : ℕ). patched e p (k % blockSlots * slotBytes) slotBytes g b o) (inside-part 0 (k / blockSlots))
 
--- a block is written and its record set
+-- disk d with block b written and its record set
 abbrev pub given : Disk → ℕ → (ℕ → ℕ) → Record → Disk
 given d b g r = setRecord (setBlock d b g) b r
 
+-- a block given on disks that agree leaves disks that agree
 pub inside-given : (d e : Disk) → EqualInside d e → (b : ℕ) (g : ℕ → ℕ) (r : Record) → EqualInside (given d b g r) (given e b g r)
 inside-given d e near b g r = inside-set (setBlock d b g) (setBlock e b g) (inside-block d e near b g) b r
 
+-- a block written and then its record is the block given
 pub given-written : (l₀ l₁ l₂ : List ℕ) (b : ℕ) (g : ℕ → ℕ) (r : Record)
     → l₁ ≡ imageOf (setBlock (diskOf l₀) b g) → l₂ ≡ imageOf (setRecord (diskOf l₁) b r) → l₂ ≡ imageOf (given (diskOf l₀) b g r)
 given-written l₀ l₁ l₂ b g r p q =
@@ -63,15 +70,18 @@ given-written l₀ l₁ l₂ b g r p q =
 
 -- ---- freed
 
+-- a block of another file stays as it is
 pub freed-not : (l : List ℕ) (f b : ℕ) → length l ≡ imageBytes → bears f (recordAt (diskOf l) b) ≡ false → l ≡ imageOf (freeBlock (diskOf l) f b)
 unfolding freeBlock
 freed-not l f b e t = sym (image-disk l e) ∙ ap imageOf (sym (cond-false _ _ t))
 
+-- a block of the file, zeroed and then its record freed, is the block freed
 pub freed-yes : (l₀ l₁ l₂ : List ℕ) (f b : ℕ) → bears f (recordAt (diskOf l₀) b) ≡ true
     → l₁ ≡ imageOf (setBlock (diskOf l₀) b zeros) → l₂ ≡ imageOf (setRecord (diskOf l₁) b Free) → l₂ ≡ imageOf (freeBlock (diskOf l₀) f b)
 unfolding freeBlock
 freed-yes l₀ l₁ l₂ f b t p q = given-written l₀ l₁ l₂ b zeros Free p q ∙ ap imageOf (sym (cond-true _ _ t))
 
+-- a block freed on disks that agree leaves disks that agree
 pub inside-freed : (d e : Disk) → EqualInside d e → (f b : ℕ) → b < blocks → EqualInside (freeBlock d f b) (freeBlock e f b)
 unfolding freeBlock
 inside-freed d e near f b h b′ o hb ho =
@@ -87,14 +97,18 @@ inside-freed d e near f b h b′ o hb ho =
     ∙ near b′ o hb ho
     ∙ sym (ap (λ (x : Disk). x b′ o) (cond-false (given e b zeros Free) e t)))
 
+-- before the walk no block is freed
 pub freed-none : (l : List ℕ) (f : ℕ) → length l ≡ imageBytes → l ≡ imageOf (freeBlocks 0 (diskOf l) f)
 unfolding freeBlocks
 freed-none l f e = sym (image-disk l e)
 
-pub freed-more : (d : Disk) (f b : ℕ) (l m : List ℕ) → b < blocks → l ≡ imageOf (freeBlocks b d f) → m ≡ imageOf (freeBlock (diskOf l) f b) → m ≡ imageOf (freeBlocks (b + 1) d f)
+-- one block more of the walk is freed
+pub freed-more : (d : Disk) (f b : ℕ) (l m : List ℕ) → b < blocks → l ≡ imageOf (freeBlocks b d f)
+    → m ≡ imageOf (freeBlock (diskOf l) f b) → m ≡ imageOf (freeBlocks (b + 1) d f)
 unfolding freeBlocks
 freed-more d f b l m h e q =
-    q ∙ image-cong (freeBlock (diskOf l) f b) (freeBlock (freeBlocks b d f) f b) (inside-freed (diskOf l) (freeBlocks b d f) (inside-image l (freeBlocks b d f) e) f b h)
+    q ∙ image-cong (freeBlock (diskOf l) f b) (freeBlock (freeBlocks b d f) f b)
+    (inside-freed (diskOf l) (freeBlocks b d f) (inside-image l (freeBlocks b d f) e) f b h)
     ∙ ap (λ (n : ℕ). imageOf (freeBlocks n d f)) (sym (add-one b))
 
 -- ---- the lowest that pass, one number more
@@ -154,7 +168,8 @@ module _ (p : ℕ → Bool) where
       by-test (p i)
       (λ y.
       from-yes (suc n) i k y
-      ∙ ap (λ (l : List ℕ). i ∷ l) (last-yes n (suc i) k t′ (omega (arith, ap length (from-yes n i k y))) ∙ ap (λ (x : ℕ). firstsFrom n (suc i) k p ++ (x ∷ [])) z)
+      ∙ ap (λ (l : List ℕ). i ∷ l)
+      (last-yes n (suc i) k t′ (omega (arith, ap length (from-yes n i k y))) ∙ ap (λ (x : ℕ). firstsFrom n (suc i) k p ++ (x ∷ [])) z)
       ∙ ap (λ (l : List ℕ). l ++ ((i + suc n) ∷ [])) (sym (from-yes n i k y)))
       (λ y.
       from-no (suc n) i k y
@@ -162,18 +177,22 @@ module _ (p : ℕ → Bool) where
       ∙ ap (λ (x : ℕ). firstsFrom n (suc i) (suc k) p ++ (x ∷ [])) z
       ∙ ap (λ (l : List ℕ). l ++ ((i + suc n) ∷ [])) (sym (from-no n i k y)))
 
+  -- a next number that does not pass leaves the lowest that pass
   pub firsts-end-no : (b k : ℕ) → p b ≡ false → firsts (b + 1) k p ≡ firsts b k p
   unfolding firsts
   firsts-end-no b k t = rw add-one (last-no b 0 k (ap p (zero-add b) ∙ t))
 
+  -- where there are enough, the next number leaves them
   pub firsts-full : (b k : ℕ) → length (firsts b k p) ≡ k → firsts (b + 1) k p ≡ firsts b k p
   unfolding firsts
   firsts-full b k e = rw add-one (last-full b 0 k e)
 
+  -- a next number that passes, where there are not enough, is one more
   pub firsts-end-yes : (b k : ℕ) → p b ≡ true → length (firsts b k p) < k → firsts (b + 1) k p ≡ firsts b k p ++ (b ∷ [])
   unfolding firsts
   firsts-end-yes b k t h = rw add-one (last-yes b 0 k (ap p (zero-add b) ∙ t) h ∙ ap (λ (x : ℕ). firstsFrom b 0 k p ++ (x ∷ [])) (zero-add b))
 
+  -- of no numbers none pass
   pub firsts-of-none : (k : ℕ) → firsts 0 k p ≡ []
   unfolding firsts
   firsts-of-none k = from-none 0 k
@@ -191,18 +210,21 @@ unfolding giveBlocks
 give-snoc d f c s [] b = ap (λ (t : ℕ). given d b (part c t) (File f t)) (sym (add-zero s))
 give-snoc d f c s (x ∷ bs) b =
     give-snoc (given d x (part c s) (File f s)) f c (suc s) bs b
-    ∙ ap (λ (t : ℕ). given (giveBlocks (given d x (part c s) (File f s)) f c (suc s) bs) b (part c t) (File f t)) (suc-add s (length bs) ∙ sym (add-suc s (length bs)))
+    ∙ ap (λ (t : ℕ). given (giveBlocks (given d x (part c s) (File f s)) f c (suc s) bs) b (part c t) (File f t))
+    (suc-add s (length bs) ∙ sym (add-suc s (length bs)))
 
+-- blocks given on disks that agree leave disks that agree
 pub inside-give : (f : ℕ) (c : ℕ → ℕ) (bs : List ℕ) (s : ℕ) (d e : Disk) → EqualInside d e → EqualInside (giveBlocks d f c s bs) (giveBlocks e f c s bs)
 unfolding giveBlocks
 inside-give f c [] s d e near = near
 inside-give f c (b ∷ bs) s d e near =
     inside-give f c bs (suc s) (given d b (part c s) (File f s)) (given e b (part c s) (File f s)) (inside-given d e near b (part c s) (File f s))
 
--- the n lowest free blocks are given
+-- disk d with the n lowest free blocks below b given to file f
 unfoldable pub giveLowest : Disk → ℕ → (ℕ → ℕ) → ℕ → ℕ → ℕ → Disk
 giveLowest d f c s n b = giveBlocks d f c s (firsts b n (freeAt d))
 
+-- the lowest free blocks given on disks that agree leave disks that agree
 pub inside-lowest : (d e : Disk) → EqualInside d e → (f : ℕ) (c : ℕ → ℕ) (s n : ℕ) → EqualInside (giveLowest d f c s n blocks) (giveLowest e f c s n blocks)
 unfolding giveLowest freeAt
 inside-lowest d e near f c s n b o hb ho =
@@ -211,12 +233,14 @@ inside-lowest d e near f c s n b o hb ho =
 
 -- the walk: t blocks below b are given
 module _ (d : Disk) (f : ℕ) (c : ℕ → ℕ) (s n : ℕ) where
+  -- the walk at block b: of those below it, t free blocks are given, n at most
   pub record Walked (b t : ℕ) (l : List ℕ) : Type 0 where
     pub some : t ≡ length (firsts b n (freeAt d))
     pub most : t ≤ n
     pub image : l ≡ imageOf (giveLowest d f c s n b)
 
   module _ (b t : ℕ) (l : List ℕ) (w : Walked b t l) where
+    -- a block that is not free is passed over
     pub walked-not : freeAt d b ≡ false → Walked (b + 1) t l
     unfolding giveLowest
     walked-not e = record {
@@ -225,6 +249,7 @@ module _ (d : Disk) (f : ℕ) (c : ℕ → ℕ) (s n : ℕ) where
       image = w .image ∙ ap (λ (bs : List ℕ). imageOf (giveBlocks d f c s bs)) (sym (firsts-end-no (freeAt d) b n e));
     }
 
+    -- where n blocks are given, the next is passed over
     pub walked-full : n ≤ t → Walked (b + 1) t l
     unfolding giveLowest
     walked-full h =
@@ -235,6 +260,7 @@ module _ (d : Disk) (f : ℕ) (c : ℕ → ℕ) (s n : ℕ) where
           image = w .image ∙ ap (λ (bs : List ℕ). imageOf (giveBlocks d f c s bs)) (sym q);
         }
 
+    -- a free block is given as the file's next part
     pub walked-more : (m : List ℕ) → freeAt d b ≡ true → t < n → m ≡ imageOf (given (diskOf l) b (part c (s + t)) (File f (s + t))) → Walked (b + 1) (t + 1) m
     unfolding giveLowest
     walked-more m e h q =
@@ -252,6 +278,7 @@ module _ (d : Disk) (f : ℕ) (c : ℕ → ℕ) (s n : ℕ) where
               ∙ ap imageOf (sym (ap (giveBlocks d f c s) r ∙ give-snoc d f c s bs b));
         }
 
+  -- before the walk no block is given
   pub walked-none : (l : List ℕ) → d ≡ diskOf l → length l ≡ imageBytes → Walked 0 0 l
   unfolding giveLowest giveBlocks
   walked-none l e h = record {
@@ -262,6 +289,7 @@ module _ (d : Disk) (f : ℕ) (c : ℕ → ℕ) (s n : ℕ) where
 
 -- what the walk asks of a block: whether there are not enough, and whether it is free
 module _ (d : Disk) (f : ℕ) (c : ℕ → ℕ) (s n b t : ℕ) (l : List ℕ) (w : Walked d f c s n b t l) (y : Bool) (e : y ≡ isFree (recordAt d b)) where
+  -- a block for which the code's test fails is passed over
   pub walked-asked : (ltb t n && y) ≡ false → Walked d f c s n (b + 1) t l
   unfolding freeAt
   walked-asked q =
@@ -269,27 +297,34 @@ module _ (d : Disk) (f : ℕ) (c : ℕ → ℕ) (s n b t : ℕ) (l : List ℕ) (
       (λ h. walked-not d f c s n b t l w (sym e ∙ and-not (ltb t n) y (lt-true h) q))
       (λ h. walked-full d f c s n b t l w h)
 
-  pub walked-given : (m : List ℕ) → (ltb t n && y) ≡ true → m ≡ imageOf (given (diskOf l) b (part c (s + t)) (File f (s + t))) → Walked d f c s n (b + 1) (t + 1) m
+  -- a block for which the code's test passes is given
+  pub walked-given : (m : List ℕ) → (ltb t n && y) ≡ true
+      → m ≡ imageOf (given (diskOf l) b (part c (s + t)) (File f (s + t))) → Walked d f c s n (b + 1) (t + 1) m
   unfolding freeAt
   walked-given m q z = walked-more d f c s n b t l w m (sym e ∙ and-right (ltb t n) y q) (true-lt (and-left (ltb t n) y q)) z
 
+-- where the code's test passes, fewer than n blocks are given
 pub asked-below : (t n : ℕ) (y : Bool) → (ltb t n && y) ≡ true → t < n
 asked-below t n y q = true-lt (and-left (ltb t n) y q)
 
--- a file of nothing but zeros
+-- a stored file without entry and data is zeros
 pub stored-zeros : storedRow [] [] ≡ zeros
 unfolding storedRow zeros
 stored-zeros = fun-ext (λ (i : ℕ). by-order i slotBytes (λ h. cond-true _ _ (lt-true h)) (λ h. cond-false _ _ (lt-false h)))
 
 -- ---- a slot, and the end of add and remove
 
+-- a row written at the slot's place in its block is the slot written
 pub slot-written : (l m : List ℕ) (k b : ℕ) (g : ℕ → ℕ) → b ≡ partBlock (diskOf l) 0 (k / blockSlots)
     → m ≡ imageOf (patched (diskOf l) b (k % blockSlots * slotBytes) slotBytes g) → m ≡ imageOf (setSlot (diskOf l) k g)
 unfolding setSlot
 slot-written l m k b g e q = q ∙ ap (λ (x : ℕ). imageOf (patched (diskOf l) x (k % blockSlots * slotBytes) slotBytes g)) e
 
-pub settled-written : (l₀ l₁ l₂ : List ℕ) → l₁ ≡ imageOf (setFree (diskOf l₀)) → l₂ ≡ imageOf (stepUpdate (diskOf l₁)) → l₂ ≡ imageOf (stepUpdate (setFree (diskOf l₀)))
+-- free word and update count, written one after the other, are both steps
+pub settled-written : (l₀ l₁ l₂ : List ℕ) → l₁ ≡ imageOf (setFree (diskOf l₀))
+    → l₂ ≡ imageOf (stepUpdate (diskOf l₁)) → l₂ ≡ imageOf (stepUpdate (setFree (diskOf l₀)))
 settled-written l₀ l₁ l₂ p q = inside-step stepUpdate inside-update l₁ l₂ (setFree (diskOf l₀)) p q
 
+-- both steps on disks that agree leave disks that agree
 pub inside-settled : (d e : Disk) → EqualInside d e → EqualInside (stepUpdate (setFree d)) (stepUpdate (setFree e))
 inside-settled d e near = inside-update (setFree d) (setFree e) (inside-free d e near)

@@ -1,5 +1,5 @@
 -- A loaded map that is kept in step with its image while the image is written.
--- Assumes nothing.
+-- Rests on the loaded map (Loading.Loaded), on steps and rows (Steps, Stored) and on a sound disk's record 0 (Judging.Ends).
 use mathlib.Core.Path.{_≡_, refl, sym, ap, _∙_}
 use mathlib.Core.Logic.{_≢_}
 use mathlib.Core.Bool.{Bool, true, false}
@@ -37,7 +37,7 @@ pub record InStep (map image : List ℕ) : Type 0 where
   pub loadedMap : MapLoaded map (diskOf image)
   pub system : loadedRecord map 0 ≡ System
 
--- a map that was just loaded from a disk that passed the judgement
+-- a map that was just loaded from a sound disk is in step with it
 pub in-step : (map image : List ℕ) → length image ≡ imageBytes → MapLoaded map (diskOf image) → diskRefusal (diskOf image) ≡ none → InStep map image
 in-step map image long m passed =
     record { long = long; loadedMap = m; system = record-loaded map (diskOf image) m 0 (omega arith) ∙ first-system (diskOf image) passed }
@@ -85,27 +85,33 @@ word-beside d o v h i a = upd₂-same d 0 (patch (d 0) o 2 (highByte 2 v)) 0 i r
 module _ (map l : List ℕ) (s : InStep map l) where
   -- block 0 passes no test that the system's record fails
   pub not-first : (p : Record → Bool) → p System ≡ false → (b : ℕ) → p (loadedRecord map b) ≡ true → 0 < b
-  not-first p e b t = by-order 0 b (λ h. h) (λ h. let z : b ≡ 0 = omega arith in true≢false (p (loadedRecord map b)) t (ap (λ (x : ℕ). p (loadedRecord map x)) z ∙ ap p (s .system) ∙ e))
+  not-first p e b t =
+      by-order 0 b (λ h. h)
+      (λ h.
+      let z : b ≡ 0 = omega arith in
+      true≢false (p (loadedRecord map b)) t (ap (λ (x : ℕ). p (loadedRecord map x)) z ∙ ap p (s .system) ∙ e))
 
   module _ (m : List ℕ) (e : Disk) (q : m ≡ imageOf e) where
-    -- the map's bytes are as they were
+    -- a write that leaves the map's bytes as they were keeps the map in step
     pub step-beside : ((o : ℕ) → mapStart ≤ o → o < blockBytes → e 0 o ≡ diskOf l 0 o) → InStep map m
     step-beside h =
         record {
           long = ap length q ∙ length-image e;
           loadedMap = record {
             long = s .loadedMap .long;
-            numbers = λ b k. s .loadedMap .numbers b k ∙ number-cong (diskOf l) (diskOf m) b k (λ o a c. sym (inside-image m e q 0 o (omega arith) c ∙ h o a c));
+            numbers = λ b k.
+                s .loadedMap .numbers b k
+                ∙ number-cong (diskOf l) (diskOf m) b k (λ o a c. sym (inside-image m e q 0 o (omega arith) c ∙ h o a c));
           };
           system = s .system;
         }
 
-  -- another block is written
+  -- writing another block than block 0 keeps the map in step
   pub step-block : (m : List ℕ) (b : ℕ) (g : ℕ → ℕ) → m ≡ imageOf (setBlock (diskOf l) b g) → 0 < b → InStep map m
   unfolding setBlock
   step-block m b g q h = step-beside m (upd (diskOf l) b g) q (λ o a c. upd₂-other (diskOf l) b g 0 o (λ z. omega arith))
 
-  -- a row of a block is written, in block 0 before the map
+  -- writing a row of a block, in block 0 before the map, keeps the map in step
   pub step-row : (m : List ℕ) (b o n : ℕ) (g : ℕ → ℕ) → m ≡ imageOf (patched (diskOf l) b o n g) → (b ≡ 0 → o + n ≤ mapStart) → InStep map m
   step-row m b o n g q h =
       let d : Disk = diskOf l in
@@ -114,6 +120,7 @@ module _ (map l : List ℕ) (s : InStep map l) where
       (λ z. upd₂-same d b (patch (d b) o n g) 0 i (sym z) ∙ patch-above (d b) o n g i (omega (arith, h z)) ∙ ap (λ (x : ℕ). d x i) z)
       (λ z. upd₂-other d b (patch (d b) o n g) 0 i (λ y. z (sym y))))
 
+  -- writing the directory's length keeps the map in step
   pub step-end : (m : List ℕ) (k : ℕ) → m ≡ imageOf (setEnd (diskOf l) k) → InStep map m
   unfolding setEnd
   step-end m k q =
@@ -121,8 +128,9 @@ module _ (map l : List ℕ) (s : InStep map l) where
       step-beside m (setWord (setWord d 34 (wholeBlocks k)) 36 (bytesOver k)) q
       (λ i a c. word-beside (setWord d 34 (wholeBlocks k)) 36 (bytesOver k) (omega arith) i a ∙ word-beside d 34 (wholeBlocks k) (omega arith) i a)
 
-  -- a record is written, in the image and in the loaded map
-  pub step-record : (m : List ℕ) (b : ℕ) (r : Record) → m ≡ imageOf (setRecord (diskOf l) b r) → 0 < b → b < blocks → FitsRecord r → InStep (set map b (numberOf r)) m
+  -- writing a record in the image and in the loaded map keeps them in step
+  pub step-record : (m : List ℕ) (b : ℕ) (r : Record) → m ≡ imageOf (setRecord (diskOf l) b r)
+      → 0 < b → b < blocks → FitsRecord r → InStep (set map b (numberOf r)) m
   unfolding loadedRecord
   step-record m b r q h k v =
       let d : Disk = setRecord (diskOf l) b r in
@@ -150,6 +158,7 @@ unfolding isPart
 system-part t = refl
 
 module _ (map l : List ℕ) (s : InStep map l) where
+  -- writing a slot keeps the map in step
   pub step-slot : (m : List ℕ) (k : ℕ) (g : ℕ → ℕ) → m ≡ imageOf (setSlot (diskOf l) k g) → InStep map m
   unfolding setSlot partBlock
   step-slot m k g q =
@@ -157,10 +166,11 @@ module _ (map l : List ℕ) (s : InStep map l) where
       step-row map l s m (partBlock (diskOf l) 0 (k / blockSlots)) (k % blockSlots * slotBytes) slotBytes g q
       (λ z.
       let t : part 0 ≡ true = ap part (sym z) ∙ lowest-hit part blocks (omega arith) in
-      let u : part 0 ≡ false = ap (isPart 0 (k / blockSlots)) (sym (record-loaded map (diskOf l) (s .loadedMap) 0 (omega arith)) ∙ s .system) ∙ system-part (k / blockSlots) in
+      let first : recordAt (diskOf l) 0 ≡ System = sym (record-loaded map (diskOf l) (s .loadedMap) 0 (omega arith)) ∙ s .system in
+      let u : part 0 ≡ false = ap (isPart 0 (k / blockSlots)) first ∙ system-part (k / blockSlots) in
       true≢false (part 0) t u)
 
-  -- the directory grows by a slot, or keeps its end
+  -- writing the directory's end, if it grows, keeps the map in step
   pub step-after : (m : List ℕ) (k end : ℕ) → m ≡ imageOf (endAfter k end (diskOf l)) → InStep map m
   unfolding endAfter
   step-after m k end q =
@@ -168,7 +178,7 @@ module _ (map l : List ℕ) (s : InStep map l) where
       (λ z. step-end map l s m (suc k) (q ∙ ap imageOf (cond-true _ _ (eq-true z))))
       (λ z. step-beside map l s m (diskOf l) (q ∙ ap imageOf (cond-false _ _ (eq-false z))) (λ o a c. refl))
 
--- the records from b on are as they were before the first was changed
+-- the records from b + 1 on are as they were before record b was changed
 pub rest-more : (map : List ℕ) (d : Disk) (b v : ℕ) → ((j : ℕ) → b ≤ j → j < blocks → loadedRecord map j ≡ recordAt d j)
     → (j : ℕ) → b + 1 ≤ j → j < blocks → loadedRecord (set map b v) j ≡ recordAt d j
 unfolding loadedRecord

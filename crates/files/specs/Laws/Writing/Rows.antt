@@ -1,5 +1,5 @@
 -- Rows of bytes of a block that lie in one sector, and so in a row in the image: read, and written.
--- Assumes nothing.
+-- Rests on rows of bytes (Stored, Steps) and on bytes of a block in one sector (Loading.Slots).
 use mathlib.Core.Path.{_≡_, refl, sym, ap, _∙_}
 use mathlib.Core.Bool.{true, cond, _&&_}
 use mathlib.Core.List.{List}
@@ -35,10 +35,12 @@ runPlace b o = cond (ltb b blocks) (imagePlace b o) imageBytes
 -- ---- one row read
 
 module _ (image : List ℕ) (b o n : ℕ) (long : length image ≡ imageBytes) (ho : o < blockBytes) (h : o % sectorBytes + n ≤ sectorBytes) where
+  -- a row of a block ends within the image
   pub row-within : b < blocks → imagePlace b o + n ≤ imageBytes
   unfolding imagePlace
   row-within hb = omega (arith, image-lt (running b (o / sectorBytes)) (omega arith))
 
+  -- a row of the image that is copied is that of the block
   pub row-read : b < blocks → (out : List ℕ) (c at e : ℕ) → at ≡ imagePlace b o → e ≡ at + n
       → put out c (take (e - at) (drop at image)) ≡ overlay out c n (λ (j : ℕ). diskOf image b (o + j))
   unfolding window elementAt
@@ -53,6 +55,7 @@ module _ (image : List ℕ) (b o n : ℕ) (long : length image ≡ imageBytes) (
       ∙ ap (λ (x : ℕ). getD image x 0) (sym (byte-along b o j (omega arith)))
       ∙ sym (disk-in image b (o + j) hb (omega arith)))
 
+  -- a row of a block that does not exist is zeros
   pub row-far : blocks ≤ b → (out : List ℕ) (c : ℕ) → overlay out c n (λ (j : ℕ). 0) ≡ overlay out c n (λ (j : ℕ). diskOf image b (o + j))
   row-far hb out c = overlay-cong out c n (λ (j : ℕ). 0) (λ (j : ℕ). diskOf image b (o + j)) (λ j l. sym (disk-far image b (o + j) hb))
 
@@ -81,7 +84,9 @@ module _ (l : List ℕ) (b o : ℕ) (g : ℕ → ℕ) (long : length l ≡ image
       patched-more (diskOf l) b o n g l l (g n) (row-nowhere h n) (set-no-block l b (o + n) (g n) long h) refl
       ∙ ap (λ (k : ℕ). imageOf (patched (diskOf l) b o k g)) (add-one n)
 
-  pub row-written : (n at : ℕ) → at ≡ runPlace b o → o < blockBytes → o % sectorBytes + n ≤ sectorBytes → overlay l at n g ≡ imageOf (patched (diskOf l) b o n g)
+  -- a row written at its place in the image is written in the block
+  pub row-written : (n at : ℕ) → at ≡ runPlace b o → o < blockBytes
+      → o % sectorBytes + n ≤ sectorBytes → overlay l at n g ≡ imageOf (patched (diskOf l) b o n g)
   unfolding runPlace
   row-written n at e ho h =
       by-order b blocks
@@ -93,6 +98,7 @@ module _ (l : List ℕ) (b o : ℕ) (g : ℕ → ℕ) (long : length l ≡ image
 
 -- ---- rows one after the other
 
+-- a row written after another is one row
 pub rows-next : (d : Disk) (b o n k : ℕ) (g h : ℕ → ℕ) (l m : List ℕ) → l ≡ imageOf (patched d b o n g) → m ≡ imageOf (patched (diskOf l) b (o + n) k h)
     → ((i : ℕ) → i < k → h i ≡ g (n + i)) → m ≡ imageOf (patched d b o (n + k) g)
 rows-next d b o n k g h l m e q w =
@@ -112,7 +118,7 @@ sector-next d b s c p l m e q =
     (λ i h. ap c (add-assoc (s * blockBytes) (p * sectorBytes) i))
     ∙ ap (λ (x : ℕ). imageOf (patched d b 0 x (λ (i : ℕ). c (s * blockBytes + i)))) z
 
--- a part of a list, behind what is written of it
+-- a part of a list, written after what is written of it
 pub rows-part : (d : Disk) (b o n : ℕ) (src : List ℕ) (e : ℕ) (l m : List ℕ) → l ≡ imageOf (patched d b o n (λ (i : ℕ). getD src i 0)) → n ≤ e → e ≤ length src
     → m ≡ imageOf (patched (diskOf l) b (o + n) (length (take (e - n) (drop n src))) (λ (i : ℕ). getD (take (e - n) (drop n src)) i 0))
     → m ≡ imageOf (patched d b o e (λ (i : ℕ). getD src i 0))
@@ -126,7 +132,7 @@ rows-part d b o n src e l m before h k q =
 
 -- ---- the bytes of a file
 
--- one more in a row
+-- one byte more of a row
 pub row-bytes-more : (l : List ℕ) (k v : ℕ) (f : ℕ → ℕ) → k < length l → ((j : ℕ) → j < k → getD l j 0 ≡ f j) → v ≡ f k
     → (j : ℕ) → j < k + 1 → getD (set l k v) j 0 ≡ f j
 row-bytes-more l k v f b h e j lt =
@@ -136,13 +142,17 @@ row-bytes-more l k v f b h e j lt =
 
 -- those of a part of its data, where the test finds that all of them lie there
 module _ (content : List ℕ) (i : ℕ) (t : (leb slotBytes i && leb (i + sectorBytes - slotBytes) (length content)) ≡ true) where
+  -- the row begins after the file's first 64 bytes
   pub content-past : slotBytes ≤ i
   content-past = true-le (and-left (leb slotBytes i) (leb (i + sectorBytes - slotBytes) (length content)) t)
 
+  -- the row ends within the file's data
   pub content-within : i + sectorBytes - slotBytes ≤ length content
   content-within = true-le (and-right (leb slotBytes i) (leb (i + sectorBytes - slotBytes) (length content)) t)
 
-  pub content-row : (head : List ℕ) → take (i + sectorBytes - slotBytes - (i - slotBytes)) (drop (i - slotBytes) content) ≡ tab (λ (k : ℕ). storedRow head content (i + k)) sectorBytes
+  -- the row of data is the row of the stored file
+  pub content-row : (head : List ℕ)
+      → take (i + sectorBytes - slotBytes - (i - slotBytes)) (drop (i - slotBytes) content) ≡ tab (λ (k : ℕ). storedRow head content (i + k)) sectorBytes
   unfolding storedRow window elementAt
   content-row head =
       let h : slotBytes ≤ i = content-past in

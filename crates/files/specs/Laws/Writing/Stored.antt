@@ -1,5 +1,5 @@
 -- Bytes stored into an image, one by one: what is written is a row of bytes of a block. Disks that agree inside their blocks.
--- Assumes nothing.
+-- Rests on the disk and its image (file_rules, Laws.Base.Disk).
 use mathlib.Core.Path.{_≡_, refl, sym, ap, ap₂, _∙_}
 use mathlib.Core.Logic.{_≢_}
 use mathlib.Core.List.{List}
@@ -19,9 +19,11 @@ use Rattle.file_rules.specs.Sizes.{blockBytes}
 
 -- ---- disks that agree inside their blocks
 
+-- two disks have the same bytes inside their blocks
 abbrev pub EqualInside : Disk → Disk → Type 0
 EqualInside d e = (b o : ℕ) → b < blocks → o < blockBytes → d b o ≡ e b o
 
+-- the disk of a disk's image agrees with it inside the blocks
 pub inside-disk : (d : Disk) → EqualInside (diskOf (imageOf d)) d
 unfolding diskOf imageOf
 inside-disk d b o hb ho =
@@ -29,6 +31,7 @@ inside-disk d b o hb ho =
     ∙ tab-in (λ (i : ℕ). d (blockOf i) (offsetOf i)) imageBytes (imagePlace b o) (image-place-lt b o hb ho)
     ∙ ap₂ d (block-byte b o hb ho) (offset-byte b o hb ho)
 
+-- the same for a list that is the image
 pub inside-image : (l : List ℕ) (d : Disk) → l ≡ imageOf d → EqualInside (diskOf l) d
 inside-image l d e b o hb ho = ap (λ (x : List ℕ). diskOf x b o) e ∙ inside-disk d b o hb ho
 
@@ -40,9 +43,11 @@ inside-step s keep l m d e q = q ∙ image-cong (s (diskOf l)) (s d) (keep (disk
 -- ---- one byte
 
 module _ (l : List ℕ) (b o v : ℕ) (e : length l ≡ imageBytes) where
+  -- a byte set in the image is set on its disk
   pub set-inside : b < blocks → o < blockBytes → set l (imagePlace b o) v ≡ imageOf (setByte (diskOf l) b o v)
   set-inside hb ho = ap (λ (x : List ℕ). set x (imagePlace b o) v) (sym (image-disk l e)) ∙ image-set (diskOf l) b o v hb ho
 
+  -- a byte set in no block leaves the image as it is
   pub set-no-block : blocks ≤ b → l ≡ imageOf (setByte (diskOf l) b o v)
   unfolding setByte
   set-no-block h =
@@ -51,10 +56,11 @@ module _ (l : List ℕ) (b o v : ℕ) (e : length l ≡ imageBytes) where
 
 -- ---- a row of bytes of a block
 
--- n bytes of g from offset o of block b on
+-- disk d with n bytes of g from offset o of block b on
 abbrev pub patched : Disk → ℕ → ℕ → ℕ → (ℕ → ℕ) → Disk
 patched d b o n g = upd d b (patch (d b) o n g)
 
+-- no byte written leaves the image as it is
 pub patched-none : (l : List ℕ) (b o : ℕ) (g : ℕ → ℕ) → length l ≡ imageBytes → l ≡ imageOf (patched (diskOf l) b o 0 g)
 patched-none l b o g e =
     sym (image-disk l e)
@@ -74,6 +80,7 @@ patch-last f o n g i q =
     (λ h. patch-above f o n g i h ∙ sym (patch-above f o (n + 1) g i (omega arith)))
 
 module _ (d : Disk) (b o n : ℕ) (g : ℕ → ℕ) (l m : List ℕ) (v : ℕ) where
+  -- one byte more of a row is written
   pub patched-more : l ≡ imageOf (patched d b o n g) → m ≡ imageOf (setByte (diskOf l) b (o + n) v) → v ≡ g n → m ≡ imageOf (patched d b o (n + 1) g)
   unfolding setByte
   patched-more e q w =
@@ -98,7 +105,7 @@ module _ (d : Disk) (b o n : ℕ) (g : ℕ → ℕ) (l m : List ℕ) (v : ℕ) w
       ∙ upd₂-other d b (patch (d b) o n g) b′ i z
       ∙ sym (upd₂-other d b (patch (d b) o (n + 1) g) b′ i z)))
 
--- the same bytes
+-- a row is written by its bytes alone
 pub patched-cong : (d : Disk) (b o n : ℕ) (f g : ℕ → ℕ) → ((i : ℕ) → i < n → f i ≡ g i) → imageOf (patched d b o n f) ≡ imageOf (patched d b o n g)
 patched-cong d b o n f g e =
     image-cong (patched d b o n f) (patched d b o n g)
@@ -112,17 +119,18 @@ patched-cong d b o n f g e =
     ∙ sym (upd₂-same d b (patch (d b) o n g) b′ i z))
     (λ z. upd₂-other d b (patch (d b) o n f) b′ i z ∙ sym (upd₂-other d b (patch (d b) o n g) b′ i z)))
 
--- a block that is written whole
+-- a row as long as a block is the block written whole
 pub patched-block : (d : Disk) (b : ℕ) (f g : ℕ → ℕ) → ((i : ℕ) → i < blockBytes → f i ≡ g i) → imageOf (patched d b 0 blockBytes f) ≡ imageOf (upd d b g)
 patched-block d b f g e =
     image-cong (patched d b 0 blockBytes f) (upd d b g)
     (λ b′ i hb ho. by-equal b′ b
     (λ z.
     let k : i - 0 ≡ i = omega arith in
-    upd₂-same d b (patch (d b) 0 blockBytes f) b′ i z ∙ patch-in (d b) 0 blockBytes f i (omega arith) (omega arith) ∙ ap f k ∙ e i ho ∙ sym (upd₂-same d b g b′ i z))
+    upd₂-same d b (patch (d b) 0 blockBytes f) b′ i z
+    ∙ patch-in (d b) 0 blockBytes f i (omega arith) (omega arith) ∙ ap f k ∙ e i ho ∙ sym (upd₂-same d b g b′ i z))
     (λ z. upd₂-other d b (patch (d b) 0 blockBytes f) b′ i z ∙ sym (upd₂-other d b g b′ i z)))
 
--- a row that is given by a rule
+-- a list that has a row's bytes is written as that row
 pub patched-row : (d : Disk) (b o : ℕ) (s : List ℕ) (n : ℕ) (g : ℕ → ℕ) → s ≡ tab g n
     → imageOf (patched d b o (length s) (λ (i : ℕ). getD s i 0)) ≡ imageOf (patched d b o n g)
 patched-row d b o s n g e =
