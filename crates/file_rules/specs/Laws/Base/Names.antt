@@ -1,5 +1,5 @@
 -- Names (§6.14, §6.15): their equality is an equivalence, of which no proof uses more, and the model accepts those that the calls accept.
--- Rests on the definitions alone.
+-- Rests on the equality of lists (laws, Same).
 use mathlib.Core.Path.{_≡_, refl, sym, _∙_}
 use mathlib.Core.Bool.{Bool, true}
 use mathlib.Core.List.{List}

@@ -82,18 +82,19 @@ module _ (slots : ℕ → Option FilledSlot) (dir : List ℕ) (owner : ℕ → R
   -- what a search finds is the owner
   hit : (b k s : ℕ) → position b 0 (listedBlocks slots dir k) ≡ some s → owner b ≡ File k s
   hit b k s e =
-      let w : (0 ≤ s) × (s < 0 + length (listedBlocks slots dir k)) × (getD (listedBlocks slots dir k) (s - 0) 0 ≡ b) =
-      found b 0 (listedBlocks slots dir k) s e in
+      let bs : List ℕ = listedBlocks slots dir k in
+      let w : (0 ≤ s) × (s < 0 + length bs) × (getD bs (s - 0) 0 ≡ b) = found b 0 bs s e in
       let z : s - 0 ≡ s = omega arith in
-      let at : getD (listedBlocks slots dir k) s 0 ≡ b = ap (λ (j : ℕ). getD (listedBlocks slots dir k) j 0) (sym z) ∙ w .2 in
+      let at : getD bs s 0 ≡ b = ap (λ (j : ℕ). getD bs j 0) (sym z) ∙ w .2 in
       ap owner (sym at) ∙ r .each k s (omega (arith, w .1, r .sizes k)) .1
 
   -- where it finds nothing there is no owner
   miss : (b k s : ℕ) → b < blocks → position b 0 (listedBlocks slots dir k) ≡ none → owner b ≡ File k s → ⊥
   miss b k s l e q =
       let h : s < parts k = v .own-below b k s l q in
-      let w : (getD (listedBlocks slots dir k) s 0 < blocks) × (owner (getD (listedBlocks slots dir k) s 0) ≡ File k s) = r .each k s h in
-      missed b 0 (listedBlocks slots dir k) e s (omega (arith, r .sizes k)) (v .own-once (getD (listedBlocks slots dir k) s 0) b k s (w .0) l (w .1) q)
+      let bs : List ℕ = listedBlocks slots dir k in
+      let w : (getD bs s 0 < blocks) × (owner (getD bs s 0) ≡ File k s) = r .each k s h in
+      missed b 0 bs e s (omega (arith, r .sizes k)) (v .own-once (getD bs s 0) b k s (w .0) l (w .1) q)
 
   -- slots below n
   slot-is : (n b : ℕ) → b < blocks → ((k s : ℕ) → n ≤ k → owner b ≡ File k s → ⊥)
@@ -198,12 +199,11 @@ module _ (slots slots′ : ℕ → Option FilledSlot) (dir dir′ : List ℕ) (o
             (ap (λ (j : ℕ). getD (old ++ bs) j 0) z ∙ getD-append-add old bs (u - s) 0)))
             (λ q.
             let n : upd parts f (s + length bs) k ≡ parts k = upd-other parts f (s + length bs) k q in
-            let w : (getD (listedBlocks slots dir k) u 0 < blocks) × (owner (getD (listedBlocks slots dir k) u 0) ≡ File k u) = r .each k u (omega arith) in
-            let y : getD (listedBlocks slots′ dir′ k) u 0 ≡ getD (listedBlocks slots dir k) u 0 = ap (λ (xs : List ℕ). getD xs u 0) (others k q) in (
+            let x : ℕ = getD (listedBlocks slots dir k) u 0 in
+            let w : (x < blocks) × (owner x ≡ File k u) = r .each k u (omega arith) in
+            let y : getD (listedBlocks slots′ dir′ k) u 0 ≡ x = ap (λ (xs : List ℕ). getD xs u 0) (others k q) in (
               omega (arith, w .0),
-              ap (give owner f s bs) y
-                  ∙ give-off bs owner f s i (getD (listedBlocks slots dir k) u 0) t (file-not-free owner (getD (listedBlocks slots dir k) u 0) k u (w .1))
-                  ∙ w .1,
+              ap (give owner f s bs) y ∙ give-off bs owner f s i x t (file-not-free owner x k u (w .1)) ∙ w .1,
             ));
       }
 
@@ -221,10 +221,10 @@ module _ (slots slots′ : ℕ → Option FilledSlot) (dir dir′ : List ℕ) (o
         each = λ k u h.
             by-equal k f (λ q. absurd (omega (arith, ap parts′ q)))
             (λ q.
-            let w : (getD (listedBlocks slots dir k) u 0 < blocks) × (owner (getD (listedBlocks slots dir k) u 0) ≡ File k u) =
-            r .each k u (omega (arith, e k q)) in
-            let y : getD (listedBlocks slots′ dir′ k) u 0 ≡ getD (listedBlocks slots dir k) u 0 = ap (λ (xs : List ℕ). getD xs u 0) (others k q) in
-            (omega (arith, w .0), ap (λ (b : ℕ). unowned f (owner b)) y ∙ keeps f k u (owner (getD (listedBlocks slots dir k) u 0)) (w .1) q));
+            let x : ℕ = getD (listedBlocks slots dir k) u 0 in
+            let w : (x < blocks) × (owner x ≡ File k u) = r .each k u (omega (arith, e k q)) in
+            let y : getD (listedBlocks slots′ dir′ k) u 0 ≡ x = ap (λ (xs : List ℕ). getD xs u 0) (others k q) in
+            (omega (arith, w .0), ap (λ (b : ℕ). unowned f (owner b)) y ∙ keeps f k u (owner x) (w .1) q));
       }
 
 -- only how many parts each file has matters

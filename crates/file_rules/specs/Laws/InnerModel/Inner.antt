@@ -1,5 +1,6 @@
 -- The inner model, which the proofs alone use: slots without their blocks, and for each block the record that it has (its owner).
--- Definitions whose names begin with `inner` are its calls and steps; they mirror those of the model (Model.antt). Rests on the definitions alone.
+-- Definitions whose names begin with `inner` are its calls and steps; they mirror those of the model (Model.antt).
+-- Rests on the record that a removed file leaves (`unowned`, Base.Whole).
 use mathlib.Core.Bool.{Bool, not, cond, _&&_}
 use mathlib.Core.List.{List, [], _∷_}
 use mathlib.Core.Option.{none, some}

@@ -1,6 +1,6 @@
 -- refusals-keep: a call that is refused changes no lent byte. An add or a remove that is refused on a sound disk leaves the disk, and so the image of it
 -- (image-disk); each other refusal gives back what was lent.
--- Assumes nothing.
+-- Rests on calls that judge a disk first (Base.OnSound) and on the disk and its image (Base.Disk).
 use mathlib.Core.Path.{_≡_, refl, ap, _∙_}
 use mathlib.Core.Bool.{Bool, true, false, cond}
 use mathlib.Core.List.{List}

@@ -1,5 +1,5 @@
 -- A sound disk has a vacant slot that fits a record. Whether there is room; add and remove case by case.
--- Rests on the judgements (Judging.Ends, Verdict) and on what numbers say (Loading.Records).
+-- Rests on what a sound disk has (Judging.Ends), on what numbers say (Loading.Records) and on rows that are written (Writing.Steps).
 use mathlib.Core.Path.{_≡_, refl, sym, ap, ap₂, _∙_}
 use mathlib.Core.Bool.{Bool, true, false, not, _&&_}
 use mathlib.Core.List.{List}

@@ -1,5 +1,5 @@
 -- Hashes of names: a number for each name, by which most names are told apart at once.
--- Rests on tallies (Tally), on the slots (Slots) and on the equality of names (file_rules, Laws.Base.Names).
+-- Rests on tallies (Tally), on the slots (Slots) and on the equality of lists (laws, Same).
 use mathlib.Core.Path.{_≡_, refl, sym, ap, ap₂, _∙_}
 use mathlib.Core.Bool.{true, false, not, cond, _&&_}
 use mathlib.Core.List.{List}
