@@ -12,7 +12,7 @@
  * - A refused call changes nothing: every lent byte is as it was.
  * - Any contents and any lengths may be passed; what cannot be done is refused.
  * - Memory is lent for the time of the call. No pointer is kept, nothing is allocated, nothing
- *   stays to be freed. A pointer must be good for the length behind it; where that is 0 the pointer
+ *   stays to be freed. A pointer must be good for the length after it; where that is 0 the pointer
  *   is not used and may be NULL. Memory that a call writes must not overlap anything else that is
  *   lent to the same call. No alignment is asked for.
  * - It uses at most DHEG_STACK_LEN bytes of stack.
@@ -192,7 +192,7 @@ dheg_reply dheg_check(const uint8_t *image, size_t image_len);
  * they stand. An entry has, highest byte first: 0-3 the length of the file (64 more than its data),
  * 14-15 the length of the name, 16-51 the name, 52-55 the date.
  *
- * Done: `first` is the count of bytes written; those behind them are left as they were. An exact fit
+ * Done: `first` is the count of bytes written; those after them are left as they were. An exact fit
  * is enough; an empty list fits an empty buffer. Refused: nothing is changed, and
  *
  *   1, 8 to 11   as dheg_check says
@@ -207,7 +207,7 @@ dheg_reply dheg_list(const uint8_t *image, size_t image_len, uint8_t *out, size_
  * Writes the data of a file into `out`. The name has 1 to 36 bytes, of any value, and is compared
  * byte by byte.
  *
- * Done: `first` is the count of bytes written; those behind them are left as they were. An exact fit
+ * Done: `first` is the count of bytes written; those after them are left as they were. An exact fit
  * is enough; an empty file fits an empty buffer. Refused: nothing is changed, and
  *
  *   1, 8 to 11   as dheg_check says

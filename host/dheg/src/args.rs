@@ -20,21 +20,21 @@ pub struct Given<'a> {
     options: Vec<(&'static str, &'a OsStr)>,
 }
 
-/// Whether help is asked for. What stands behind `--` is never an option.
+/// Whether help is asked for. What stands after `--` is never an option.
 pub fn asks_help(args: &[OsString]) -> bool {
     args.iter()
         .take_while(|arg| *arg != "--")
         .any(|arg| arg == "--help" || arg == "-h")
 }
 
-/// What stands before and behind the first `--`, if there is one.
+/// What stands before and after the first `--`, if there is one.
 pub fn split(args: &[OsString]) -> Option<(&[OsString], &[OsString])> {
     let mut parts = args.splitn(2, |arg| arg == "--");
     parts.next().zip(parts.next())
 }
 
 impl<'a> Given<'a> {
-    /// Sorts the arguments. Whatever begins with a dash is an option; behind
+    /// Sorts the arguments. Whatever begins with a dash is an option; after
     /// `--` all are words.
     pub fn parse(args: &'a [OsString], known: &[Known]) -> Result<Given<'a>, Failure> {
         let mut given = Given {
@@ -204,9 +204,9 @@ mod tests {
         assert!(!asks_help(&[]));
 
         let args = line("a -- b -- c");
-        let (before, behind) = split(&args).unwrap();
+        let (before, after) = split(&args).unwrap();
         assert_eq!(before, line("a"));
-        assert_eq!(behind, line("b -- c"));
+        assert_eq!(after, line("b -- c"));
         assert_eq!(split(&line("a b")), None);
     }
 

@@ -30,7 +30,7 @@ fn wrong(text: &OsStr) -> Failure {
     ))
 }
 
-/// The byte that stands behind a backslash.
+/// The byte that stands after a backslash.
 fn escaped(rest: &mut impl Iterator<Item = u8>) -> Option<u8> {
     match rest.next()? {
         b'\\' => Some(b'\\'),

@@ -59,7 +59,7 @@ pub fn check(image: &[u8]) -> Result<(), Refusal> {
 
 /// Writes the directory entries of the files present into the buffer,
 /// [`ENTRY_LEN`] bytes each, in slot order, as they stand. Gives the count of
-/// bytes; those behind them are left as they were.
+/// bytes; those after them are left as they were.
 ///
 /// An entry has, highest byte first: 0-3 the length of the file (64 more than
 /// its data), 14-15 the length of the name, 16-51 the name, 52-55 the date.
@@ -90,7 +90,7 @@ pub fn list(image: &[u8], out: &mut [u8]) -> Result<usize, Refusal> {
 }
 
 /// Writes the data of a file into the buffer. Gives the count of bytes; those
-/// behind them are left as they were. A name has 1 to [`FILE_NAME_LEN`] bytes
+/// after them are left as they were. A name has 1 to [`FILE_NAME_LEN`] bytes
 /// of any value and is compared byte by byte.
 ///
 /// Refused as [`check`], then with 12, 14, 16:

@@ -1,6 +1,6 @@
 //! The call `add`.
 //!
-//! Rules: document 01, "Header, map, directory", the paragraph on format.
+//! Rules: §8.9 to §8.12.
 
 use crate::directory::{is_held, SLOTS_PER_BLOCK};
 use crate::geometry::BLOCK_LEN;

@@ -1,6 +1,6 @@
 //! Result buffers, lent to `list` and `read`.
 //!
-//! Rules: document 01, "Numbered replies", 16 and the last sentence.
+//! Rules: §8.8, §7.16.
 
 use crate::reply::{Refusal, Reply};
 

@@ -1,7 +1,7 @@
 //! Cells in bytes: the stream of a side within a track's part of an HFE
 //! image, the stream of a plain buffer, and the way back to bytes.
 //!
-//! Rules: document 01, "The HFE image", second paragraph.
+//! Rules: §2.6, §3.1, §3.2.
 
 /// Bytes in one unit of an HFE image.
 pub const UNIT_LEN: usize = 512;

@@ -1,6 +1,6 @@
 //! The call `check`.
 //!
-//! Rules: document 01, "Numbered replies", the paragraph after the table.
+//! Rules: §8.5.
 
 use crate::reply::Reply;
 use crate::volume::Volume;

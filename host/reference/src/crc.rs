@@ -1,6 +1,6 @@
 //! The CRC of headers and data fields, one bit at a time.
 //!
-//! Rules: document 01, "Cells and sectors", first paragraph.
+//! Rules: §3.8, §3.9.
 
 /// The polynomial, without its highest term.
 pub const POLYNOMIAL: u16 = 0x1021;

@@ -1,7 +1,7 @@
 //! The directory's slots.
 //!
-//! Rules: document 01, "Header, map, directory". Slot numbers are file
-//! numbers; slot 0 belongs to the directory itself.
+//! Rules: §6.11, §6.12. Slot numbers are file numbers; slot 0 belongs to the
+//! directory itself.
 
 use crate::disk::Disk;
 use crate::geometry::BLOCK_LEN;

@@ -1,7 +1,7 @@
 //! A copy of the block image, in block order.
 //!
-//! Rules: document 01, "Place of a block". Only this file and `first_track`
-//! know where the sectors of a block stand in the image.
+//! Rules: §1.3. Only this file and `first_track` know where the sectors of a
+//! block stand in the image.
 
 use crate::field::SECTOR_LEN;
 use crate::geometry::{image_sector, BLOCKS, BLOCK_LEN, IMAGE_LEN, SECTORS};

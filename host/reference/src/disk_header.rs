@@ -1,6 +1,6 @@
 //! Judging the disk header.
 //!
-//! Rules: document 01, "Header, map, directory" and "Numbered replies", 8.
+//! Rules: §6.1 to §6.7, §7.8.
 
 use crate::geometry::BLOCK_LEN;
 use crate::layout::entry::SLOT_LEN;

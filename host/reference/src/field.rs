@@ -1,7 +1,7 @@
 //! The data field that follows a header.
 //!
-//! Rules: document 01, "Cells and sectors", second paragraph. The field may
-//! begin at a cell place of either parity, whatever the header's is.
+//! Rules: §4.4, §4.5. The field may begin at a cell place of either parity,
+//! whatever the header's is.
 
 use crate::crc::crc_of_field;
 use crate::header::{crc_at, HEADER_CELLS, SYNC_RUN_CELLS};

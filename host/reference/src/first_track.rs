@@ -1,6 +1,6 @@
 //! What the small program says of the first track.
 //!
-//! Rules: document 01, "Values to check", the program.
+//! Rules: §8.14.
 
 use crate::disk_header::judge_disk_header;
 use crate::field::SECTOR_LEN;

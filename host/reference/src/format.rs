@@ -1,6 +1,6 @@
 //! The call `format`.
 //!
-//! Rules: document 01, "Header, map, directory", the paragraph on format.
+//! Rules: §8.4.
 
 use crate::disk::{judge_image_len, Disk};
 use crate::geometry::BLOCKS;

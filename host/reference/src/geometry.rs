@@ -1,6 +1,6 @@
 //! The numbers of the disk, and where a block stands.
 //!
-//! Rules: document 01, "Place of a block". Three counts are kept apart: the
+//! Rules: section 1 of `docs/RULES.md`. Three counts are kept apart: the
 //! block with the sector within it, the running sector, the image sector.
 
 use crate::field::SECTOR_LEN;

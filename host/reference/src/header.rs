@@ -1,7 +1,7 @@
 //! Sector headers: what stands at a cell place, and the search of a side.
 //!
-//! Rules: document 01, "Cells and sectors", second paragraph. Every cell
-//! place is tried, so a header inside a data field counts like any other.
+//! Rules: §4.1 to §4.3. Every cell place is tried, so a header inside a data
+//! field counts like any other.
 
 use crate::crc::crc_of_field;
 use crate::mfm::{data_byte, data_bytes, is_three_sync, CELLS_PER_BYTE};

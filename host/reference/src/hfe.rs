@@ -1,6 +1,6 @@
 //! The header of an HFE image.
 //!
-//! Rules: document 01, "The HFE image", first paragraph.
+//! Rules: §2.1 to §2.3, §7.2.
 
 use crate::cells::UNIT_LEN;
 use crate::geometry::{SIDES, TRACKS};

@@ -10,14 +10,13 @@
 //! - Sector layer: `geometry`, `hfe`, `track_table`, `unpack`, `pack`.
 //! - File layer: `layout`, `disk`, `disk_header`, `map`, `directory`,
 //!   `sound`, `volume`, `buffer`, and a file for each call.
-//! - Beside it: `book`, which gives the answers of a whole history without
+//! - Beside it: `model`, which gives the answers of a whole history without
 //!   looking at an image.
 
 #![forbid(unsafe_code)]
 #![warn(missing_docs)]
 
 pub mod add;
-pub mod book;
 pub mod buffer;
 pub mod cells;
 pub mod check;
@@ -35,6 +34,7 @@ pub mod layout;
 pub mod list;
 pub mod map;
 pub mod mfm;
+pub mod model;
 pub mod pack;
 pub mod read;
 pub mod remove;

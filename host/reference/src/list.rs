@@ -1,6 +1,6 @@
 //! The call `list`.
 //!
-//! Rules: document 01, "Numbered replies", the paragraph after the table.
+//! Rules: §8.6.
 
 use crate::buffer::give;
 use crate::reply::{Refusal, Reply};

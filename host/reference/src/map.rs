@@ -1,7 +1,6 @@
 //! The map: a record for each block.
 //!
-//! Rules: document 01, "Header, map, directory" and "Numbered replies", 9
-//! and 11.
+//! Rules: §6.8 to §6.10, §7.9, §7.11.
 
 use crate::geometry::{BLOCKS, SECTORS_PER_BLOCK};
 use crate::layout::header::{FREE, HEADER_LEN};

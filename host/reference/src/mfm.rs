@@ -1,6 +1,6 @@
 //! MFM: bytes to cells, the two marks with a clock left out, and reading.
 //!
-//! Rules: document 01, "Cells and sectors", first paragraph.
+//! Rules: §3.3 to §3.6.
 
 /// Cells of one byte: a clock cell and a data cell for each bit.
 pub const CELLS_PER_BYTE: usize = 16;

@@ -1,6 +1,6 @@
 //! From the block image to an HFE image.
 //!
-//! Rules: document 01, "Cells and sectors", fourth paragraph.
+//! Rules: §8.2, §5.3 to §5.5.
 
 use crate::cells::{pack_cells, place_in_part, UNIT_LEN};
 use crate::geometry::{IMAGE_LEN, SIDES, TRACKS, TRACK_LEN};

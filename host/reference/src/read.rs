@@ -1,6 +1,6 @@
 //! The call `read`.
 //!
-//! Rules: document 01, "Numbered replies", the paragraph after the table.
+//! Rules: §8.7.
 
 use crate::buffer::give;
 use crate::layout::entry::{Entry, SLOT_LEN};

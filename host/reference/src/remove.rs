@@ -1,6 +1,6 @@
 //! The call `remove`.
 //!
-//! Rules: document 01, "Header, map, directory", the paragraph on format.
+//! Rules: §8.13.
 
 use crate::layout::entry::SLOT_LEN;
 use crate::layout::record::Record;

@@ -1,6 +1,6 @@
 //! What calls answer: a number and three places.
 //!
-//! Rules: document 01, "Numbered replies".
+//! Rules: §7.17.
 
 use crate::header::SectorId;
 

@@ -1,7 +1,6 @@
 //! What one sector gives, judged alone.
 //!
-//! Rules: document 01, "Numbered replies", 4 to 7; of the numbers that apply
-//! to the sector the lowest is given.
+//! Rules: §4.6, and §7.4 to §7.7.
 
 use crate::field::{data_field, DataField, SECTOR_LEN};
 use crate::header::{find_header, Search, SectorId};

@@ -1,6 +1,6 @@
 //! Whether the directory is sound.
 //!
-//! Rules: document 01, "Numbered replies", the paragraph after the table.
+//! Rules: §7.10, §7.20 to §7.22.
 
 use crate::directory::{all_slots, file_blocks, is_held};
 use crate::disk::Disk;

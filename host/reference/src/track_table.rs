@@ -1,7 +1,7 @@
 //! The track table of an HFE image.
 //!
-//! Rules: document 01, "The HFE image", first paragraph. Tracks may overlap
-//! one another, the header and the table.
+//! Rules: §2.4, §2.5. Tracks may lie over one another, the header and the
+//! table.
 
 use crate::cells::UNIT_LEN;
 use crate::geometry::TRACKS;

@@ -1,6 +1,6 @@
 //! From an HFE image to the block image.
 //!
-//! Rules: document 01, "Numbered replies", 1 to 7.
+//! Rules: §8.1, and §7.1 to §7.7.
 
 use crate::cells::side_cells;
 use crate::geometry::{IMAGE_LEN, SIDES};

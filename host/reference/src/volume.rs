@@ -1,6 +1,6 @@
 //! A disk that has passed all of the check, with its map and directory.
 //!
-//! Rules: document 01, "Numbered replies", the paragraph after the table.
+//! Rules: §8.5, §7.18.
 
 use crate::directory::{file_blocks, is_held, SLOTS_PER_BLOCK};
 use crate::disk::Disk;

@@ -1,6 +1,6 @@
 //! A side as it is written: its bytes and marks, and their cells.
 //!
-//! Rules: document 01, "Cells and sectors", third paragraph.
+//! Rules: §5.1, §5.2.
 
 use crate::crc::crc_of_field;
 use crate::field::{DATA_MARK, SECTOR_LEN};
@@ -70,7 +70,7 @@ fn bytes(bytes: &[u8]) -> Vec<Item> {
     bytes.iter().map(|&byte| Item::Byte(byte)).collect()
 }
 
-/// The mark, the bytes after it and their CRC, behind three sync bytes.
+/// The mark, the bytes after it and their CRC, after three sync bytes.
 fn marked_items(mark: u8, body: &[u8]) -> Vec<Item> {
     [
         repeat(Item::Sync, 3),

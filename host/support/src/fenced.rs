@@ -4,8 +4,8 @@
 /// without it is a fault of the test's data.
 pub fn fenced<'a>(text: &'a str, word: &str) -> &'a str {
     let opening = format!("```{word}\n");
-    let behind = text.split_once(&opening).map(|(_, behind)| behind);
-    let block = behind.and_then(|behind| Some(behind.split_once("```")?.0));
+    let after = text.split_once(&opening).map(|(_, after)| after);
+    let block = after.and_then(|after| Some(after.split_once("```")?.0));
     block.unwrap_or_else(|| panic!("no block {word}"))
 }
 

@@ -18,7 +18,7 @@ pub const COMMAND: Command = Command {
     arguments: "IN.hfe OUT.hfe -- (put NAME FILE [--date D] | rm NAME)...",
     about: "change the files in an HFE image",
     details: "\
-Unpacks IN.hfe, takes the steps behind -- in order and packs the result as
+Unpacks IN.hfe, takes the steps after -- in order and packs the result as
 OUT.hfe, which may be IN.hfe. If a step is refused, nothing is written. The
 steps are those of dheg put and dheg rm, with names and dates as there.
 ",
@@ -40,13 +40,13 @@ enum Step<'a> {
 }
 
 fn run(args: &[OsString]) -> Result<(), Failure> {
-    let Some((before, behind)) = args::split(args) else {
+    let Some((before, after)) = args::split(args) else {
         return Err(Failure::Usage(String::from(
             "-- is needed before the steps",
         )));
     };
     let [from, to] = Given::parse(before, &[])?.exactly()?;
-    let steps = steps(behind)?;
+    let steps = steps(after)?;
     let progress = Progress::new();
     let mut image = unpacked(from, &progress)?;
     for step in &steps {
@@ -60,21 +60,21 @@ fn run(args: &[OsString]) -> Result<(), Failure> {
 fn steps(args: &[OsString]) -> Result<Vec<Step<'_>>, Failure> {
     let mut rest = args;
     let mut steps = Vec::new();
-    while let Some((verb, behind)) = rest.split_first() {
-        let (step, behind) = step(verb, behind)?;
+    while let Some((verb, after)) = rest.split_first() {
+        let (step, after) = step(verb, after)?;
         steps.push(step);
-        rest = behind;
+        rest = after;
     }
     match steps.is_empty() {
-        true => Err(Failure::Usage(String::from("no step is given behind --"))),
+        true => Err(Failure::Usage(String::from("no step is given after --"))),
         false => Ok(steps),
     }
 }
 
-/// A step, and what stands behind it. Places decide what is a verb, so that
+/// A step, and what stands after it. Places decide what is a verb, so that
 /// a file may be called put or rm.
-fn step<'a>(verb: &OsStr, behind: &'a [OsString]) -> Result<(Step<'a>, &'a [OsString]), Failure> {
-    match (verb.to_str(), behind) {
+fn step<'a>(verb: &OsStr, after: &'a [OsString]) -> Result<(Step<'a>, &'a [OsString]), Failure> {
+    match (verb.to_str(), after) {
         (Some("put"), [name, file, rest @ ..]) => {
             let name = names::parse(name)?;
             let (date, rest) = date(rest)?;
@@ -93,7 +93,7 @@ fn step<'a>(verb: &OsStr, behind: &'a [OsString]) -> Result<(Step<'a>, &'a [OsSt
     }
 }
 
-/// The date behind a put, 0 unless given.
+/// The date after a put, 0 unless given.
 fn date(args: &[OsString]) -> Result<(u32, &[OsString]), Failure> {
     match args {
         [option, rest @ ..] if option == "--date" => match rest {

@@ -23,7 +23,7 @@ use crate::names;
 /// A command: its words for the reader, and what it does.
 pub struct Command {
     pub name: &'static str,
-    /// What stands behind the name.
+    /// What stands after the name.
     pub arguments: &'static str,
     /// In one line.
     pub about: &'static str,
@@ -52,7 +52,7 @@ const ALL: [&Command; 10] = [
 const COMMON: &str = r"
 Names of files and disks are text; \xHH stands for the byte with this
 hexadecimal value and \\ for a backslash. Whatever begins with a dash is an
-option; behind -- nothing is.
+option; after -- nothing is.
 
 Dates are QL dates, seconds since 1961-01-01 00:00:00. They are given as that
 number, as YYYY-MM-DD HH:MM:SS or as now (UTC).

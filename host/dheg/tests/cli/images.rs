@@ -58,7 +58,7 @@ fn unpack_refused() {
 
 #[test]
 fn hfe_image_with_an_endless_tail() {
-    // More than any table can point at; what is behind is not read.
+    // More than any table can point at; what is after it is not read.
     let bench = Bench::with_disk();
     bench.quiet("pack disk.img long.hfe");
     let mut bytes = bench.read("long.hfe");

@@ -88,7 +88,7 @@ fn steps_of_edit() {
     bench.quiet("pack disk.img disk.hfe");
     for (steps, words) in [
         ("", "-- is needed before the steps"),
-        (" --", "no step is given behind --"),
+        (" --", "no step is given after --"),
         (" -- rm", "rm needs NAME"),
         (" -- put a", "put needs NAME and FILE"),
         (" -- ls a", "there is no step ls"),

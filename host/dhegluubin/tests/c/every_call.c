@@ -144,10 +144,10 @@ static void files(void)
     check("names in slot order", memcmp(out + DHEG_ENTRY_LEN + 16, "second", 6) == 0);
     check("length of the file", memcmp(out, "\0\0\x0B\xF8", 4) == 0);
     check("date of the file", memcmp(out + 52, "\1\2\3\4", 4) == 0);
-    check("bytes behind the list", out[128] == 0xAA && out[sizeof out - 1] == 0xAA);
+    check("bytes after the list", out[128] == 0xAA && out[sizeof out - 1] == 0xAA);
     expect("read", read_file("first", 3000), DHEG_DONE, 3000, 0, 0);
     check("data of the file", memcmp(out, data, 3000) == 0);
-    check("bytes behind the data", out[3000] == 0xAA);
+    check("bytes after the data", out[3000] == 0xAA);
     expect("read of an empty file", dheg_read(image, sizeof image, text("second"), 6, NULL, 0),
            DHEG_DONE, 0, 0, 0);
 
@@ -298,7 +298,7 @@ static void hfe_images(void)
     expect("unpack", unpack(), DHEG_DONE, 0, 0, 0);
     check("the same image", memcmp(image, original, sizeof image) == 0);
 
-    /* The ten bytes of a header once more, behind its sector. */
+    /* The ten bytes of a header once more, after its sector. */
     for (i = 0; i < 10; i++) {
         cell(2, 577 + i)[0] = cell(2, 12 + i)[0];
         cell(2, 577 + i)[1] = cell(2, 12 + i)[1];

@@ -1,6 +1,6 @@
 //! How header, map records and directory entries are laid out in bytes.
 //!
-//! Rules: document 01, "Header, map, directory". Numbers are big-endian.
+//! Rules: section 6 of `docs/RULES.md`. Numbers have their high byte first.
 
 pub mod entry;
 pub mod header;

@@ -1,8 +1,9 @@
-//! Cells in bytes: document 01, "The HFE image", second paragraph.
+//! Cells in bytes (§2.6, §3.1).
 
 use crate::build::noise;
 use reference::cells::{buffer_cells, pack_cells, side_bytes, side_cells};
 
+/// The first cell is the lowest bit (§3.1).
 #[test]
 fn lowest_bit_is_the_first_cell() {
     assert_eq!(
@@ -32,6 +33,7 @@ fn two_units() -> Vec<u8> {
     part
 }
 
+/// Each unit has 256 bytes of each side (§2.6).
 #[test]
 fn sides_take_turns_every_256_bytes() {
     let part = two_units();
@@ -41,6 +43,7 @@ fn sides_take_turns_every_256_bytes() {
     assert_eq!(side_bytes(&part, 1024, 1), side_1);
 }
 
+/// The last unit, too, is used from the beginning of its halves (§2.6).
 #[test]
 fn last_unit_is_filled_from_the_start_of_both_halves() {
     let mut part = two_units();

@@ -1,8 +1,8 @@
-//! The CRC: document 01, "Cells and sectors", first paragraph, and published
-//! values.
+//! The CRC (§3.8, §3.9), and published values.
 
 use reference::crc::{crc16, crc_of_field};
 
+/// Start, polynomial and order of bits (§3.8).
 #[test]
 fn published_check_value() {
     assert_eq!(crc16(b"123456789"), 0x29B1);
@@ -13,6 +13,7 @@ fn no_bytes_give_the_start() {
     assert_eq!(crc16(&[]), 0xFFFF);
 }
 
+/// The CRC of a header (§3.8 §3.9).
 #[test]
 fn header_of_the_first_sector() {
     let bytes = [0xA1, 0xA1, 0xA1, 0xFE, 0x00, 0x00, 0x01, 0x02];
@@ -27,6 +28,7 @@ fn known_values_after_sync_and_mark() {
     assert_eq!(crc_of_field(0xFB, &[]), 0xE295);
 }
 
+/// After bytes and their CRC the register is 0 (§10.1).
 #[test]
 fn crc_over_its_own_bytes_is_zero() {
     let mut bytes = b"123456789".to_vec();
@@ -34,6 +36,7 @@ fn crc_over_its_own_bytes_is_zero() {
     assert_eq!(crc16(&bytes), 0);
 }
 
+/// Four wrong bits among 17 can pass (§10.2).
 #[test]
 fn least_damage_that_passes() {
     // Four wrong bits among the 17 from bit 7 on.
@@ -44,6 +47,7 @@ fn least_damage_that_passes() {
     assert_eq!(wrong, [0x01, 0x10, 0x21]);
 }
 
+/// Of all fillings of a stretch one in 65,536 passes (§10.2).
 #[test]
 fn one_filling_in_65536_passes() {
     // A header with its CRC. Two neighbouring bytes are put in anew in every

@@ -1,4 +1,4 @@
-//! Data fields: document 01, "Cells and sectors", second paragraph.
+//! Data fields (§4.4 to §4.6).
 
 use crate::build::{byte_items, field, gap, header, header_items, id, join, marked, noise_sector};
 use reference::crc::crc_of_field;
@@ -46,6 +46,7 @@ fn header_and_field_of_any_parity() {
     }
 }
 
+/// The run begins at most 688 cells after the header (§4.4).
 #[test]
 fn gap_of_688_cells_is_the_most() {
     let data = noise_sector(12);
@@ -74,6 +75,7 @@ fn no_sync_run_at_all() {
     assert_eq!(data_field(&header(SECTOR), 0), DataField::Absent);
 }
 
+/// A field needs its mark (§4.5).
 #[test]
 fn wrong_mark_at_the_first_run() {
     let data = noise_sector(13);
@@ -83,6 +85,7 @@ fn wrong_mark_at_the_first_run() {
     }
 }
 
+/// No later run is tried (§4.4).
 #[test]
 fn later_run_is_not_tried() {
     let data = noise_sector(14);
@@ -195,6 +198,7 @@ fn data_with_crc_ending_in_zeros() -> [u8; 512] {
     data
 }
 
+/// A field lies wholly within the side (§4.5).
 #[test]
 fn field_cut_by_the_streams_end() {
     for data in [noise_sector(22), data_with_crc_ending_in_zeros()] {

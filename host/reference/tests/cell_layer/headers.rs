@@ -1,5 +1,4 @@
-//! The search for headers: document 01, "Cells and sectors", second
-//! paragraph.
+//! The search for headers (§4.1 to §4.3).
 
 use crate::build::{field, gap, header, header_items, id, join, marked, noise_sector};
 use reference::crc::crc_of_field;
@@ -51,6 +50,7 @@ fn five_goes_before_the_judging_of_data_fields() {
     assert_eq!(read_sector(&cells, sector), Err(5));
 }
 
+/// A header names track, side, sector and size (§4.1 §4.2).
 #[test]
 fn every_byte_of_the_header_counts() {
     let right = [40, 1, 6, 2];
@@ -63,6 +63,7 @@ fn every_byte_of_the_header_counts() {
     }
 }
 
+/// N is 2 (§4.2).
 #[test]
 fn size_code_is_two() {
     for n in [0, 1, 3, 0x82, 255] {
@@ -71,6 +72,7 @@ fn size_code_is_two() {
     }
 }
 
+/// R is 1 to 9 (§4.2).
 #[test]
 fn sector_number_is_one_to_nine() {
     for r in 0..=255 {
@@ -82,6 +84,7 @@ fn sector_number_is_one_to_nine() {
     }
 }
 
+/// The CRC of a header holds (§4.1).
 #[test]
 fn wrong_crc_belongs_to_no_sector() {
     let sector = id(0, 0, 1);
@@ -94,6 +97,7 @@ fn wrong_crc_belongs_to_no_sector() {
     }
 }
 
+/// A CRC has its high byte first (§3.9).
 #[test]
 fn crc_has_its_high_byte_first() {
     let crc = crc_of_field(0xFE, &[0, 0, 1, 2]);
@@ -110,6 +114,7 @@ fn crc_has_its_high_byte_first() {
     );
 }
 
+/// The mark of a header is FE (§4.1).
 #[test]
 fn other_marks_are_no_headers() {
     for mark in [0xFB, 0xFF, 0xFC, 0xF8, 0xA1] {
@@ -180,6 +185,7 @@ fn header_cut_by_the_streams_end() {
     }
 }
 
+/// Nothing is completed from the side's beginning (§3.2).
 #[test]
 fn stream_does_not_go_round() {
     let sector = id(0, 0, 1);
@@ -201,6 +207,7 @@ fn clocks_matter_only_in_sync_bytes() {
     }
 }
 
+/// Places inside data fields are tried too (§4.3).
 #[test]
 fn header_inside_a_data_field_counts() {
     let (outer, inner) = (id(5, 1, 1), id(5, 1, 2));

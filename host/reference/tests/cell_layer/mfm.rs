@@ -1,5 +1,4 @@
-//! MFM bytes and sync bytes: document 01, "Cells and sectors", first
-//! paragraph.
+//! MFM bytes and sync bytes (§3.3 to §3.7).
 
 use reference::cells::{buffer_cells, pack_cells};
 use reference::mfm::{
@@ -14,12 +13,14 @@ fn word(cells: [u8; 16]) -> u16 {
         .fold(0, |word, &cell| (word << 1) | u16::from(cell))
 }
 
+/// Clock cells and data cells in turn (§3.3).
 #[test]
 fn gap_byte_after_a_zero() {
     assert_eq!(word(encode_byte(0x4E, 0)), 0x9254);
     assert_eq!(pack_cells(&encode_byte(0x4E, 0)), [0x49, 0x2A]);
 }
 
+/// A clock cell depends on its bit and the one before (§3.4).
 #[test]
 fn last_bit_decides_only_the_first_clock() {
     assert_eq!(word(encode_byte(0x4E, 1)), 0x1254);
@@ -29,6 +30,7 @@ fn last_bit_decides_only_the_first_clock() {
     assert_eq!(word(encode_byte(0xFF, 1)), 0x5555);
 }
 
+/// The cells of both marks, and as they are stored (§3.5).
 #[test]
 fn marks_have_their_cells_and_storage() {
     for last_bit in [0, 1] {
@@ -64,6 +66,7 @@ fn every_byte_reads_back_at_either_parity() {
     }
 }
 
+/// A byte is read from its data cells alone (§3.6).
 #[test]
 fn reading_takes_no_notice_of_clocks() {
     assert_eq!(data_byte(&word_cells(0xAAAA), 0), 0x00);
@@ -72,6 +75,7 @@ fn reading_takes_no_notice_of_clocks() {
     assert_eq!(data_byte(&word_cells(0x4000), 0), 0x80);
 }
 
+/// A cell past the end reads as 0 (§3.2).
 #[test]
 fn cells_past_the_end_read_as_zero() {
     let cells = [1; 16];
@@ -84,6 +88,7 @@ fn cells_past_the_end_read_as_zero() {
     assert_eq!(data_bytes(&cells, 0, 3), [0xFF, 0, 0]);
 }
 
+/// A sync byte is all 16 cells (§3.7).
 #[test]
 fn sync_is_all_sixteen_cells() {
     let sync = word_cells(0x4489);
@@ -110,6 +115,7 @@ fn sync_is_found_at_either_parity_and_ends_before_the_end() {
     assert!(!is_sync(&[1, 0], usize::MAX));
 }
 
+/// A run is three sync bytes (§3.7).
 #[test]
 fn three_sync_need_all_three() {
     let three = buffer_cells(&[0x22, 0x91, 0x22, 0x91, 0x22, 0x91]);

@@ -1,4 +1,4 @@
-//! A written side: document 01, "Cells and sectors", third paragraph.
+//! A written side (§5.1, §5.2).
 
 use crate::build::{id, noise};
 use reference::cells::{buffer_cells, pack_cells, side_cells, UNIT_LEN};
@@ -30,6 +30,7 @@ fn take_bytes(rest: &mut &[Item], bytes: &[u8]) {
     }
 }
 
+/// Each part of a written sector (§5.1) and side (§5.2).
 #[test]
 fn layout_of_a_side() {
     let data = side_noise(30);
@@ -68,6 +69,7 @@ fn header_crc_is_high_byte_first() {
     );
 }
 
+/// A side has 6,250 bytes, so 12,500 bytes of cells (§5.2).
 #[test]
 fn side_has_12500_cell_bytes() {
     let cells = written_side_cells(0, 0, &side_noise(32));

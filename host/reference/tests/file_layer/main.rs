@@ -1,4 +1,4 @@
-//! Tests of the file layer and of the book: images made by hand, the outside
+//! Tests of the file layer and of the model: images made by hand, the outside
 //! answers in `tests/data`, and random histories.
 
 mod answer;

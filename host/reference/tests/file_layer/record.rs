@@ -2,6 +2,7 @@
 
 use reference::layout::record::Record;
 
+/// 12 bits of file number and 12 of sequence (§6.8).
 #[test]
 fn stated_record() {
     let record = Record::File {
@@ -12,6 +13,7 @@ fn stated_record() {
     assert_eq!(record.bytes(), [0x2A, 0x50, 0x13]);
 }
 
+/// Kinds of record by their bytes (§6.9).
 #[test]
 fn kinds_of_record() {
     assert_eq!(Record::read([0xFD, 0xFF, 0xFF]), Some(Record::Free));

@@ -1,10 +1,11 @@
-//! Placement and its tables: document 01, "Place of a block".
+//! Placement and its tables (§1.3 to §1.6).
 
 use reference::geometry::{
     image_sector, running_at, running_sector, REMAINDER, SECTORS, SIDE_AND_PLACE,
 };
 use reference::place;
 
+/// Sector s of block b is running sector 3b + s (§1.3).
 #[test]
 fn place_is_that_of_the_running_sector() {
     for running in 0..SECTORS {
@@ -14,6 +15,7 @@ fn place_is_that_of_the_running_sector() {
     }
 }
 
+/// Placement is one to one (§1.6).
 #[test]
 fn placement_and_its_inverse() {
     let mut taken = vec![false; SECTORS];
@@ -28,6 +30,7 @@ fn placement_and_its_inverse() {
     }
 }
 
+/// The backward table undoes that of side and place (§1.4 §1.6).
 #[test]
 fn tables_are_inverse() {
     for (remainder, entry) in SIDE_AND_PLACE.iter().enumerate() {

@@ -1,4 +1,4 @@
-//! Refusal 2, judged on the header alone: document 01, "The HFE image".
+//! Refusal 2, judged on the header alone: §2.2 and §2.3.
 
 use crate::answer::{assert_refused, assert_unpacks};
 use crate::shared::build::{disk, packed};
@@ -17,6 +17,7 @@ fn judged(patches: &[(usize, u8)]) -> Result<(), usize> {
     })
 }
 
+/// Letters and revision (§2.2), and the other fields (§2.3).
 #[test]
 fn every_byte_alone() {
     for offset in 0..512 {
@@ -41,6 +42,7 @@ fn every_byte_alone() {
     }
 }
 
+/// Flags, and the encoding after each (§2.3).
 #[test]
 fn switches_with_the_byte_after_them() {
     for byte in 0..=255 {
@@ -55,6 +57,7 @@ fn switches_with_the_byte_after_them() {
     }
 }
 
+/// 2 names the lowest wrong field (§7.2).
 #[test]
 fn lowest_wrong_field_is_named() {
     let wrong = [

@@ -1,5 +1,4 @@
-//! A written image byte by byte: document 01, "Cells and sectors", fourth
-//! paragraph.
+//! A written image byte by byte (§5.3 to §5.5).
 
 use crate::answer::{assert_unpacks, pack_into};
 use crate::shared::build::{disk, packed};
@@ -8,6 +7,7 @@ use reference::geometry::IMAGE_LEN;
 use reference::pack::HFE_LEN;
 use reference::written::written_side_cells;
 
+/// All bytes of the header (§5.4) and of the table (§5.3).
 #[test]
 fn header_and_table_byte_by_byte() {
     let hfe = packed();
@@ -23,6 +23,7 @@ fn header_and_table_byte_by_byte() {
     assert_eq!(hfe[..1024], start);
 }
 
+/// The unused ends are FF (§5.5).
 #[test]
 fn sides_and_unused_ends() {
     let hfe = packed();
@@ -40,6 +41,7 @@ fn sides_and_unused_ends() {
     }
 }
 
+/// Unpacked, a packed image gives the same block image (§8.2).
 #[test]
 fn round_trip() {
     assert_unpacks(&packed(), disk());

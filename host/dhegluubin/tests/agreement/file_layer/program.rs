@@ -73,6 +73,7 @@ fn says(image: &[u8]) -> String {
     printed(&image[..FIRST_TRACK_LEN])
 }
 
+/// The counts of good disks (§8.14).
 #[test]
 fn good_disks() {
     assert_eq!(says(&fresh()), FRESH);
@@ -82,6 +83,7 @@ fn good_disks() {
     assert_eq!(says(&image), "free 0\ngood 1440\nheld 480\n");
 }
 
+/// A first track has 9,216 bytes (§7.1).
 #[test]
 fn other_lengths_are_refused_with_1() {
     let image = fresh();
@@ -125,6 +127,7 @@ fn input_from_a_file() {
     }
 }
 
+/// 8 names the field (§7.8).
 #[test]
 fn each_header_field_is_refused_with_8() {
     for field in [0, 2, 22, 24, 26, 28, 30, 32, 36, 38, 40, 56, 58, 74] {
@@ -141,6 +144,7 @@ fn each_header_field_is_refused_with_8() {
     }
 }
 
+/// 9 names the block (§7.9).
 #[test]
 fn each_kind_of_wrong_record_is_refused_with_9() {
     let of_no_kind = [[0xF8, 0, 1], [0xF9, 0, 0], [0xFD, 0, 0], [0xFF; 3]];
@@ -160,6 +164,7 @@ fn each_kind_of_wrong_record_is_refused_with_9() {
     }
 }
 
+/// 11 names no place (§7.11).
 #[test]
 fn wrong_free_words_are_refused_with_11() {
     for free in [0, 1410, 1412, 1414, 1434, 0xFFFF] {
@@ -176,6 +181,7 @@ fn wrong_free_words_are_refused_with_11() {
     }
 }
 
+/// The lowest number is given (§7.18).
 #[test]
 fn refusals_in_order() {
     let mut image = three_files();

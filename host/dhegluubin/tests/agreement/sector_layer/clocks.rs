@@ -5,7 +5,7 @@ use super::build::{track_0, TRACK_0_GOOD};
 use super::side::{good_sectors, side_bytes, side_cells, Sector};
 use reference::cells::pack_cells;
 
-/// Cells of the parts of a sector behind `before`: header and field with
+/// Cells of the parts of a sector after `before`: header and field with
 /// their sync bytes, and the gap between.
 const HEADER: usize = 10 * 16;
 const SYNCS: usize = 3 * 16;
@@ -33,6 +33,7 @@ fn with_clocks(sectors: &[Sector], clock: fn(usize) -> u8) -> Vec<u8> {
     cells
 }
 
+/// A byte is read from its data cells alone (§3.6).
 #[test]
 fn clocks_outside_sync_bytes_do_not_count() {
     let sides = [0, 1].map(|side| good_sectors(0, side, 77));

@@ -50,7 +50,7 @@ fn random_lengths() {
 
 #[test]
 fn cut_within_the_table() {
-    // The table stands behind all tracks, and is cut at every byte.
+    // The table stands after all tracks, and is cut at every byte.
     let sides = [0, 1].map(|side| side_bytes(&good_sectors(0, side, 9)));
     let mut hfe = track_0(&sides);
     let table = hfe[UNIT..UNIT + 320].to_vec();

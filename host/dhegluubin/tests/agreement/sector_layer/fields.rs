@@ -21,6 +21,7 @@ fn judged(r: usize, change: impl Fn(&mut Sector)) -> [usize; 4] {
     judged_cells(&side_cells(&sectors))
 }
 
+/// The run of a field begins at most 688 cells after the header (§4.4).
 #[test]
 fn gap_of_688_cells_and_of_689() {
     for r in [1, 5, 9] {
@@ -47,6 +48,7 @@ fn gap_of_688_cells_and_of_689() {
     }
 }
 
+/// A run may begin at an odd place (§3.7 §4.4).
 #[test]
 fn gap_of_688_cells_at_odd_places() {
     for shift in [1, 2, 3, 8, 15] {
@@ -60,6 +62,7 @@ fn gap_of_688_cells_at_odd_places() {
     }
 }
 
+/// Of four sync bytes the first three are the run (§4.4).
 #[test]
 fn four_sync_bytes() {
     for (syncs, expected) in [
@@ -85,6 +88,7 @@ fn four_sync_bytes_of_which_the_first_is_no_sync() {
     assert_eq!(reply, TRACK_0_GOOD);
 }
 
+/// No later run is tried (§4.4).
 #[test]
 fn first_run_decides() {
     let run = |mark| {
@@ -94,7 +98,7 @@ fn first_run_decides() {
         ]
         .concat()
     };
-    // Another mark, or FB with too few bytes behind it before the field's
+    // Another mark, or FB with too few bytes after it before the field's
     // own run: then these are the data.
     for (mark, expected) in [
         (0xF8, [6, 0, 1, 2]),
@@ -137,6 +141,7 @@ fn one_field_for_the_header_right_before_it() {
     assert_eq!(reply, TRACK_0_GOOD);
 }
 
+/// A field needs its mark (§4.5) and a CRC that holds (§3.9).
 #[test]
 fn mark_and_every_bit_of_the_crc() {
     for mark in [0xF8, 0xFA, 0xFC, 0xFE, 0xA1, 0x00] {
@@ -162,6 +167,7 @@ fn every_cell_of_the_sync_bytes() {
     }
 }
 
+/// A field lies wholly within the side (§4.5).
 #[test]
 fn end_of_the_stream_after_a_field() {
     // Sector 9 is the last; its field's CRC ends with the stream, or some

@@ -23,6 +23,7 @@ fn changed(r: usize, change: impl Fn(&mut Sector)) -> Vec<Sector> {
     sectors
 }
 
+/// A header may begin at any cell place (§3.7 §4.3).
 #[test]
 fn at_any_cell_place() {
     for shift in 0..=33 {
@@ -66,6 +67,7 @@ fn sync_bytes_before_it() {
     }
 }
 
+/// Each cell of a run counts, clock cells included (§3.7).
 #[test]
 fn every_cell_of_the_sync_bytes() {
     let sectors = good_sectors(0, 0, 100);
@@ -78,6 +80,8 @@ fn every_cell_of_the_sync_bytes() {
     }
 }
 
+/// A header has its mark (§4.1), and belongs to the sector that it names
+/// (§4.2).
 #[test]
 fn mark_and_numbers() {
     let wrong: [fn(&mut Sector); 9] = [
@@ -96,6 +100,7 @@ fn mark_and_numbers() {
     }
 }
 
+/// A CRC holds only if all its bits are right (§3.9).
 #[test]
 fn every_bit_of_the_crc() {
     for bit in 0..16 {
@@ -104,6 +109,7 @@ fn every_bit_of_the_crc() {
     }
 }
 
+/// A header belongs to the sector that it names (§4.2).
 #[test]
 fn header_of_another_sector_is_one_too_many_there() {
     for (own, other) in [(5, 2), (2, 5)] {
@@ -123,6 +129,7 @@ fn with_before_4(items: &[Item]) -> Vec<Sector> {
     })
 }
 
+/// Two headers that belong to one sector (§4.2 §7.5).
 #[test]
 fn two_headers() {
     for r in 1..=9 {
@@ -153,6 +160,7 @@ fn three_headers_of_one_sector_and_two_of_a_higher() {
     assert_eq!(judged(&with_before_4(&items)), [5, 0, 0, 3]);
 }
 
+/// Places inside data fields are tried too (§4.3).
 #[test]
 fn header_inside_data() {
     let mut data = plain(&[0x11; 512]);
@@ -165,6 +173,7 @@ fn header_inside_data() {
     assert_eq!(judged(&sectors), TRACK_0_GOOD);
 }
 
+/// Nothing is completed from the side's beginning (§3.2).
 #[test]
 fn end_of_the_stream_after_a_header() {
     // Only sector 1 stands there, from such a cell that its header ends

@@ -18,6 +18,7 @@ fn wrong(offset: usize) -> [usize; 4] {
     [2, offset, 0, 0]
 }
 
+/// Letters and revision (§2.2), and the other fields (§2.3).
 #[test]
 fn every_byte_alone() {
     for offset in 0..28 {
@@ -44,6 +45,7 @@ fn every_byte_alone() {
     }
 }
 
+/// No further byte of the header is judged (§2.3).
 #[test]
 fn bytes_that_are_not_judged() {
     for offset in (26..512).step_by(7) {
@@ -52,6 +54,7 @@ fn bytes_that_are_not_judged() {
     }
 }
 
+/// Flags, and the encoding after each (§2.3).
 #[test]
 fn switches_with_the_byte_after_them() {
     for (switch, byte, expected) in [
@@ -72,6 +75,7 @@ fn switches_with_the_byte_after_them() {
     assert_eq!(judged(&[(22, 0), (23, 0), (24, 0)]), wrong(25));
 }
 
+/// 2 names the lowest wrong field (§7.2).
 #[test]
 fn lowest_wrong_field_is_named() {
     let faults = [

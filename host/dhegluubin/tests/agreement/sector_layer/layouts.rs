@@ -32,6 +32,7 @@ fn image() -> Vec<u8> {
     hfe
 }
 
+/// Unpacked, sectors are ordered by track, side and R (§1.2 §8.1).
 #[test]
 fn read_as_any_other() {
     assert_unpacks(&image(), disk());

@@ -4,6 +4,7 @@ use super::build::{disk, packed, set_entry};
 use super::shared::spoil::spoil;
 use dhegluubin::{pack, place, unpack, Lent, Refusal, IMAGE_LEN};
 
+/// Each wrong length with its place (§7.1).
 #[test]
 fn wrong_lengths() {
     let hfe_wrong = Err(Refusal::Length { lent: Lent::Hfe });
@@ -64,6 +65,7 @@ fn wrong_header_and_table() {
     assert_eq!(refusal(&hfe), Refusal::HfeHeader { offset: 10 });
 }
 
+/// Blocks and sectors out of range (§7.12).
 #[test]
 fn placements() {
     assert_eq!(place(6, 2), Ok(20));

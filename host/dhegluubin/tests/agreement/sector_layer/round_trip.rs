@@ -15,6 +15,9 @@ fn there_and_back(image: &[u8]) {
     assert_unpacks(&packed, image);
 }
 
+/// All bytes of written images: cells (§3.1 §3.3 §3.4), CRC (§3.8), sectors,
+/// sides and image (§5.1 §5.2 §5.3 §5.4 §5.5). Unpacked they give the same
+/// block image (§8.2).
 #[test]
 fn random_images() {
     for seed in 0..cases(4) {
@@ -31,6 +34,7 @@ fn images_of_one_byte() {
     }
 }
 
+/// A mark has a clock cell left out, an equal byte of data has not (§3.5).
 #[test]
 fn images_of_marks() {
     // Data bytes A1 have all their clocks and are no sync bytes.

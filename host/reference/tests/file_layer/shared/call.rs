@@ -1,7 +1,7 @@
-//! Calls of a history: on an image, and in the book.
+//! Calls of a history: on an image, and in the model.
 
 use super::answer::{self, Parts};
-use reference::book::Book;
+use reference::model::Model;
 use reference::Reply;
 use support::hex::from_hex;
 use support::json::Value;
@@ -70,13 +70,13 @@ impl Call {
         }
     }
 
-    /// The book's answer.
-    pub fn in_book(&self, book: &mut Book) -> Answer {
+    /// The model's answer.
+    pub fn in_model(&self, model: &mut Model) -> Answer {
         match self {
-            Call::Add { name, date, data } => (book.add(name, *date, data).parts(), None),
-            Call::Remove { name } => (book.remove(name).parts(), None),
-            Call::Read { name, buffer } => lent(buffer, |out| book.read(name, out)),
-            Call::List { buffer } => lent(buffer, |out| book.list(out)),
+            Call::Add { name, date, data } => (model.add(name, *date, data).parts(), None),
+            Call::Remove { name } => (model.remove(name).parts(), None),
+            Call::Read { name, buffer } => lent(buffer, |out| model.read(name, out)),
+            Call::List { buffer } => lent(buffer, |out| model.list(out)),
         }
     }
 }
@@ -85,7 +85,7 @@ fn filled((reply, buffer): (Parts, Vec<u8>)) -> Answer {
     (reply, Some(buffer))
 }
 
-/// The book's answer in a copy of the buffer.
+/// The model's answer in a copy of the buffer.
 fn lent(buffer: &[u8], call: impl FnOnce(&mut [u8]) -> Reply) -> Answer {
     let mut out = buffer.to_vec();
     let reply = call(&mut out).parts();

@@ -5,6 +5,7 @@ use super::answer::{add, check, list, read, remove};
 use super::build::{fresh, set_word, three_files};
 use reference::geometry::IMAGE_LEN;
 
+/// A block image has 737,280 bytes (§7.1).
 #[test]
 fn image_of_a_wrong_length() {
     let image = [three_files(), vec![0; IMAGE_LEN]].concat();
@@ -15,6 +16,7 @@ fn image_of_a_wrong_length() {
     }
 }
 
+/// 1 and 8 to 11 are judged first (§8.5).
 #[test]
 fn image_is_judged_before_the_name() {
     let mut image = three_files();
@@ -29,6 +31,7 @@ fn image_is_judged_before_the_name() {
     }
 }
 
+/// A file's name has 1 to 36 bytes (§6.15), and else is refused (§7.12).
 #[test]
 fn file_names_have_1_to_36_bytes() {
     let mut image = fresh();
@@ -69,6 +72,8 @@ fn names_of_any_bytes() {
     assert_eq!(remove(&mut image, &[0, 0]), [0; 4]);
 }
 
+/// 13 names the slot (§7.13), and refusals come in the order of their numbers
+/// (§7.18 §8.5).
 #[test]
 fn own_tests_come_in_order() {
     let mut image = three_files();
@@ -84,6 +89,8 @@ fn own_tests_come_in_order() {
     assert_eq!(image, three_files());
 }
 
+/// Equal names have the same length and bytes (§6.14); a name that no slot has
+/// is refused (§7.14).
 #[test]
 fn names_differ_by_case_and_length() {
     let mut image = three_files();
@@ -94,6 +101,8 @@ fn names_differ_by_case_and_length() {
     assert_eq!(add(&mut image, b"f1\0", 0, &[]), [13, 6, 0, 0]);
 }
 
+/// 16 says the bytes needed (§7.16); the bytes after a result are left as they
+/// were (§8.8).
 #[test]
 fn read_into_buffers_of_all_kinds() {
     let image = three_files();
@@ -116,6 +125,7 @@ fn read_into_buffers_of_all_kinds() {
     assert_eq!(read(&image, b"f1", &[7; 3]), ([0; 4], vec![7; 3]));
 }
 
+/// Done, the first place is the number of bytes (§7.17).
 #[test]
 fn list_into_buffers_of_all_kinds() {
     let image = three_files();

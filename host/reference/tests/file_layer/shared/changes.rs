@@ -9,6 +9,7 @@ fn add_file(image: &mut [u8], name: &[u8], data: &[u8]) {
     assert_eq!(add(image, name, 0x0102_0304, data), [0; 4]);
 }
 
+/// An entry as written (§6.13), and a file (§6.16).
 #[test]
 fn add_writes_entry_file_and_header() {
     let mut image = fresh();
@@ -29,6 +30,7 @@ fn add_writes_entry_file_and_header() {
     );
 }
 
+/// A remove leaves zeros, and the directory keeps its length (§8.13).
 #[test]
 fn remove_undoes_add_but_for_counts() {
     let mut image = fresh();
@@ -40,6 +42,7 @@ fn remove_undoes_add_but_for_counts() {
     assert!(image == expected);
 }
 
+/// Which slot (§8.9) and which blocks (§8.11) an add takes.
 #[test]
 fn lowest_vacant_slot_and_lowest_free_blocks() {
     let mut image = three_files();
@@ -56,6 +59,7 @@ fn lowest_vacant_slot_and_lowest_free_blocks() {
     assert_eq!((reply, out), ([0, 4000, 0, 0], vec![8; 4000]));
 }
 
+/// A list is in the order of the slots (§8.6).
 #[test]
 fn list_is_in_slot_order() {
     let mut image = three_files();
@@ -67,6 +71,7 @@ fn list_is_in_slot_order() {
     assert_eq!(names, b"zff");
 }
 
+/// The directory takes the lowest free block, before the file does (§8.10).
 #[test]
 fn directory_block_is_taken_before_the_files_blocks() {
     let mut image = fresh();

@@ -16,6 +16,7 @@ fn with(change: impl Fn(&mut Vec<u8>)) -> [usize; 4] {
     all_calls(&image, b"f3")
 }
 
+/// The sequences of a file are each there once (§7.20).
 #[test]
 fn sequences_of_a_file() {
     let wrong: [Change; 6] = [
@@ -38,6 +39,7 @@ fn sequences_of_a_file() {
     }
 }
 
+/// Nothing follows from the order of a file's blocks (§6.10).
 #[test]
 fn order_of_blocks_does_not_matter() {
     let reply = with(|image| {
@@ -48,6 +50,7 @@ fn order_of_blocks_does_not_matter() {
     assert_eq!(reply, [0; 4]);
 }
 
+/// A file has the blocks of its length (§6.17 §7.20).
 #[test]
 fn length_and_blocks() {
     for (len, expected) in [
@@ -73,6 +76,7 @@ fn length_and_blocks() {
     }
 }
 
+/// One byte that is not zero makes a slot held (§6.12).
 #[test]
 fn slot_that_is_not_all_zero_is_held() {
     for place in 0..64 {
@@ -84,6 +88,7 @@ fn slot_that_is_not_all_zero_is_held() {
     }
 }
 
+/// The length of a name is 1 to 36 (§7.21).
 #[test]
 fn name_lengths() {
     for (name_len, expected) in [
@@ -101,6 +106,7 @@ fn name_lengths() {
     }
 }
 
+/// Of two equal names the higher slot is at fault (§7.21).
 #[test]
 fn higher_slot_of_two_equal_names_is_at_fault() {
     for (slot, byte, expected) in [
@@ -113,6 +119,7 @@ fn higher_slot_of_two_equal_names_is_at_fault() {
     }
 }
 
+/// Equal names have the same length and bytes (§6.14).
 #[test]
 fn names_are_compared_by_length_and_bytes() {
     // `f2` becomes `f` and `F3`; bytes after the name do not matter.
@@ -139,6 +146,7 @@ fn names_are_compared_by_length_and_bytes() {
     }
 }
 
+/// No record bears the number of a slot that is not held (§7.22).
 #[test]
 fn records_of_vacant_slots_and_past_the_end() {
     for file in [4, 5, 23, 24, 100, 479, 480, 0xF7F] {
@@ -152,6 +160,7 @@ fn records_of_vacant_slots_and_past_the_end() {
     assert_eq!(reply, [10, 2, 0, 0]);
 }
 
+/// The directory has the blocks of its length (§7.20).
 #[test]
 fn sequences_of_the_directory() {
     let wrong: [Change; 5] = [
@@ -166,6 +175,7 @@ fn sequences_of_the_directory() {
     }
 }
 
+/// 10 names the lowest file number (§7.10).
 #[test]
 fn lowest_file_number_over_all_conditions() {
     let mut image = three_files();
@@ -184,6 +194,7 @@ fn lowest_file_number_over_all_conditions() {
     }
 }
 
+/// No record bears 3,968 or more (§7.22).
 #[test]
 fn slots_that_no_record_can_bear() {
     let image = long_directory(479);

@@ -1,14 +1,14 @@
-//! A disk and its book, which get the same calls.
+//! A disk and its model, which get the same calls.
 
 use super::answer::{add, check, format, remove, Parts};
 use super::build::word;
-use reference::book::Book;
 use reference::geometry::IMAGE_LEN;
+use reference::model::Model;
 use support::noise::noise;
 
 pub struct Disk {
     pub image: Vec<u8>,
-    pub book: Book,
+    pub model: Model,
 }
 
 impl Disk {
@@ -20,28 +20,28 @@ impl Disk {
     pub fn formatted(name: &[u8], number: u16, seed: u32) -> Disk {
         let mut image = noise(seed, IMAGE_LEN);
         assert_eq!(format(&mut image, name, number), [0; 4]);
-        let book = Book::format(name, number).unwrap();
-        let disk = Disk { image, book };
-        disk.assert_is_the_books();
+        let model = Model::format(name, number).unwrap();
+        let disk = Disk { image, model };
+        disk.assert_is_the_models();
         disk
     }
 
     pub fn add(&mut self, name: &[u8], data: &[u8]) -> Parts {
         let reply = add(&mut self.image, name, 5, data);
-        assert_eq!(reply, self.book.add(name, 5, data).parts());
+        assert_eq!(reply, self.model.add(name, 5, data).parts());
         reply
     }
 
     pub fn remove(&mut self, name: &[u8]) -> Parts {
         let reply = remove(&mut self.image, name);
-        assert_eq!(reply, self.book.remove(name).parts());
+        assert_eq!(reply, self.model.remove(name).parts());
         reply
     }
 
-    /// The free word, which the book shares.
+    /// The free word, which the model shares.
     pub fn free(&self) -> usize {
         let free = word(&self.image, 20);
-        assert_eq!(free, self.book.free_word());
+        assert_eq!(free, self.model.free_word());
         free
     }
 
@@ -50,8 +50,8 @@ impl Disk {
         24 * word(&self.image, 34) + word(&self.image, 36) / 64
     }
 
-    pub fn assert_is_the_books(&self) {
-        assert!(self.image == self.book.image(), "another image");
+    pub fn assert_is_the_models(&self) {
+        assert!(self.image == self.model.image(), "another image");
         assert_eq!(check(&self.image), [0; 4]);
     }
 }

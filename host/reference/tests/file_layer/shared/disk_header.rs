@@ -15,6 +15,8 @@ fn judged(image: &[u8]) -> [usize; 4] {
     checked
 }
 
+/// Letters (§6.1), sizes (§6.5), track offset and tables (§6.7) are judged, and
+/// names and counts are not (§6.2 §6.3).
 #[test]
 fn every_byte_alone() {
     let image = fresh();
@@ -40,6 +42,7 @@ fn every_byte_alone() {
     }
 }
 
+/// Which lengths a directory can have (§6.6).
 #[test]
 fn directory_lengths() {
     for (blocks, over, expected) in [
@@ -74,6 +77,7 @@ fn directory_lengths() {
     }
 }
 
+/// 8 names the lowest wrong field (§7.8), the tables last (§6.7).
 #[test]
 fn lowest_wrong_field_is_named_by_all_calls() {
     let mut image = three_files();
@@ -85,6 +89,7 @@ fn lowest_wrong_field_is_named_by_all_calls() {
     }
 }
 
+/// The lowest number is given (§7.18).
 #[test]
 fn header_goes_before_map_directory_and_free_word() {
     let mut image = three_files();

@@ -9,6 +9,7 @@ fn judged(image: &[u8]) -> ([usize; 4], [usize; 3]) {
     first_track(&image[..TRACK_LEN])
 }
 
+/// Free word, good sectors, and records that are not free (§8.14).
 #[test]
 fn counts() {
     assert_eq!(judged(&fresh()), ([0; 4], [1434, 1440, 2]));
@@ -34,6 +35,7 @@ fn refusals_in_order() {
     assert_eq!(judged(&image), ([8, 34, 0, 0], [0; 3]));
 }
 
+/// 10 is not judged (§8.14).
 #[test]
 fn directory_is_not_judged() {
     let mut image = three_files();
@@ -42,6 +44,7 @@ fn directory_is_not_judged() {
     assert_eq!(judged(&image), ([0; 4], [1413, 1440, 9]));
 }
 
+/// Block 0 is enough (§8.14).
 #[test]
 fn only_block_0_of_the_track_matters() {
     let mut image = fresh();

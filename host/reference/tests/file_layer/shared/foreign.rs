@@ -9,6 +9,7 @@ use super::build::{
 };
 use support::noise::noise;
 
+/// A list has the 64 bytes unchanged (§8.6).
 #[test]
 fn list_copies_slots_as_they_stand() {
     let mut image = three_files();
@@ -22,6 +23,7 @@ fn list_copies_slots_as_they_stand() {
     assert_eq!(out[64..128], slot);
 }
 
+/// A read begins at byte 64 of the file (§8.7 §6.16).
 #[test]
 fn files_first_bytes_need_not_repeat_the_entry() {
     let mut image = three_files();
@@ -31,6 +33,7 @@ fn files_first_bytes_need_not_repeat_the_entry() {
     assert_eq!(out, [b'2'; 1500]);
 }
 
+/// Slot 0 is not judged, listed, found or taken (§6.12).
 #[test]
 fn slot_0_is_nobodys() {
     let mut image = three_files();
@@ -43,6 +46,7 @@ fn slot_0_is_nobodys() {
     assert_eq!(peek(&image, 1, 0, 64), entry(64, 2, b"me"));
 }
 
+/// Bytes past the directory's end may be anything (§7.23).
 #[test]
 fn bytes_past_the_directorys_end_are_not_read() {
     let mut image = three_files();
@@ -54,6 +58,7 @@ fn bytes_past_the_directorys_end_are_not_read() {
     assert_eq!(peek(&image, 1, 5 * 64, 64), [0x66; 64]);
 }
 
+/// Unused and free bytes may be anything (§7.23).
 #[test]
 fn bytes_that_are_not_judged() {
     for seed in 0..4 {
@@ -70,6 +75,7 @@ fn bytes_that_are_not_judged() {
     }
 }
 
+/// A file's blocks are in the order of their sequences (§6.10).
 #[test]
 fn blocks_are_followed_by_sequence() {
     let image = scattered();
@@ -81,6 +87,7 @@ fn blocks_are_followed_by_sequence() {
     assert_eq!(out, [[1; 1472].as_slice(), &[2; 1528]].concat());
 }
 
+/// A remove changes no other byte (§8.13).
 #[test]
 fn remove_changes_only_what_it_must() {
     let mut image = scattered();
@@ -97,6 +104,7 @@ fn remove_changes_only_what_it_must() {
     assert!(image == expected);
 }
 
+/// An add changes no other byte (§8.12).
 #[test]
 fn add_changes_only_what_it_must() {
     let mut image = scattered();
@@ -135,6 +143,7 @@ fn calls_on_a_scattered_disk() {
     assert_eq!(check(&image), [0; 4]);
 }
 
+/// A new block of the directory is zero but for the slot (§8.10).
 #[test]
 fn new_directory_block_is_zero_but_for_its_slot() {
     // A directory of one whole block, all of whose slots are held.
@@ -159,6 +168,7 @@ fn new_directory_block_is_zero_but_for_its_slot() {
     assert_eq!((word(&image, 34), word(&image, 36)), (1, 64));
 }
 
+/// 0 follows the highest update count (§6.3).
 #[test]
 fn update_count_wraps() {
     for (before, after) in [

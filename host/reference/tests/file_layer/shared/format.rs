@@ -2,8 +2,8 @@
 
 use super::answer::{check, format};
 use super::build::peek;
-use reference::book::Book;
 use reference::geometry::IMAGE_LEN;
+use reference::model::Model;
 use support::noise::noise;
 
 /// A disk that is formatted over old bytes.
@@ -13,6 +13,8 @@ fn formatted(name: &[u8], number: u16) -> Vec<u8> {
     image
 }
 
+/// All bytes of the header (§6.1 §6.2 §6.5 §6.7), with the tables of side and
+/// place (§1.4) and backward (§1.6).
 #[test]
 fn header_byte_by_byte() {
     let image = formatted(b"AMIS", 0x1234);
@@ -30,6 +32,7 @@ fn header_byte_by_byte() {
     assert_eq!(image[..96], header);
 }
 
+/// The map of a fresh disk, and zero in all other bytes (§8.4).
 #[test]
 fn map_and_zero_bytes() {
     let image = formatted(b"DISK", 0);
@@ -43,6 +46,7 @@ fn map_and_zero_bytes() {
     }
 }
 
+/// A disk's name has 0 to 10 bytes (§6.15 §7.12), filled with spaces (§6.2).
 #[test]
 fn names_of_up_to_ten_bytes() {
     for len in 0..=12 {
@@ -57,12 +61,13 @@ fn names_of_up_to_ten_bytes() {
         let mut field = name.to_vec();
         field.resize(10, b' ');
         assert_eq!(image[4..14], field);
-        let book = Book::format(name, 300 * len as u16).unwrap();
-        assert!(image == book.image());
+        let model = Model::format(name, 300 * len as u16).unwrap();
+        assert!(image == model.image());
         assert_eq!(check(&image), [0; 4]);
     }
 }
 
+/// The number of the disk (§6.2).
 #[test]
 fn numbers() {
     for number in [0, 1, 0xFF, 0x100, 0x1234, 0xFFFF] {
@@ -74,6 +79,7 @@ fn numbers() {
     }
 }
 
+/// A refusal changes no byte (§7.19).
 #[test]
 fn refusals_change_nothing() {
     for (image_len, name_len, expected) in [

@@ -2,8 +2,8 @@
 
 use super::answer::format;
 use super::call::{Answer, Call};
-use reference::book::Book;
 use reference::geometry::IMAGE_LEN;
+use reference::model::Model;
 use support::cases::{expected_reply, Outside};
 use support::hex::from_hex;
 use support::json::Value;
@@ -45,31 +45,34 @@ fn run_on_image(case: &Value) {
     assert_eq!(sha256_hex(&image), case.get("image").text());
 }
 
-/// The book begins only where the format is accepted.
-fn run_in_book(case: &Value) {
+/// The model begins only where the format is accepted.
+fn run_in_model(case: &Value) {
     let (name, number) = format_arguments(case);
     let expected = expected_reply(case.get("format"));
-    let Some(mut book) = Book::format(&name, number) else {
+    let Some(mut model) = Model::format(&name, number) else {
         assert_eq!(expected, [12, 0, 0, 0]);
         assert_eq!(case.get("calls").list(), []);
         return;
     };
     assert_eq!(expected, [0; 4]);
-    compare(case, |call| call.in_book(&mut book));
-    assert_eq!(sha256_hex(&book.image()), case.get("image").text());
+    compare(case, |call| call.in_model(&mut model));
+    assert_eq!(sha256_hex(&model.image()), case.get("image").text());
 }
 
+/// A format of an image with any bytes, then calls, accepted or refused (§9.1).
 #[test]
 fn even_cases() {
     CASES.run(0, 2, run_on_image);
 }
 
+/// The same for the other half (§9.1).
 #[test]
 fn odd_cases() {
     CASES.run(1, 2, run_on_image);
 }
 
+/// The model gives the same from the arguments alone (§9.2).
 #[test]
-fn in_the_book() {
-    CASES.run(0, 1, run_in_book);
+fn in_the_model() {
+    CASES.run(0, 1, run_in_model);
 }

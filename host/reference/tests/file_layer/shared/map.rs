@@ -21,6 +21,7 @@ const NONE: [[u8; 3]; 12] = [
     [0xFF, 0xFF, 0xFF],
 ];
 
+/// Records of no kind are refused (§6.9 §7.9).
 #[test]
 fn records_of_no_kind() {
     for bytes in NONE {
@@ -33,6 +34,7 @@ fn records_of_no_kind() {
     }
 }
 
+/// Block 0 has the system's record and no other block has it (§7.9).
 #[test]
 fn block_0_is_system_and_no_other() {
     for wrong in [[0xFD, 0xFF, 0xFF], [0, 0, 0], [0, 0, 1], [0xF7, 0xFF, 0xFF]] {
@@ -48,6 +50,7 @@ fn block_0_is_system_and_no_other() {
     }
 }
 
+/// 9 names the lowest block (§7.9).
 #[test]
 fn lowest_block_is_named() {
     let mut image = three_files();
@@ -59,6 +62,7 @@ fn lowest_block_is_named() {
     }
 }
 
+/// Kinds of record by their bytes (§6.8 §6.9).
 #[test]
 fn every_first_byte() {
     for first in 0..=255u8 {
@@ -74,6 +78,7 @@ fn every_first_byte() {
     }
 }
 
+/// The free word is 3 x the free records (§6.4), and else refused (§7.11).
 #[test]
 fn free_words() {
     for word in [

@@ -1,10 +1,10 @@
-//! Random histories: the calls on an image, the book, and demand 3's own
-//! count.
+//! Random histories: the calls on an image, the model, and the free word by
+//! the files present (§9.7).
 
 use super::answer::cases;
 use super::call::Call;
 use super::disk::Disk;
-use reference::book::Book;
+use reference::model::Model;
 use std::collections::{BTreeMap, BTreeSet};
 use support::noise::{noise, Generator};
 
@@ -138,9 +138,9 @@ impl Present {
         3 * (479 - (1 + self.most / 24) - blocks.sum::<usize>())
     }
 
-    fn assert_same_files(&self, book: &Book) {
-        assert_eq!(book.files().count(), self.files.len());
-        for (_, file) in book.files() {
+    fn assert_same_files(&self, model: &Model) {
+        assert_eq!(model.files().count(), self.files.len());
+        for (_, file) in model.files() {
             let (date, data) = &self.files[&file.name];
             assert!(file.date == *date && file.data == *data);
         }
@@ -181,18 +181,18 @@ impl Shown {
         for index in 0..kind.calls {
             let call = kind.call(&mut generator);
             let answer = call.on_image(&mut disk.image);
-            assert!(answer == call.in_book(&mut disk.book), "call {index}");
+            assert!(answer == call.in_model(&mut disk.model), "call {index}");
             self.numbers.insert(answer.0[0]);
             if answer.0[0] == 0 {
                 present.accept(&call);
             }
             assert_eq!(disk.free(), present.free_word());
             if index % 16 == 0 {
-                disk.assert_is_the_books();
+                disk.assert_is_the_models();
             }
         }
-        disk.assert_is_the_books();
-        present.assert_same_files(&disk.book);
+        disk.assert_is_the_models();
+        present.assert_same_files(&disk.model);
         self.slots = self.slots.max(disk.slots());
         self.again = self.again.max(present.added - (disk.slots() - 1));
     }
@@ -211,16 +211,20 @@ impl Shown {
     }
 }
 
+/// The model answers lists and reads (§9.2 §9.3), adds and removes (§9.4) as
+/// the calls do.
 #[test]
 fn few_files() {
     Shown::of(&FEW, 6, 0).assert(&[0, 12, 13, 14, 16], 1, 5);
 }
 
+/// Adds are refused with 15 where the free word says so (§9.7).
 #[test]
 fn long_files() {
     Shown::of(&LONG, 4, 1).assert(&[0, 12, 13, 14, 15, 16], 1, 5);
 }
 
+/// Each file present has its entry and data (§9.6).
 #[test]
 fn growing_directory() {
     Shown::of(&GROWING, 3, 2).assert(&[0, 12, 13, 14, 16], 3, 5);

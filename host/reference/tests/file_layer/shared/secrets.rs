@@ -2,8 +2,8 @@
 
 use super::answer::{add, format, remove};
 use super::build::{fresh, patch, record_of, FREE};
-use reference::book::Book;
 use reference::geometry::IMAGE_LEN;
+use reference::model::Model;
 
 /// A byte that stands nowhere on a disk without files.
 const SECRET: u8 = 0xEE;
@@ -22,6 +22,7 @@ fn hide_secrets(image: &mut [u8]) {
     patch(image, 1, 64 * 8, &[SECRET; 1536 - 64 * 8]);
 }
 
+/// A format leaves no old byte (§8.4).
 #[test]
 fn none_after_format() {
     assert_eq!(secrets(&fresh()), 0);
@@ -39,9 +40,10 @@ fn none_after_format() {
     assert!(secrets(&image) > IMAGE_LEN - 5000);
     assert_eq!(format(&mut image, b"NEXT", 2), [0; 4]);
     assert_eq!(secrets(&image), 0);
-    assert!(image == Book::format(b"NEXT", 2).unwrap().image());
+    assert!(image == Model::format(b"NEXT", 2).unwrap().image());
 }
 
+/// A byte that belongs to no file present is zero (§9.8).
 #[test]
 fn none_after_remove() {
     let mut image = fresh();
@@ -63,6 +65,7 @@ fn none_after_remove() {
     assert_eq!(secrets(&image), 0);
 }
 
+/// The same beside files that stay (§9.8).
 #[test]
 fn none_after_remove_beside_other_files() {
     let mut image = fresh();

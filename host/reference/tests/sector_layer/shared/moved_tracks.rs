@@ -8,6 +8,7 @@ use super::build::{
 use support::cases::cases;
 use support::noise::{noise, Generator};
 
+/// The table begins at a unit of 512 bytes (§2.1).
 #[test]
 fn table_at_another_unit() {
     let mut hfe = packed();
@@ -31,7 +32,7 @@ fn tracks_in_backward_order() {
     assert_unpacks(&hfe, disk());
 }
 
-/// Tracks 20 and 21 one behind the other, and the unit where they begin.
+/// Tracks 20 and 21 one after the other, and the unit where they begin.
 fn two_in_a_row(hfe: &mut Vec<u8>) -> usize {
     let [lower, upper] = [sides(hfe, 20), sides(hfe, 21)];
     let both = [0, 1].map(|side| [&lower[side][..], &upper[side][..]].concat());
@@ -52,6 +53,7 @@ fn two_tracks_in_the_same_units_and_in_part() {
     assert_unpacks(&hfe, disk());
 }
 
+/// Tracks may lie over the header (§2.5).
 #[test]
 fn track_over_the_header() {
     // Track 0 begins at unit 0: the header is read as its first cells.
@@ -65,6 +67,7 @@ fn track_over_the_header() {
     assert_unpacks(&hfe, disk());
 }
 
+/// Tracks may lie over the table (§2.5).
 #[test]
 fn track_over_the_table() {
     let mut hfe = packed();
@@ -72,6 +75,7 @@ fn track_over_the_table() {
     assert_unpacks(&hfe, disk());
 }
 
+/// A header of another track or side belongs to no sector (§4.2).
 #[test]
 fn another_track_or_side_is_not_taken() {
     let mut hfe = packed();
@@ -82,6 +86,7 @@ fn another_track_or_side_is_not_taken() {
     assert_eq!(unpack(&hfe), [4, 2, 0, 1]);
 }
 
+/// A side has half of its track's length (§2.6).
 #[test]
 fn other_track_lengths() {
     // The last CRC of a written side ends 182 + 84 bytes before its end.

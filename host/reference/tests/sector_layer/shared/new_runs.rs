@@ -19,8 +19,8 @@ const SYNC_DATA: [u8; 3] = [0xA1; 3];
 /// The first bytes, which are free and make the field's CRC hold.
 const FREE: usize = 2;
 
-/// Data of the first sector that spell a data field after `before`, behind
-/// the free bytes.
+/// Data of the first sector that have the bytes of a data field after the free
+/// bytes and `before`.
 fn data_with_field(before: &[u8]) -> Vec<u8> {
     let mut data = [&[0; FREE][..], before, &SYNC_DATA, &[0xFB]].concat();
     data.resize(LEN, b'x');
@@ -60,6 +60,7 @@ fn invert_clock(hfe: &mut [u8], r: usize, index: usize) {
     hfe[cell_byte(0, 0, place / 8)] ^= 1 << (place % 8);
 }
 
+/// A new run is what damage must not bring (§10.4).
 #[test]
 fn four_clock_cells_make_a_field_of_data() {
     let data = data_with_field(&[]);

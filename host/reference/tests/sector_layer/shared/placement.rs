@@ -1,7 +1,9 @@
-//! Document 01's placements, and numbers that are out of range.
+//! The placements of §1.5, and numbers that are out of range.
 
 use super::answer::place;
 
+/// The call place (§8.3): the table of values (§1.5), by block and sector
+/// (§1.3).
 #[test]
 fn stated_placements() {
     for (block, sector, expected) in [
@@ -21,6 +23,7 @@ fn stated_placements() {
     }
 }
 
+/// 480 blocks of 3 sectors (§1.1), and no other (§7.12).
 #[test]
 fn all_blocks_and_sectors_and_some_beyond() {
     for block in 0..600 {

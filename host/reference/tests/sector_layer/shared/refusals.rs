@@ -4,6 +4,7 @@ use super::answer::{assert_refused, unpack};
 use super::build::{invert, packed, set_entry};
 use super::spoil::{spoil, AFTER};
 
+/// 4 to 7, each with track, side and R (§7.4 §7.5 §7.6 §7.7).
 #[test]
 fn track_side_and_sector_are_named() {
     for (track, side, sector) in [(0, 0, 1), (0, 1, 9), (2, 0, 5), (17, 0, 5)] {
@@ -38,6 +39,7 @@ fn every_sector_of_a_track() {
     }
 }
 
+/// The first bad sector decides, whatever its number (§7.18).
 #[test]
 fn first_bad_sector_decides_whatever_its_number() {
     let mut hfe = packed();
@@ -69,6 +71,7 @@ fn lowest_number_of_one_sector() {
     assert_eq!(unpack(&hfe), [4, 1, 0, 3]);
 }
 
+/// The lowest number is given (§7.18).
 #[test]
 fn header_before_table_before_sectors() {
     let mut hfe = packed();

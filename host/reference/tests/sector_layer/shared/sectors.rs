@@ -6,6 +6,7 @@ use super::spoil::{
     copy, AFTER, DATA, DATA_CRC, DATA_MARK, FIELD_SYNC, GAP, HEADER_CRC, HEADER_MARK, SYNC,
 };
 
+/// What a sector gives, by the byte that is wrong (§4.6).
 #[test]
 fn each_byte_has_its_refusal() {
     for (index, number) in [
@@ -39,6 +40,7 @@ fn bytes_between_do_not_count() {
     assert_unpacks(&hfe, disk());
 }
 
+/// Places inside data fields are tried too (§4.3).
 #[test]
 fn header_inside_a_data_field_counts() {
     let mut hfe = packed();
@@ -47,6 +49,7 @@ fn header_inside_a_data_field_counts() {
     assert_refused(&hfe, [5, 50, 0, 3]);
 }
 
+/// A header of another track belongs to no sector (§4.2).
 #[test]
 fn header_of_another_track_does_not_count() {
     let mut hfe = packed();
@@ -57,6 +60,7 @@ fn header_of_another_track_does_not_count() {
     assert_unpacks(&hfe, disk());
 }
 
+/// A field needs its mark (§4.5), and no later run is tried (§4.4).
 #[test]
 fn other_mark_at_the_first_sync_run() {
     // Sync bytes in the gap stand before the data field's own.

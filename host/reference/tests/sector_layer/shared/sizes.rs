@@ -11,13 +11,14 @@ const HFE_LENS: [usize; 8] = [0, 1, 26, 512, 1023, HFE_LEN - 1, HFE_LEN + 1, 2 *
 
 const IMAGE_LENS: [usize; 6] = [0, 1, 512, IMAGE_LEN - 1, IMAGE_LEN + 1, HFE_LEN];
 
-/// The HFE image cut, or with bytes behind it.
+/// The HFE image cut, or with bytes after it.
 fn hfe_of(len: usize) -> Vec<u8> {
     let mut hfe = packed();
     hfe.resize(len, 0x33);
     hfe
 }
 
+/// The HFE image is judged first (§7.1).
 #[test]
 fn unpack_judges_the_hfe_image_first() {
     for hfe_len in HFE_LENS.into_iter().filter(|&len| len < SHORTEST) {
@@ -29,6 +30,7 @@ fn unpack_judges_the_hfe_image_first() {
     }
 }
 
+/// A block image has 737,280 bytes (§7.1).
 #[test]
 fn unpack_takes_only_a_whole_block_image() {
     for hfe_len in [1024, 1025, HFE_LEN, HFE_LEN + 1] {
@@ -40,6 +42,7 @@ fn unpack_takes_only_a_whole_block_image() {
     }
 }
 
+/// An HFE image that is read has 1,024 bytes or more (§7.1).
 #[test]
 fn shortest_hfe_image() {
     assert_eq!(empty_tracks().len(), SHORTEST);
@@ -48,6 +51,7 @@ fn shortest_hfe_image() {
     assert_eq!(unpack_into(short, pattern()).0, [1, 1, 0, 0]);
 }
 
+/// The HFE image is judged first (§7.1).
 #[test]
 fn pack_judges_the_hfe_image_first() {
     for hfe_len in HFE_LENS {
@@ -58,6 +62,7 @@ fn pack_judges_the_hfe_image_first() {
     }
 }
 
+/// A block image has 737,280 bytes (§7.1).
 #[test]
 fn pack_takes_only_a_whole_block_image() {
     for image_len in IMAGE_LENS {

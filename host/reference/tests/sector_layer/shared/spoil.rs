@@ -25,7 +25,7 @@ pub fn spoil(hfe: &mut [u8], number: usize, track: usize, side: usize, sector: u
     match number {
         4 => invert(hfe, track, side, sector, HEADER_CRC),
         5 => {
-            // The ten bytes of the header again, behind the sector.
+            // The ten bytes of the header again, after the sector.
             let from = in_sector(sector, SYNC);
             let to = in_sector(sector, AFTER + 3);
             copy(hfe, track, side, from, to, 20);

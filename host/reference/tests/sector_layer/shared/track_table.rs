@@ -9,9 +9,10 @@ fn bad(track: usize) -> [usize; 4] {
     [3, track, 0, 0]
 }
 
+/// A length is even and at least 2 (§2.5).
 #[test]
 fn lengths() {
-    // One unit more, so that a length of 512 fits behind the table.
+    // One unit more, so that a length of 512 fits after the table.
     let mut hfe = empty_tracks();
     hfe.extend([0; 512]);
     for (len, expected) in [
@@ -29,6 +30,7 @@ fn lengths() {
     }
 }
 
+/// The last unit lies wholly within the image (§2.5).
 #[test]
 fn last_unit_is_wholly_within_the_image() {
     let mut hfe = empty_tracks();
@@ -62,6 +64,7 @@ fn offsets() {
     }
 }
 
+/// 3 names the lowest track (§7.3).
 #[test]
 fn lowest_track_is_named() {
     let mut hfe = empty_tracks();
@@ -71,6 +74,7 @@ fn lowest_track_is_named() {
     }
 }
 
+/// Entries 0 to 79 are used, whatever byte 9 says (§2.4).
 #[test]
 fn entries_from_80_on_are_not_judged() {
     for tracks in [80, 81, 255] {
@@ -90,6 +94,7 @@ fn table_beyond_the_image() {
     }
 }
 
+/// All four bytes of an entry lie within the image (§2.5).
 #[test]
 fn table_that_ends_with_the_image() {
     let mut hfe = empty_tracks();

@@ -108,6 +108,7 @@ fn every_data_cell(side: usize, r: usize) {
     }
 }
 
+/// A bit that is read otherwise than recorded is noticed (§10.1).
 #[test]
 fn every_data_cell_of_the_first_sector() {
     every_data_cell(0, 1);
@@ -135,6 +136,7 @@ fn burst(generator: &mut Generator) -> Vec<usize> {
     data_cells(&some_of(generator, first, 16, BITS))
 }
 
+/// Wrong bits among 16 neighbouring ones (§10.2).
 #[test]
 fn bursts_of_up_to_16_data_bits() {
     random_cells(91, 400, burst);
@@ -153,6 +155,7 @@ fn bursts_of_up_to_32_cells() {
     });
 }
 
+/// Three wrong bits at most (§10.2).
 #[test]
 fn one_two_and_three_bits_anywhere() {
     random_cells(93, 400, |generator| {
@@ -161,6 +164,7 @@ fn one_two_and_three_bits_anywhere() {
     });
 }
 
+/// An odd number of wrong bits (§10.2).
 #[test]
 fn odd_numbers_of_bits_anywhere() {
     random_cells(94, 100, |generator| {
@@ -169,6 +173,7 @@ fn odd_numbers_of_bits_anywhere() {
     });
 }
 
+/// A field with a wrong bit is refused, by its mark or its CRC (§10.3).
 #[test]
 fn sectors_all_over_the_disk() {
     let mut generator = Generator::new(95);
@@ -192,6 +197,7 @@ fn clock_cells_of_a_field_do_not_count() {
 /// term down.
 const PASSING: [usize; 4] = [0, 4, 11, 16];
 
+/// Four wrong bits among 17 can pass (§10.2).
 #[test]
 fn four_bits_among_seventeen_are_delivered() {
     // The first data bits, some in the midst, and the last ones with bits of
@@ -228,6 +234,8 @@ fn assert_refused_or_same(hfe: &[u8], track: usize, side: usize) {
     }
 }
 
+/// Refused, or the recorded bytes: one burst (§10.5), which is damage anywhere
+/// (§10.4).
 #[test]
 fn bursts_of_up_to_32_cells_anywhere_on_a_side() {
     let mut generator = Generator::new(97);

@@ -1,9 +1,9 @@
-//! The book: what a history of calls must give, told from the arguments of
+//! The model: what a history of calls must give, told from the arguments of
 //! format and calls alone. It never looks at an image.
 //!
-//! Rules: document 01, "The book of demand 3". It shares no decision with
-//! the calls on images, only the layout of header, entry and record, and
-//! the numbers and the placement of the disk.
+//! Rules: section 9 of `docs/RULES.md`. It shares no decision with the calls
+//! on images, only the layout of header, entry and record, and the numbers and
+//! the placement of the disk.
 
 mod blocks;
 mod image;
@@ -37,11 +37,11 @@ impl File {
 
 /// The state after a format and some calls.
 #[derive(Clone, Debug, PartialEq, Eq)]
-pub struct Book {
+pub struct Model {
     name: Vec<u8>,
     number: u16,
-    /// Line 1 first; an empty line is `None`.
-    lines: Vec<Option<File>>,
+    /// Slot 1 first; an empty slot is `None`.
+    slots: Vec<Option<File>>,
     directory_blocks: Vec<usize>,
     /// The greatest number of files present at once, P.
     most_present: usize,
@@ -64,26 +64,26 @@ fn hand_out(result: &[u8], buffer: &mut [u8]) -> Reply {
     }
 }
 
-impl Book {
-    /// The book of an accepted format, or nothing for a name over 10 bytes.
-    pub fn format(name: &[u8], number: u16) -> Option<Book> {
-        (name.len() <= 10).then(|| Book {
+impl Model {
+    /// The model of an accepted format, or nothing for a name over 10 bytes.
+    pub fn format(name: &[u8], number: u16) -> Option<Model> {
+        (name.len() <= 10).then(|| Model {
             name: name.to_vec(),
             number,
-            lines: Vec::new(),
+            slots: Vec::new(),
             directory_blocks: vec![1],
             most_present: 0,
             updates: 0,
         })
     }
 
-    /// The files present with their line numbers, in line order.
+    /// The files present with their slot numbers, in slot order.
     pub fn files(&self) -> impl Iterator<Item = (usize, &File)> {
-        let lines = self.lines.iter().enumerate();
-        lines.filter_map(|(index, line)| line.as_ref().map(|file| (index + 1, file)))
+        let slots = self.slots.iter().enumerate();
+        slots.filter_map(|(index, slot)| slot.as_ref().map(|file| (index + 1, file)))
     }
 
-    /// The free word by demand 3.
+    /// The free word (§9.7).
     pub fn free_word(&self) -> usize {
         let word = word(self.most_present, self.file_blocks());
         usize::try_from(word).expect("never below zero")
@@ -94,8 +94,8 @@ impl Book {
         if name.is_empty() || name.len() > 36 {
             return refused(12, 0);
         }
-        if let Some(line) = self.line_of(name) {
-            return refused(13, line);
+        if let Some(slot) = self.slot_of(name) {
+            return refused(13, slot);
         }
         let present = self.files().count() + 1;
         let most_present = self.most_present.max(present);
@@ -103,9 +103,9 @@ impl Book {
         if word(most_present, self.file_blocks() + count) < 0 {
             return refused(15, 0);
         }
-        let line = self.open_line();
+        let slot = self.open_slot();
         let blocks = self.lowest_free(count);
-        self.lines[line - 1] = Some(File {
+        self.slots[slot - 1] = Some(File {
             name: name.to_vec(),
             date,
             data: data.to_vec(),
@@ -119,8 +119,8 @@ impl Book {
     /// Removes a file.
     pub fn remove(&mut self, name: &[u8]) -> Reply {
         match self.line_to_use(name) {
-            Ok(line) => {
-                self.lines[line - 1] = None;
+            Ok(slot) => {
+                self.slots[slot - 1] = None;
                 self.updates = self.updates.wrapping_add(1);
                 Reply::DONE
             }
@@ -131,9 +131,9 @@ impl Book {
     /// Reads a file.
     pub fn read(&self, name: &[u8], buffer: &mut [u8]) -> Reply {
         match self.line_to_use(name) {
-            Ok(line) => {
-                let file = self.lines[line - 1].as_ref();
-                hand_out(&file.expect("a filled line").data, buffer)
+            Ok(slot) => {
+                let file = self.slots[slot - 1].as_ref();
+                hand_out(&file.expect("a filled slot").data, buffer)
             }
             Err(reply) => reply,
         }
@@ -145,12 +145,12 @@ impl Book {
         hand_out(&entries, buffer)
     }
 
-    /// The line of the file of this name.
-    fn line_of(&self, name: &[u8]) -> Option<usize> {
+    /// The slot of the file of this name.
+    fn slot_of(&self, name: &[u8]) -> Option<usize> {
         let mut files = self.files();
         files
             .find(|(_, file)| file.name == name)
-            .map(|(line, _)| line)
+            .map(|(slot, _)| slot)
     }
 
     /// The same for a read or remove, which answer 12 or 14 without it.
@@ -158,6 +158,6 @@ impl Book {
         if name.is_empty() || name.len() > 36 {
             return Err(refused(12, 0));
         }
-        self.line_of(name).ok_or(refused(14, 0))
+        self.slot_of(name).ok_or(refused(14, 0))
     }
 }

@@ -1,6 +1,6 @@
-//! How the book gives lines and blocks, and counts them.
+//! How the model gives slots and blocks, and counts them.
 
-use super::{Book, SLOTS_PER_BLOCK};
+use super::{Model, SLOTS_PER_BLOCK};
 use crate::geometry::{BLOCKS, BLOCK_LEN};
 use crate::layout::entry::SLOT_LEN;
 
@@ -9,13 +9,13 @@ pub fn blocks_for(data_len: usize) -> usize {
     (data_len + SLOT_LEN).div_ceil(BLOCK_LEN)
 }
 
-/// Demand 3's word: 3 x (479 - D - S), with D = 1 + P / 24.
+/// The free word: 3 x (479 - D - S), with D = 1 + P / 24 (§9.7).
 pub fn word(most_present: usize, file_blocks: usize) -> i64 {
     let directory_blocks = 1 + most_present / SLOTS_PER_BLOCK;
     3 * (479 - directory_blocks as i64 - file_blocks as i64)
 }
 
-impl Book {
+impl Model {
     /// The blocks of all files present, S.
     pub(super) fn file_blocks(&self) -> usize {
         self.files()
@@ -23,19 +23,19 @@ impl Book {
             .sum()
     }
 
-    /// The lowest empty line, else a new one; a new line whose slot begins a
+    /// The lowest empty slot, else a new one; a new slot that begins a
     /// block takes the lowest free block for the directory.
-    pub(super) fn open_line(&mut self) -> usize {
-        if let Some(index) = self.lines.iter().position(Option::is_none) {
+    pub(super) fn open_slot(&mut self) -> usize {
+        if let Some(index) = self.slots.iter().position(Option::is_none) {
             return index + 1;
         }
-        self.lines.push(None);
-        let line = self.lines.len();
-        if line.is_multiple_of(SLOTS_PER_BLOCK) {
+        self.slots.push(None);
+        let slot = self.slots.len();
+        if slot.is_multiple_of(SLOTS_PER_BLOCK) {
             let block = self.lowest_free(1);
             self.directory_blocks.extend(block);
         }
-        line
+        slot
     }
 
     /// The lowest blocks that are neither block 0, the directory's, nor a

@@ -1,13 +1,13 @@
-//! The image that the book stands for.
+//! The image that the model stands for.
 
-use super::{Book, SLOTS_PER_BLOCK};
+use super::{Model, SLOTS_PER_BLOCK};
 use crate::field::SECTOR_LEN;
 use crate::geometry::{running_at, BLOCKS, BLOCK_LEN, SECTORS};
 use crate::layout::entry::SLOT_LEN;
 use crate::layout::header::{Header, HEADER_LEN};
 use crate::layout::record::Record;
 
-impl Book {
+impl Model {
     /// The whole block image, sector by sector in image order.
     pub fn image(&self) -> Vec<u8> {
         let blocks = self.blocks();
@@ -26,9 +26,9 @@ impl Book {
         blocks[..HEADER_LEN].copy_from_slice(&self.header().bytes());
         let map: Vec<u8> = self.records().into_iter().flat_map(Record::bytes).collect();
         blocks[HEADER_LEN..BLOCK_LEN].copy_from_slice(&map);
-        for (line, file) in self.files() {
-            let block = self.directory_blocks[line / SLOTS_PER_BLOCK];
-            let start = BLOCK_LEN * block + SLOT_LEN * (line % SLOTS_PER_BLOCK);
+        for (slot, file) in self.files() {
+            let block = self.directory_blocks[slot / SLOTS_PER_BLOCK];
+            let start = BLOCK_LEN * block + SLOT_LEN * (slot % SLOTS_PER_BLOCK);
             blocks[start..start + SLOT_LEN].copy_from_slice(&file.entry());
 
             let bytes = [&file.entry(), &file.data[..]].concat();
@@ -40,14 +40,14 @@ impl Book {
         blocks
     }
 
-    /// The header; the directory has slot 0 and one slot for each line.
+    /// The header; the directory has slot 0 and these slots.
     fn header(&self) -> Header {
         Header {
             name: self.name.clone(),
             number: self.number,
             updates: self.updates,
             free: self.free_word(),
-            directory_len: SLOT_LEN * (1 + self.lines.len()),
+            directory_len: SLOT_LEN * (1 + self.slots.len()),
         }
     }
 
@@ -58,10 +58,10 @@ impl Book {
         for (sequence, &block) in self.directory_blocks.iter().enumerate() {
             records[block] = Record::File { file: 0, sequence };
         }
-        for (line, file) in self.files() {
+        for (slot, file) in self.files() {
             for (sequence, &block) in file.blocks.iter().enumerate() {
                 records[block] = Record::File {
-                    file: line,
+                    file: slot,
                     sequence,
                 };
             }
