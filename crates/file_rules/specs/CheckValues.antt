@@ -32,7 +32,7 @@ use Rattle.file_rules.specs.Written.{fixedByte, diskHeaderByte, diskWith
 
 -- ---- what is promised
 
--- of an image: the record of block b is at byte 96 + 3b
+-- what check says of an image of which one record is another, where the record of block b is at byte 96 + 3b (§7.9 §7.10)
 pub record Judged (image : List ℕ) : Type 0 where
   -- 9: the record of block 0 is of no kind, that of block 1 is the system's, and that of block 100 is of no kind
   pub first-record : check (set image 96 0xF9) ≡ reply 9 0 0 0
@@ -42,17 +42,18 @@ pub record Judged (image : List ℕ) : Type 0 where
   pub directory-part : check (set image 101 1) ≡ reply 10 0 0 0
   pub no-slot : check (set (set (set image 102 0x00) 103 0x50) 104 0x00) ≡ reply 10 5 0 0
 
--- so of every formatted disk
+-- check-values: so of every formatted disk (§7.9 §7.10)
 abbrev pub CheckValues : Type 0
 CheckValues = (old : List ℕ) (args : FormatArguments) → length old ≡ imageBytes → length (args .title) ≤ titleMost → Judged (format old args .image)
 
 -- ---- the proof
 
--- nothing outside the blocks
+-- a disk has nothing outside its blocks (§1.3)
 pub record Inside (d : Disk) : Type 0 where
   pub far : (b o : ℕ) → blocks ≤ b → d b o ≡ 0
   pub out : (b o : ℕ) → blockBytes ≤ o → d b o ≡ 0
 
+-- a fresh disk has nothing outside its blocks
 pub fresh-inside : (args : FormatArguments) → Inside (formatDisk args)
 unfolding formatDisk diskWith
 fresh-inside args =
@@ -61,6 +62,7 @@ fresh-inside args =
       out = λ b o h. cond-false _ _ (and-false-right (ltb b blocks) (lt-false h));
     }
 
+-- a disk of which a byte of block 0 is another has nothing outside its blocks
 pub set-inside : (d : Disk) (o v : ℕ) → o < blockBytes → Inside d → Inside (setByte d 0 o v)
 unfolding setByte
 set-inside d o v l w =
@@ -72,7 +74,7 @@ set-inside d o v l w =
           (λ e. upd₂-other d 0 (upd (d 0) o v) b p e ∙ w .out b p h);
     }
 
--- what the check says of the image of a disk
+-- what check says of the image of a disk (§8.5)
 unfoldable pub verdict : Disk → Reply
 verdict d = unless (diskRefusal d) (λ (r : Reply). r) done
 
@@ -84,6 +86,7 @@ check-is d w = cond-true _ _ (eq-true (length-image d)) ∙ ap verdict (disk-ima
 pub set-is : (d : Disk) (o v : ℕ) → imagePlace 0 o ≡ o → o < blockBytes → set (imageOf d) o v ≡ imageOf (setByte d 0 o v)
 set-is d o v e l = ap (λ (i : ℕ). set (imageOf d) i v) (sym e) ∙ image-set d 0 o v (lit< tt) l
 
+-- what check says of an image of which such a byte is another
 pub changed-is : (d : Disk) → Inside d → (o v : ℕ) → imagePlace 0 o ≡ o → o < blockBytes → check (set (imageOf d) o v) ≡ verdict (setByte d 0 o v)
 changed-is d w o v e l = ap check (set-is d o v e l) ∙ check-is (setByte d 0 o v) (set-inside d o v l w)
 
@@ -108,5 +111,6 @@ judged-is args =
           ∙ changed-is d₂ (set-inside d₁ 103 0x50 (lit< tt) (set-inside fresh 102 0x00 (lit< tt) inside)) 104 0x00 refl (lit< tt);
     }
 
+-- check-values: these hold of every formatted disk
 pub check-values : CheckValues
 check-values old args long short = subst Judged (sym (ap (λ (w : ImageChanged). w .image) (format-done old args long short))) (judged-is args)

@@ -34,12 +34,13 @@ use Rattle.file_rules.specs.Map.{decode, encode, numberOf, numberAt, rec
 use Rattle.file_rules.specs.Sizes.{blockBytes, titleMost}
 use Rattle.file_rules.specs.Written.{fixedByte, diskHeaderByte, diskWith}
 
--- what the judgement gives by 8, 9 and 11 of a disk
+-- what first track gives of a disk by 8, 9 and 11 (§8.14)
 unfoldable pub judgedFirst : Disk → FirstTrack
 judgedFirst d = unless (orElse (refusal8 d) (orElse (refusal9 d) (refusal11 d))) refusedTrack (counted d)
 
 -- ---- what is promised
 
+-- by value: what first track gives of a track of another length, of a formatted disk and of one with another free word (§8.14)
 pub record FirstTrackValues : Type 0 where
   -- block 0 is enough
   pub whole-image : (image : List ℕ) → length image ≡ imageBytes → firstTrack (take 9216 image) ≡ judgedFirst (diskOf image)
@@ -105,6 +106,7 @@ unfolding judgedFirst refusal8 refusal9 refusal11 diskHeaderFault dimensionsFaul
     decode encode numberOf freshOwner recordFault isSystem isOther isFree faultBelow unless orElse setByte upd imagePlace imageSector
 formatted-is args = (refl, refl, refl)
 
+-- first-track-values: all of these hold
 pub first-track-values : FirstTrackValues
 first-track-values =
     record {

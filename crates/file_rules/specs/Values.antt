@@ -32,7 +32,7 @@ pub record-values :
 unfolding decode encode numberOf highFirst highByte bigEndian elementAt tab
 record-values = (refl, refl, refl, refl, refl, refl, refl, refl)
 
--- the entry of the file ab with date 01020304 and 256 bytes of data: length 64 + 256, name length 2, name and date; the rest is zero
+-- the entry of the file ab with date 01020304 (hex) and 256 bytes of data: length 64 + 256, length of the name 2, name and date; all else is zero (§6.13)
 unfoldable pub entryRow : List ℕ
 entryRow =
     0x00 ∷ 0x00 ∷ 0x01 ∷ 0x40 ∷ (replicate 10 0x00 ++ (0x00 ∷ 0x02 ∷ 0x61 ∷ 0x62 ∷ (replicate 34 0x00 ++ (0x01 ∷ 0x02 ∷ 0x03 ∷ 0x04 ∷ replicate 8 0x00))))

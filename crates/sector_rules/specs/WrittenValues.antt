@@ -19,18 +19,19 @@ use Rattle.sector_rules.specs.Packed.{fieldStart, fieldItems, leadItems,
 use Rattle.sector_rules.specs.Packed.{span, fieldCrc, withCrc, sectorItem, sideItem, hfeTableByte, hfeTrackByte, hfeByte, packHfe}
 use Rattle.sector_rules.specs.Replies.{done}
 
--- an item as a number: a byte, or a mark, which is 100 (hex) more than the byte that it spells
+-- an item as a number: a byte, or a mark, which is 100 (hex) more than its byte (§3.5)
 abbrev pub itemNumber : Item → ℕ
 itemNumber (Plain x) = x
 itemNumber Sync = 0x1A1
 itemNumber Index = 0x1C2
 
--- n items from q on of a side whose sector R has the data d R
+-- n items from q on of a side whose sector R has the data d R (§5.2)
 unfoldable pub sideRow : ℕ → ℕ → (ℕ → List ℕ) → ℕ → ℕ → List ℕ
 sideRow t s d q n = tab (λ (k : ℕ). itemNumber (sideItem t s d (q + k))) n
 
 -- ---- what is promised
 
+-- by value: what pack writes beside headers and data (§5.1 §5.2 §5.3 §5.5)
 pub record WrittenValues : Type 0 where
   -- a side begins with 146 bytes and marks before its first sector
   pub side-begins : (t s : ℕ) (d : ℕ → List ℕ)
@@ -63,6 +64,7 @@ part-is image hfe li lh i n l =
     ap (λ (h : List ℕ). window h i n) (hfe-after image hfe done (pack-done (length image) (length hfe) lh li))
     ∙ tab-ext _ _ n (λ k h. tab-in (hfeByte image) hfeBytes (i + k) (omega arith))
 
+-- written-values: all of these hold
 pub written-values : WrittenValues
 unfolding tab sideRow sideItem sectorItem span withCrc fieldCrc crc crcFrom crcBits crcBit bitOf highByte lowByte hfeByte hfeTableByte hfeTrackByte
 written-values =
