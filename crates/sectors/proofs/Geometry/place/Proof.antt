@@ -1,4 +1,5 @@
 -- `Geometry::place` meets its contract: the table is the definition's, and its entries are small.
+-- Rests on: the laws in Reading/Tables.
 -- Assumes nothing.
 use Prim.Native.Nat.{_%_}
 use native.Mathlib.Omega.{arith}

@@ -1,4 +1,5 @@
 -- `Geometry::running_of` meets its contract: the table is the definition's, and its entries are small.
+-- Rests on: the laws in Reading/Tables.
 -- Assumes nothing.
 use Prim.Native.Nat.{_+_, _-_, _*_, _/_, _%_}
 use native.Mathlib.Omega.{arith}
@@ -28,14 +29,30 @@ array-read-left c = search needs
 
 cast-left : tie.Need-cast-left
 unfolding backward
-cast-left c = omega (arith, backward-bound (sectors * (c .before .before .before .args .m .0 % trackSectors / sectors) + (c .before .before .before .args .m .0 % sectors + (sectors - trackOffset) * (c .before .before .before .args .m .0 / trackSectors)) % sectors) (omega arith))
+cast-left c =
+    omega (
+      arith,
+      backward-bound (sectors * (c .before .before .before .args .m .0 % trackSectors / sectors) +
+          (c .before .before .before .args .m .0 % sectors + (sectors - trackOffset) *
+          (c .before .before .before .args .m .0 / trackSectors))
+          % sectors)
+          (omega arith),
+    )
 
 mul-t8 : tie.Need-mul-t8
 mul-t8 c = search needs
 
 add-t7 : tie.Need-add-t7
 unfolding backward
-add-t7 c = omega (arith, backward-bound (sectors * (c .before .before .before .args .m .0 % trackSectors / sectors) + (c .before .before .before .args .m .0 % sectors + (sectors - trackOffset) * (c .before .before .before .args .m .0 / trackSectors)) % sectors) (omega arith))
+add-t7 c =
+    omega (
+      arith,
+      backward-bound (sectors * (c .before .before .before .args .m .0 % trackSectors / sectors) +
+          (c .before .before .before .args .m .0 % sectors + (sectors - trackOffset) *
+          (c .before .before .before .args .m .0 / trackSectors))
+          % sectors)
+          (omega arith),
+    )
 
 returns : tie.Need-returns
 unfolding runningSector backward

@@ -1,4 +1,5 @@
 -- `or_fault` meets its contract.
+-- Rests on: the code alone.
 -- Assumes nothing.
 use borrow.Author.Needs.{needs}
 use Rattle.sectors.proofs.faults.or_fault.Statement.{statement}

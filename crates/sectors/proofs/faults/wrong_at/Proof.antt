@@ -1,4 +1,5 @@
 -- `wrong_at` meets its contract.
+-- Rests on: the code alone.
 -- Assumes nothing.
 use borrow.Author.Needs.{needs}
 use Rattle.sectors.proofs.faults.wrong_at.Statement.{statement}

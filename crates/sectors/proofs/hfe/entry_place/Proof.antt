@@ -1,4 +1,5 @@
 -- `entry_place` meets its contract.
+-- Rests on: the contract of fields::low2.
 -- Assumes nothing.
 use native.Mathlib.Omega.{arith}
 use borrow.Author.Needs.{needs}

@@ -1,4 +1,5 @@
 -- `flag_fault` meets its contract.
+-- Rests on: the contracts of fields::byte, wrong_at and or_fault.
 -- Assumes nothing.
 use mathlib.Core.Path.{_∙_}
 use native.Mathlib.Nat.{add-zero}
@@ -27,7 +28,17 @@ or-fault-requires c κs = search needs
 
 returns : tie.Need-returns
 unfolding flagFault
-returns c = c .or-fault .ensures ∙ rw (c .before .before .wrong-at .ensures, c .before .wrong-at2 .ensures, c .before .before .before .before .byte .ensures, c .before .before .before .byte2 .ensures, add-zero)
+returns c =
+    let after-wrong-at = c .before .before in
+    let after-byte2 = after-wrong-at .before in
+    let after-byte = after-byte2 .before in
+    c .or-fault .ensures ∙ rw (
+      after-wrong-at .wrong-at .ensures,
+      c .before .wrong-at2 .ensures,
+      after-byte .byte .ensures,
+      after-byte2 .byte2 .ensures,
+      add-zero,
+    )
 
 pub flag-fault-spec : {M : Type 1} → statement M
 flag-fault-spec =

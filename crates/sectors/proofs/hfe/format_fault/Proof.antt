@@ -1,4 +1,5 @@
 -- `format_fault` meets its contract.
+-- Rests on: the contracts of fields::low2, wrong_at, fields::byte and or_fault.
 -- Assumes nothing.
 use mathlib.Core.Path.{_∙_}
 use borrow.Author.Needs.{needs}
@@ -56,8 +57,34 @@ or-fault-requires-4 c κs = search needs
 
 returns : tie.Need-returns
 unfolding formatFault
-returns c = c .or-fault4 .ensures
-    ∙ rw (c .before .or-fault3 .ensures, c .before .before .or-fault2 .ensures, c .before .before .before .or-fault .ensures, c .before .before .before .before .wrong-at5 .ensures, c .before .before .before .before .before .before .wrong-at4 .ensures, c .before .before .before .before .before .before .before .before .wrong-at3 .ensures, c .before .before .before .before .before .before .before .before .before .before .wrong-at2 .ensures, c .before .before .before .before .before .before .before .before .before .before .before .before .wrong-at .ensures, c .before .before .before .before .before .byte4 .ensures, c .before .before .before .before .before .before .before .byte3 .ensures, c .before .before .before .before .before .before .before .before .before .byte2 .ensures, c .before .before .before .before .before .before .before .before .before .before .before .byte .ensures, c .before .before .before .before .before .before .before .before .before .before .before .before .before .low2 .ensures)
+returns c =
+    let after-or-fault2 = c .before .before in
+    let after-or-fault = after-or-fault2 .before in
+    let after-wrong-at5 = after-or-fault .before in
+    let after-byte4 = after-wrong-at5 .before in
+    let after-wrong-at4 = after-byte4 .before in
+    let after-byte3 = after-wrong-at4 .before in
+    let after-wrong-at3 = after-byte3 .before in
+    let after-byte2 = after-wrong-at3 .before in
+    let after-wrong-at2 = after-byte2 .before in
+    let after-byte = after-wrong-at2 .before in
+    let after-wrong-at = after-byte .before in
+    let after-low2 = after-wrong-at .before in
+    c .or-fault4 .ensures ∙ rw (
+      c .before .or-fault3 .ensures,
+      after-or-fault2 .or-fault2 .ensures,
+      after-or-fault .or-fault .ensures,
+      after-wrong-at5 .wrong-at5 .ensures,
+      after-wrong-at4 .wrong-at4 .ensures,
+      after-wrong-at3 .wrong-at3 .ensures,
+      after-wrong-at2 .wrong-at2 .ensures,
+      after-wrong-at .wrong-at .ensures,
+      after-byte4 .byte4 .ensures,
+      after-byte3 .byte3 .ensures,
+      after-byte2 .byte2 .ensures,
+      after-byte .byte .ensures,
+      after-low2 .low2 .ensures,
+    )
 
 pub format-fault-spec : {M : Type 1} → statement M
 format-fault-spec =

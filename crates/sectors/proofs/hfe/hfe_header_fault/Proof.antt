@@ -1,4 +1,5 @@
 -- `hfe_header_fault` meets its contract.
+-- Rests on: the contracts of flag_fault, or_fault, fields::low2, wrong_at, format_fault and fields::stands_at.
 -- Assumes nothing.
 use mathlib.Core.Path.{_∙_}
 use borrow.Author.Needs.{needs}
@@ -44,8 +45,28 @@ or-fault-requires-4 c κs = search needs
 
 returns : tie.Need-returns
 unfolding hfeHeaderFault hfeSignature
-returns c = c .or-fault4 .ensures
-    ∙ rw (c .before .or-fault3 .ensures, c .before .before .or-fault2 .ensures, c .before .before .before .before .before .before .before .before .before .or-fault .ensures, c .before .before .before .wrong-at2 .ensures, c .before .before .before .before .before .before .before .wrong-at .ensures, c .before .before .before .before .before .before .format-fault .ensures, c .before .before .before .before .stands-at .ensures, c .before .before .before .before .before .before .before .before .low2 .ensures, c .before .before .before .before .before .before .before .before .before .before .before .flag-fault .ensures, c .before .before .before .before .before .before .before .before .before .before .flag-fault2 .ensures)
+returns c =
+    let after-or-fault2 = c .before .before in
+    let after-wrong-at2 = after-or-fault2 .before in
+    let after-stands-at = after-wrong-at2 .before in
+    let after-format-fault = after-stands-at .before .before in
+    let after-wrong-at = after-format-fault .before in
+    let after-low2 = after-wrong-at .before in
+    let after-or-fault = after-low2 .before in
+    let after-flag-fault2 = after-or-fault .before in
+    let after-flag-fault = after-flag-fault2 .before in
+    c .or-fault4 .ensures ∙ rw (
+      c .before .or-fault3 .ensures,
+      after-or-fault2 .or-fault2 .ensures,
+      after-or-fault .or-fault .ensures,
+      after-wrong-at2 .wrong-at2 .ensures,
+      after-wrong-at .wrong-at .ensures,
+      after-format-fault .format-fault .ensures,
+      after-stands-at .stands-at .ensures,
+      after-low2 .low2 .ensures,
+      after-flag-fault .flag-fault .ensures,
+      after-flag-fault2 .flag-fault2 .ensures,
+    )
 
 pub hfe-header-fault-spec : {M : Type 1} → statement M
 hfe-header-fault-spec =

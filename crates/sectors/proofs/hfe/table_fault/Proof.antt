@@ -1,4 +1,5 @@
 -- `table_fault` meets its contract: the entries of the tracks below t are good.
+-- Rests on: the laws in Reading/Tables and sector_rules::Base/Faults; the contract of track_good.
 -- Assumes nothing.
 use mathlib.Core.Path.{_≡_, sym, ap, _∙_}
 use mathlib.Core.Bool.{false, not}

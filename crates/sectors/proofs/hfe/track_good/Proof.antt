@@ -1,4 +1,5 @@
 -- `track_good` meets its contract.
+-- Rests on: the contracts of track_start, track_unit_bytes, track_length and entry_place.
 -- Assumes nothing.
 use borrow.Author.Needs.{needs}
 use Rattle.sector_rules.specs.Hfe.{trackGood}

@@ -1,4 +1,5 @@
 -- `track_length` meets its contract.
+-- Rests on: the contracts of entry_place and fields::low2.
 -- Assumes nothing.
 use borrow.Author.Needs.{needs}
 use Rattle.sector_rules.specs.Hfe.{trackLength}

@@ -1,4 +1,5 @@
 -- `track_part` meets its contract: the units end within the image.
+-- Rests on: the laws in Reading/Tables; the contracts of track_start and track_unit_bytes.
 -- Assumes nothing.
 use mathlib.Core.Path.{_≡_}
 use Prim.Native.Nat.{_+_, _-_, _≤_}
@@ -35,7 +36,9 @@ part-result-end c = omega (arith, within c)
 
 returns : tie.Need-returns
 unfolding trackPart
-returns c = let e : c .before .before .track-start .result + c .before .track-unit-bytes .result - c .before .before .track-start .result ≡ c .before .track-unit-bytes .result = omega arith in
+returns c =
+    let e : c .before .before .track-start .result + c .before .track-unit-bytes .result -
+    c .before .before .track-start .result ≡ c .before .track-unit-bytes .result = omega arith in
     rw (e, ← c .before .before .track-start .ensures .0, ← c .before .track-unit-bytes .ensures .0)
 
 pub track-part-spec : {M : Type 1} → statement M

@@ -1,4 +1,5 @@
 -- `track_side` meets its contract.
+-- Rests on: the contracts of track_length and cells::hfe_side.
 -- Assumes nothing.
 use mathlib.Core.Path.{_∙_}
 use borrow.Author.Needs.{needs}

@@ -1,4 +1,5 @@
 -- `track_start` meets its contract.
+-- Rests on: the contracts of entry_place and fields::low2.
 -- Assumes nothing.
 use native.Mathlib.Omega.{arith}
 use borrow.Author.Needs.{needs}

@@ -1,4 +1,5 @@
 -- `track_unit_bytes` meets its contract.
+-- Rests on: the contract of track_length.
 -- Assumes nothing.
 use native.Mathlib.Omega.{arith}
 use borrow.Author.Needs.{needs}

@@ -1,4 +1,6 @@
 -- `pack` meets its contract.
+-- Rests on: the laws in Packing/Items and sector_rules::Base/Packed; the contracts of refused, write_hfe and
+-- done.
 -- Assumes nothing.
 use mathlib.Core.Path.{sym, _∙_}
 use borrow.Author.Needs.{needs}
@@ -29,7 +31,12 @@ same-length : tie.Need-same-length
 same-length c = search needs
 
 returns-3 : tie.Need-returns-3
-returns-3 c = let e = pack-done _ _ (c .before .before .before .before .before .before .if1 .left) (c .before .before .before .before .before .if2 .left) in (c .done .ensures ∙ sym e, c .before .before .before .write-hfe .ensures ∙ sym (hfe-after _ _ _ e))
+returns-3 c =
+    let after-write-hfe = c .before .before .before in
+    let else2 = after-write-hfe .before .before in
+    let else1 = else2 .before in
+    let e = pack-done _ _ (else1 .if1 .left) (else2 .if2 .left) in
+    (c .done .ensures ∙ sym e, after-write-hfe .write-hfe .ensures ∙ sym (hfe-after _ _ _ e))
 
 pub pack-spec : {M : Type 1} → statement M
 pack-spec =

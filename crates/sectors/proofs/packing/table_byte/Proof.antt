@@ -1,4 +1,5 @@
 -- `table_byte` meets its contract.
+-- Rests on: the laws in Packing/Items and sector_rules::Base/Packed.
 -- Assumes nothing.
 use mathlib.Core.Path.{_≡_, sym}
 use Prim.Native.Nat.{_%_}

@@ -1,4 +1,5 @@
 -- `write_header` meets its contract: signature, the rest of the header as it is named, and FF.
+-- Rests on: the laws in Packing/Runs; the contracts of fields::copy_into and fields::fill.
 -- Assumes nothing.
 use mathlib.Core.Path.{_∙_}
 use Rattle.laws.specs.Numbers.{lowByte}
@@ -32,7 +33,14 @@ same-length c = search needs
 
 returns : tie.Need-returns
 unfolding hfeSignature hfeHeaderRest lowByte
-returns c = c .before .before .fill .ensures ∙ header-written _ _ _ (c .before .before .before .before .before .before .before .before .before .before .before .copy-into .ensures) (c .before .before .before .before .before .before .copy-into2 .ensures)
+returns c =
+    let after-fill = c .before .before in
+    let after-hfe2 = after-fill .before .before .before in
+    let after-copy-into2 = after-hfe2 .before in
+    let after-slice-known2 = after-copy-into2 .before .before .before in
+    let after-copy-into = after-slice-known2 .before .before in
+    after-fill .fill .ensures ∙ header-written _ _ _ (after-copy-into .copy-into .ensures)
+    (after-copy-into2 .copy-into2 .ensures)
 
 pub write-header-spec : {M : Type 1} → statement M
 write-header-spec =

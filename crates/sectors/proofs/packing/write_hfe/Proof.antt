@@ -1,4 +1,5 @@
 -- `write_hfe` meets its contract: header, table and tracks.
+-- Rests on: the laws in Packing/Runs; the contracts of write_header, write_table and write_tracks.
 -- Assumes nothing.
 use Rattle.sectors.specs.Laws.Packing.Runs.{image-written}
 use borrow.Author.Needs.{needs}
@@ -18,7 +19,16 @@ same-length : tie.Need-same-length
 same-length c = search needs
 
 returns : tie.Need-returns
-returns c = image-written _ _ _ _ _ (c .before .before .before .before .before .before .before .before .before .before .before .before .before .before .pre .1) (c .before .before .before .before .before .before .before .before .before .before .write-header .ensures) (c .before .before .before .before .before .before .write-table .ensures) (c .before .before .write-tracks .ensures)
+returns c =
+    let after-write-tracks = c .before .before in
+    let after-hfe2 = after-write-tracks .before .before .before in
+    let after-write-table = after-hfe2 .before in
+    let after-hfe = after-write-table .before .before .before in
+    let after-write-header = after-hfe .before in
+    let after-shared-slice-known = after-write-header .before .before .before in
+    let start = after-shared-slice-known .before in
+    image-written _ _ _ _ _ (start .pre .1) (after-write-header .write-header .ensures)
+    (after-write-table .write-table .ensures) (after-write-tracks .write-tracks .ensures)
 
 pub write-hfe-spec : {M : Type 1} → statement M
 write-hfe-spec =

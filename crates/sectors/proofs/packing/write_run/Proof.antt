@@ -1,4 +1,5 @@
 -- `write_run` meets its contract: items, and FF after the last one.
+-- Rests on: the laws in Packing/Runs; the contracts of run_items, write_items and fields::fill.
 -- Assumes nothing.
 use mathlib.Core.Path.{_∙_}
 use Rattle.sectors.specs.Laws.Packing.Runs.{run-written}
@@ -34,7 +35,14 @@ same-length : tie.Need-same-length
 same-length c = search needs
 
 returns : tie.Need-returns
-returns c = c .before .before .fill .ensures ∙ run-written _ _ _ _ _ _ _ _ (c .before .before .before .before .before .before .before .before .before .before .before .pre .3) (c .before .before .before .before .before .before .before .before .run-items .ensures) (c .before .before .before .before .before .before .write-items .ensures)
+returns c =
+    let after-fill = c .before .before in
+    let after-hfe = after-fill .before .before .before in
+    let after-write-items = after-hfe .before in
+    let after-run-items = after-write-items .before .before in
+    let start = after-run-items .before .before .before in
+    after-fill .fill .ensures ∙ run-written _ _ _ _ _ _ _ _ (start .pre .3) (after-run-items .run-items .ensures)
+    (after-write-items .write-items .ensures)
 
 pub write-run-spec : {M : Type 1} → statement M
 write-run-spec =

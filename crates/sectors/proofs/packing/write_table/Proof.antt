@@ -1,4 +1,5 @@
 -- `write_table` meets its contract: the first j bytes are written.
+-- Rests on: the laws in laws::Overlay; the contract of table_byte.
 -- Assumes nothing.
 use mathlib.Core.Path.{_≡_}
 use Prim.Native.Nat.{_-_, _≤_}
@@ -37,7 +38,12 @@ loop-less : tie.Need-loop-less Inv-loop μ-loop
 loop-less c = omega arith
 
 loop-again : tie.Need-loop-again Inv-loop μ-loop
-loop-again c = (omega arith, simp length-set (c .before .before .loop .inv .1), overlay-more _ _ _ _ _ _ (omega arith) (c .before .before .loop .inv .2) (c .table-byte .ensures))
+loop-again c = (
+  omega arith,
+  simp length-set (c .before .before .loop .inv .1),
+  overlay-more _ _ _ _ _ _ (omega arith)
+      (c .before .before .loop .inv .2) (c .table-byte .ensures),
+)
 
 same-length : tie.Need-same-length Inv-loop μ-loop
 same-length c = search needs

@@ -1,4 +1,5 @@
 -- `write_tracks` meets its contract: the runs below w are written.
+-- Rests on: the laws in Packing/Runs and laws::Overlay; the contract of write_run.
 -- Assumes nothing.
 use mathlib.Core.Path.{_≡_, ap, _∙_}
 use Prim.Native.Nat.{_-_, _*_, _≤_}
@@ -15,7 +16,9 @@ use Rattle.sectors.proofs.packing.write_tracks.Statement.{statement}
 use Rattle.sectors.proofs.packing.write_tracks.Tie as tie
 
 abbrev Inv-loop : tie.InvT-loop
-Inv-loop image hfe₀ w₀ hfe w = (w ≤ sides * (trackUnits * tracks)) × (length hfe ≡ hfeBytes) × (hfe ≡ overlay hfe₀ (firstUnit * unitBytes) (runBytes * w) (tracksByte image))
+Inv-loop image hfe₀ w₀ hfe w =
+    (w ≤ sides * (trackUnits * tracks)) × (length hfe ≡ hfeBytes) ×
+    (hfe ≡ overlay hfe₀ (firstUnit * unitBytes) (runBytes * w) (tracksByte image))
 
 abbrev μ-loop : tie.MeasureT-loop
 μ-loop image hfe₀ w₀ hfe w = sides * (trackUnits * tracks) - w
@@ -42,7 +45,16 @@ loop-less : tie.Need-loop-less Inv-loop μ-loop
 loop-less c = omega arith
 
 loop-again : tie.Need-loop-again Inv-loop μ-loop
-loop-again c = (omega arith, ap length (c .before .before .write-run .ensures) ∙ overlay-length _ _ _ _ ∙ c .before .before .before .before .before .loop .inv .1, c .before .before .write-run .ensures ∙ tracks-more _ _ _ _ (c .before .before .before .before .before .loop .inv .2))
+loop-again c =
+    let after-write-run = c .before .before in
+    let write-run = after-write-run .write-run in
+    let at-loop = after-write-run .before .before .before in
+    let loop = at-loop .loop in (
+      omega arith,
+      ap length (write-run .ensures) ∙ overlay-length _ _ _ _ ∙ loop .inv .1,
+      write-run .ensures ∙ tracks-more _
+          _ _ _ (loop .inv .2),
+    )
 
 same-length : tie.Need-same-length Inv-loop μ-loop
 same-length c = search needs

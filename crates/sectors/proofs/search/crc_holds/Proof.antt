@@ -1,4 +1,5 @@
 -- `crc_holds` meets its contract.
+-- Rests on: the laws in sector_rules::Base/Search; the contracts of cells::data_byte and cells::crc_at.
 -- Assumes nothing.
 use borrow.Author.Needs.{needs}
 use Rattle.sector_rules.specs.Laws.Base.Search.{crc-two}

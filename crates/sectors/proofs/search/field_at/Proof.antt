@@ -1,4 +1,5 @@
 -- `field_at` meets its contract.
+-- Rests on: the laws in Reading/Search; the contracts of cells::cells_from, cells::data_byte and crc_holds.
 -- Assumes nothing.
 use mathlib.Core.Path.{sym, _∙_}
 use borrow.Author.Needs.{needs}
@@ -23,15 +24,33 @@ crc-holds-requires : tie.Need-crc-holds-requires
 crc-holds-requires c κs = search needs
 
 returns-2 : tie.Need-returns-2
-returns-2 c = sym (field-fits _ _ (rw (← c .before .before .before .before .before .cells-from .ensures .0 _) (c .before .before .before .before .if1 .left))
-    ∙ rw (eq-eqb _ _ (sym (c .before .before .before .data-byte .ensures) ∙ c .before .before .if2 .taken), sym (c .before .crc-holds .ensures) ∙ c .if3 .taken))
+returns-2 c =
+    let then2 = c .before .before in
+    let after-data-byte = then2 .before in
+    let else1 = after-data-byte .before in
+    let after-cells-from = else1 .before in
+    sym (field-fits _ _ (rw (← after-cells-from .cells-from .ensures .0 _) (else1 .if1 .left)) ∙ rw (
+      eq-eqb _ _ (sym (after-data-byte .data-byte .ensures) ∙ then2 .if2 .taken),
+      sym (c .before .crc-holds .ensures) ∙
+          c .if3 .taken,
+    ))
 
 returns-3 : tie.Need-returns-3
-returns-3 c = sym (field-fits _ _ (rw (← c .before .before .before .before .before .cells-from .ensures .0 _) (c .before .before .before .before .if1 .left))
-    ∙ rw (eq-eqb _ _ (sym (c .before .before .before .data-byte .ensures) ∙ c .before .before .if2 .taken), sym (c .before .crc-holds .ensures) ∙ c .if3 .left))
+returns-3 c =
+    let then2 = c .before .before in
+    let after-data-byte = then2 .before in
+    let else1 = after-data-byte .before in
+    let after-cells-from = else1 .before in
+    sym (field-fits _ _ (rw (← after-cells-from .cells-from .ensures .0 _) (else1 .if1 .left)) ∙ rw (
+      eq-eqb _ _ (sym (after-data-byte .data-byte .ensures) ∙ then2 .if2 .taken),
+      sym (c .before .crc-holds .ensures) ∙
+          c .if3 .left,
+    ))
 
 returns-4 : tie.Need-returns-4
-returns-4 c = sym (field-fits _ _ (rw (← c .before .before .before .cells-from .ensures .0 _) (c .before .before .if1 .left)) ∙ rw (ne-eqb _ _ (λ e. c .if2 .left (c .before .data-byte .ensures ∙ e))))
+returns-4 c =
+    sym (field-fits _ _ (rw (← c .before .before .before .cells-from .ensures .0 _) (c .before .before .if1 .left)) ∙ rw
+    (ne-eqb _ _ (λ e. c .if2 .left (c .before .data-byte .ensures ∙ e))))
 
 pub field-at-spec : {M : Type 1} → statement M
 field-at-spec =

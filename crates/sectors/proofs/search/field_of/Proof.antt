@@ -1,4 +1,6 @@
 -- `field_of` meets its contract: what is left of the search gives what the whole gives.
+-- Rests on: the laws in Reading/Search, cells::Stream and cells::Sync; the contracts of cells::three_sync and
+-- field_at.
 -- Assumes nothing.
 use mathlib.Core.Path.{_≡_, sym, _∙_}
 use Prim.Native.Nat.{ℕ, _+_, _-_, _≤_, _<_, _^_}
@@ -51,7 +53,11 @@ field-at-requires : tie.Need-field-at-requires Inv-loop μ-loop
 field-at-requires c κs = search needs
 
 returns-2 : tie.Need-returns-2 Inv-loop μ-loop
-returns-2 c = c .field-at .ensures ∙ sym (c .before .before .before .before .loop .inv .2 ∙ first-here _ _ _ 689 _ _ (omega arith) (sym (c .before .before .three-sync .ensures) ∙ c .before .if2 .taken))
+returns-2 c =
+    let after-three-sync = c .before .before in
+    let at-loop = after-three-sync .before .before in
+    c .field-at .ensures ∙ sym (at-loop .loop .inv .2 ∙ first-here _ _ _ 689 _ _ (omega arith)
+    (sym (after-three-sync .three-sync .ensures) ∙ c .before .if2 .taken))
 
 add-k : tie.Need-add-k Inv-loop μ-loop
 add-k c = search needs

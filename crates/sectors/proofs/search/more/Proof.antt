@@ -1,4 +1,5 @@
 -- `more` meets its contract.
+-- Rests on: the code alone.
 -- Assumes nothing.
 use borrow.Author.Needs.{needs}
 use Rattle.sectors.proofs.search.more.Statement.{statement}

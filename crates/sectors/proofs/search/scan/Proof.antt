@@ -1,4 +1,6 @@
 -- `scan` meets its contract: the answers are those of the places below i.
+-- Rests on: the laws in Reading/Search and cells::Stream; the contracts of cells::cells_from, header_at,
+-- sector_index and more.
 -- Assumes nothing.
 use mathlib.Core.Path.{_≡_, refl, ap, _∙_}
 use mathlib.Core.Logic.{⊎-elim}
@@ -56,20 +58,28 @@ loop-less : tie.Need-loop-less Inv-loop μ-loop
 loop-less c = omega arith
 
 loop-again : tie.Need-loop-again Inv-loop μ-loop
-loop-again c = (
-  omega arith,
-  c .before .before .before .before .loop .inv .1,
-  ⊎-elim (λ w. rw (w .3) (simp length-set (c .before .before .before .before .loop .inv .2))) (λ w. rw (w .1) (c .before .before .before .before .loop .inv .2)) (c .if1 .came),
-  ⊎-elim
-      (λ w.
-      rw (w .3)
-      (scan-yes _ _ _ _ _ _ (c .before .before .header-at .ensures) (c .before .sector-index .ensures) (c .before .before .before .before .loop .found) (c .before .before .before .before .loop .inv .3) _ (c .before .before .before .before .loop .inv .2) (w .0 .taken) (w .2 .ensures)))
-      (λ w. rw (w .1) (scan-no _ _ _ _ _ _ (c .before .before .header-at .ensures) (c .before .sector-index .ensures) (c .before .before .before .before .loop .found) (c .before .before .before .before .loop .inv .3) (w .0 .left)))
-      (c .if1 .came),
-)
+loop-again c =
+    let after-header-at = c .before .before in
+    let header-at = after-header-at .header-at in
+    let at-loop = after-header-at .before .before in
+    let loop = at-loop .loop in (
+      omega arith,
+      loop .inv .1,
+      ⊎-elim (λ w. rw (w .3) (simp length-set (loop .inv .2))) (λ w. rw (w .1) (loop .inv .2))
+          (c .if1 .came),
+      ⊎-elim (λ w. rw (w .3)
+          (scan-yes _ _ _ _ _ _ (header-at .ensures) (c .before .sector-index .ensures) (loop .found) (loop .inv .3) _
+          (loop .inv .2) (w .0 .taken) (w .2 .ensures)))
+          (λ w. rw (w .1)
+          (scan-no _ _ _ _ _ _ (header-at .ensures) (c .before .sector-index .ensures) (loop .found) (loop .inv .3) (w .0 .left)))
+          (c .if1 .came),
+    )
 
 returns : tie.Need-returns Inv-loop μ-loop
-returns c = scan-all _ _ _ _ _ (let e : c .before .loop .i ≡ c .before .before .cells-from .result = omega arith in e ∙ c .before .loop .inv .1) (c .before .loop .inv .2) (c .before .loop .inv .3)
+returns c =
+    scan-all _ _ _ _ _
+    (let e : c .before .loop .i ≡ c .before .before .cells-from .result = omega arith in e ∙ c .before .loop .inv .1)
+    (c .before .loop .inv .2) (c .before .loop .inv .3)
 
 pub scan-spec : {M : Type 1} → statement M
 scan-spec =

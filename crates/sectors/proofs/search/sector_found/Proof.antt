@@ -1,4 +1,5 @@
 -- `sector_found` meets its contract.
+-- Rests on: the contract of field_of.
 -- Assumes nothing.
 use mathlib.Core.Path.{_∙_}
 use borrow.Author.Needs.{needs}

@@ -1,4 +1,5 @@
 -- `image_side` meets its contract.
+-- Rests on: the laws in Unpacking/Sides; the contracts of track_part, track_side and side_sectors.
 -- Assumes nothing.
 use borrow.Author.Needs.{needs}
 use Rattle.sectors.specs.Laws.Unpacking.Sides.{image-gives}

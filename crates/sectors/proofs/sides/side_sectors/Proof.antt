@@ -1,4 +1,5 @@
 -- `side_sectors` meets its contract: the sectors below k are judged.
+-- Rests on: the laws in Unpacking/Sides; the contracts of scan and sector_found.
 -- Assumes nothing.
 use mathlib.Core.Path.{_≡_, refl, _∙_}
 use Prim.Native.Nat.{ℕ, _+_, _-_, _≤_, _<_}
@@ -14,7 +15,9 @@ use Rattle.sectors.proofs.sides.side_sectors.Statement.{statement}
 use Rattle.sectors.proofs.sides.side_sectors.Tie as tie
 
 abbrev Inv-loop : tie.InvT-loop
-Inv-loop part side track head found gives₀ k₀ gives k = (k ≤ sectors) × (length gives ≡ sectors) × ((j : ℕ) → j < k → getD gives j Missing ≡ sectorOf (stream part side) track head (j + 1))
+Inv-loop part side track head found gives₀ k₀ gives k =
+    (k ≤ sectors) × (length gives ≡ sectors) ×
+    ((j : ℕ) → j < k → getD gives j Missing ≡ sectorOf (stream part side) track head (j + 1))
 
 abbrev μ-loop : tie.MeasureT-loop
 μ-loop part side track head found gives₀ k₀ gives k = sectors - k
@@ -47,11 +50,20 @@ loop-less : tie.Need-loop-less Inv-loop μ-loop
 loop-less c = omega arith
 
 loop-again : tie.Need-loop-again Inv-loop μ-loop
-loop-again c = let a = c .before .before .before .before .before .before .args in (
-  omega arith,
-  simp length-set (c .before .before .before .loop .inv .1),
-  gives-more (c .before .before .before .loop .gives) (λ (j : ℕ). sectorOf (stream (a .part .now) (a .side)) (a .track) (a .head) (j + 1)) (c .before .before .before .loop .k) (c .sector-found .result) (omega arith) (c .before .before .before .loop .inv .2) (c .sector-found .ensures ∙ found-gives (c .before .before .before .before .scan .result) _ _ _ (c .before .before .before .loop .k) (c .before .before .before .before .scan .ensures) (omega arith)),
-)
+loop-again c =
+    let at-loop = c .before .before .before in
+    let loop = at-loop .loop in
+    let after-scan = at-loop .before in
+    let scan = after-scan .scan in
+    let start = after-scan .before .before in
+    let a = start .args in (
+      omega arith,
+      simp length-set (loop .inv .1),
+      gives-more (loop .gives)
+          (λ (j : ℕ). sectorOf (stream (a .part .now) (a .side)) (a .track) (a .head) (j + 1)) (loop .k)
+          (c .sector-found .result) (omega arith) (loop .inv .2)
+          (c .sector-found .ensures ∙ found-gives (scan .result) _ _ _ (loop .k) (scan .ensures) (omega arith)),
+    )
 
 returns : tie.Need-returns Inv-loop μ-loop
 returns c = let e : c .before .loop .k ≡ sectors = omega arith in

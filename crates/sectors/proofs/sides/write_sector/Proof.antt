@@ -1,4 +1,5 @@
 -- `write_sector` meets its contract: the first k bytes are written.
+-- Rests on: the laws in laws::Overlay; the contract of cells::data_byte.
 -- Assumes nothing.
 use mathlib.Core.Path.{_≡_, refl}
 use Prim.Native.Nat.{_-_, _≤_}
@@ -41,7 +42,12 @@ loop-less c = omega arith
 
 loop-again : tie.Need-loop-again Inv-loop μ-loop
 unfolding sectorByte
-loop-again c = (omega arith, simp length-set (c .before .before .loop .inv .1), overlay-more _ _ _ _ _ _ (omega arith) (c .before .before .loop .inv .2) (c .data-byte .ensures))
+loop-again c = (
+  omega arith,
+  simp length-set (c .before .before .loop .inv .1),
+  overlay-more _ _ _ _ _ _ (omega arith)
+      (c .before .before .loop .inv .2) (c .data-byte .ensures),
+)
 
 same-length : tie.Need-same-length Inv-loop μ-loop
 same-length c = search needs

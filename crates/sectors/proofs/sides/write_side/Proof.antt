@@ -1,4 +1,5 @@
 -- `write_side` meets its contract: the sectors below k are written.
+-- Rests on: the laws in Unpacking/Sides and laws::Overlay; the contract of write_sector.
 -- Assumes nothing.
 use mathlib.Core.Path.{_≡_, ap, _∙_}
 use Prim.Native.Nat.{_-_, _*_, _≤_}
@@ -14,7 +15,9 @@ use Rattle.sectors.proofs.sides.write_side.Statement.{statement}
 use Rattle.sectors.proofs.sides.write_side.Tie as tie
 
 abbrev Inv-loop : tie.InvT-loop
-Inv-loop part side places at image₀ k₀ image k = (k ≤ sectors) × (length image ≡ imageBytes) × (image ≡ overlay image₀ (sectorBytes * at) (sectorBytes * k) (placedByte (stream part side) places at))
+Inv-loop part side places at image₀ k₀ image k =
+    (k ≤ sectors) × (length image ≡ imageBytes) ×
+    (image ≡ overlay image₀ (sectorBytes * at) (sectorBytes * k) (placedByte (stream part side) places at))
 
 abbrev μ-loop : tie.MeasureT-loop
 μ-loop part side places at image₀ k₀ image k = sectors - k
@@ -44,11 +47,17 @@ loop-less : tie.Need-loop-less Inv-loop μ-loop
 loop-less c = omega arith
 
 loop-again : tie.Need-loop-again Inv-loop μ-loop
-loop-again c = (
-  omega arith,
-  ap length (c .before .before .write-sector .ensures) ∙ overlay-length _ _ _ _ ∙ c .before .before .before .before .before .before .loop .inv .1,
-  c .before .before .write-sector .ensures ∙ side-more _ _ _ _ _ _ (c .before .before .before .before .before .before .loop .inv .2),
-)
+loop-again c =
+    let after-write-sector = c .before .before in
+    let write-sector = after-write-sector .write-sector in
+    let in-loop = after-write-sector .before .before .before in
+    let at-loop = in-loop .before in
+    let loop = at-loop .loop in (
+      omega arith,
+      ap length (write-sector .ensures) ∙ overlay-length _ _ _ _ ∙ loop .inv .1,
+      write-sector .ensures ∙
+          side-more _ _ _ _ _ _ (loop .inv .2),
+    )
 
 same-length : tie.Need-same-length Inv-loop μ-loop
 same-length c = search needs

@@ -1,4 +1,5 @@
 -- `judge_all` meets its contract: the sectors of the sides below n are good.
+-- Rests on: the laws in Unpacking/SectorsJudged; the contracts of judge_side and done.
 -- Assumes nothing.
 use mathlib.Core.Path.{_≡_}
 use Prim.Native.Nat.{_-_, _*_, _≤_}
@@ -26,7 +27,10 @@ same-length : tie.Need-same-length Inv-loop μ-loop
 same-length c = search needs
 
 returns : tie.Need-returns Inv-loop μ-loop
-returns c = record { answer = c .before .before .before .before .judge-side .ensures .bad (c .if1 .taken); good = λ z. absurd (c .if1 .taken z) }
+returns c =
+    let after-places = c .before .before .before in
+    let after-judge-side = after-places .before in
+    record { answer = after-judge-side .judge-side .ensures .bad (c .if1 .taken); good = λ z. absurd (c .if1 .taken z) }
 
 add-n : tie.Need-add-n Inv-loop μ-loop
 add-n c = search needs
@@ -35,7 +39,10 @@ loop-less : tie.Need-loop-less Inv-loop μ-loop
 loop-less c = omega arith
 
 loop-again : tie.Need-loop-again Inv-loop μ-loop
-loop-again c = (omega arith, search needs, c .before .before .before .before .judge-side .ensures .good (c .if1 .left))
+loop-again c =
+    let after-places = c .before .before .before in
+    let after-judge-side = after-places .before in
+    (omega arith, search needs, after-judge-side .judge-side .ensures .good (c .if1 .left))
 
 done-requires : tie.Need-done-requires Inv-loop μ-loop
 done-requires c κs = search needs
@@ -44,7 +51,9 @@ same-length-2 : tie.Need-same-length-2 Inv-loop μ-loop
 same-length-2 c = search needs
 
 returns-2 : tie.Need-returns-2 Inv-loop μ-loop
-returns-2 c = let e : sectors * c .before .before .loop .n ≡ allSectors = omega arith in all-good _ _ (rw e at (c .before .before .loop .inv .2)) _ (c .done .ensures)
+returns-2 c =
+    let e : sectors * c .before .before .loop .n ≡ allSectors = omega arith in
+    all-good _ _ (rw e at (c .before .before .loop .inv .2)) _ (c .done .ensures)
 
 pub judge-all-spec : {M : Type 1} → statement M
 judge-all-spec =

@@ -1,4 +1,6 @@
 -- `judge_side` meets its contract: the sectors below k are good, and the places of their bytes are noted.
+-- Rests on: the laws in Unpacking/SectorsJudged; the contracts of image_side, is_bad, sector_reply, place_of
+-- and done.
 -- Assumes nothing.
 use mathlib.Core.Path.{_≡_, sym, _∙_}
 use Prim.Native.Nat.{_+_, _-_, _*_, _≤_}
@@ -45,7 +47,13 @@ same-length : tie.Need-same-length Inv-loop μ-loop
 same-length c = search needs
 
 returns : tie.Need-returns Inv-loop μ-loop
-returns c = judged-stop _ _ _ (c .before .before .before .before .before .loop .inv .2) _ (c .before .before .before .before .before .before .image-side .ensures .each (c .before .before .before .before .before .loop .k) (omega arith)) (omega arith) (sym (c .before .before .is-bad .ensures) ∙ c .before .if1 .taken) _ _ (c .sector-reply .ensures)
+returns c =
+    let after-is-bad = c .before .before in
+    let at-loop = after-is-bad .before .before .before in
+    let loop = at-loop .loop in
+    let after-image-side = at-loop .before in
+    judged-stop _ _ _ (loop .inv .2) _ (after-image-side .image-side .ensures .each (loop .k) (omega arith)) (omega arith)
+    (sym (after-is-bad .is-bad .ensures) ∙ c .before .if1 .taken) _ _ (c .sector-reply .ensures)
 
 place-of-requires : tie.Need-place-of-requires Inv-loop μ-loop
 place-of-requires c κs = search needs
@@ -63,11 +71,20 @@ loop-less : tie.Need-loop-less Inv-loop μ-loop
 loop-less c = omega arith
 
 loop-again : tie.Need-loop-again Inv-loop μ-loop
-loop-again c = (
-  omega arith,
-  simp length-set (c .before .before .before .before .before .loop .inv .1),
-  rw (c .place-of .ensures) (noted-more _ _ (sectors * c .before .before .before .before .before .before .before .before .before .args .n + c .before .before .before .before .before .loop .k) (c .before .before .before .before .before .loop .inv .2) _ (c .before .before .before .before .before .before .image-side .ensures .each (c .before .before .before .before .before .loop .k) (omega arith)) (omega arith) (sym (c .before .before .is-bad .ensures) ∙ c .before .if1 .left) (sectors * c .before .before .before .before .before .before .before .before .before .args .n + (c .before .before .before .before .before .loop .k + 1)) (omega arith)),
-)
+loop-again c =
+    let after-is-bad = c .before .before in
+    let at-loop = after-is-bad .before .before .before in
+    let loop = at-loop .loop in
+    let after-image-side = at-loop .before in
+    let start = after-image-side .before .before .before in
+    let n = start .args .n in (
+      omega arith,
+      simp length-set (loop .inv .1),
+      rw (c .place-of .ensures)
+          (noted-more _ _ (sectors * n + loop .k) (loop .inv .2) _
+          (after-image-side .image-side .ensures .each (loop .k) (omega arith)) (omega arith)
+          (sym (after-is-bad .is-bad .ensures) ∙ c .before .if1 .left) (sectors * n + (loop .k + 1)) (omega arith)),
+    )
 
 done-requires : tie.Need-done-requires Inv-loop μ-loop
 done-requires c κs = search needs
@@ -76,8 +93,14 @@ same-length-2 : tie.Need-same-length-2 Inv-loop μ-loop
 same-length-2 c = search needs
 
 returns-2 : tie.Need-returns-2 Inv-loop μ-loop
-returns-2 c = let e : sectors * c .before .before .before .before .before .before .args .n + c .before .before .loop .k ≡ sectors * (c .before .before .before .before .before .before .args .n + 1) = omega arith in
-    judged-good _ _ _ (rw e at (c .before .before .loop .inv .2)) _ (c .done .ensures)
+returns-2 c =
+    let at-loop = c .before .before in
+    let loop = at-loop .loop in
+    let after-image-side = at-loop .before in
+    let start = after-image-side .before .before .before in
+    let n = start .args .n in
+    let e : sectors * n + loop .k ≡ sectors * (n + 1) = omega arith in
+    judged-good _ _ _ (rw e at (loop .inv .2)) _ (c .done .ensures)
 
 pub judge-side-spec : {M : Type 1} → statement M
 judge-side-spec =

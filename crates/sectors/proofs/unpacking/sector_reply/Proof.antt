@@ -1,4 +1,5 @@
 -- `sector_reply` meets its contract.
+-- Rests on: the contracts of done and at_sector.
 -- Assumes nothing.
 use borrow.Author.Needs.{needs}
 use Rattle.sectors.proofs.unpacking.sector_reply.Statement.{statement}

@@ -1,4 +1,6 @@
 -- `unpack` meets its contract: each return is a reply of the definition, in its order.
+-- Rests on: the laws in sector_rules::Base/Unpacked; the contracts of refused, hfe_header_fault, table_fault
+-- and unpack_sectors.
 -- Assumes nothing.
 use mathlib.Core.Path.{sym, _∙_}
 use borrow.Author.Needs.{needs}
@@ -28,7 +30,13 @@ refused-requires-3 : tie.Need-refused-requires-3
 refused-requires-3 c κs = search needs
 
 returns-3 : tie.Need-returns-3
-returns-3 c = let e = header-reply _ _ (c .before .before .before .before .before .before .if1 .left) (c .before .before .before .before .before .if2 .left) _ (sym (c .before .before .before .before .hfe-header-fault .ensures) ∙ c .before .before .o .given .1) in
+returns-3 c =
+    let after-o = c .before .before in
+    let after-hfe-header-fault = after-o .before .before in
+    let else2 = after-hfe-header-fault .before in
+    let else1 = else2 .before in
+    let e = header-reply _ _ (else1 .if1 .left) (else2 .if2 .left) _
+    (sym (after-hfe-header-fault .hfe-header-fault .ensures) ∙ after-o .o .given .1) in
     (c .refused3 .ensures ∙ sym e, sym (image-after _ _ _ e))
 
 enum-told : tie.Need-enum-told
@@ -47,18 +55,42 @@ enum-told-2 : tie.Need-enum-told-2
 enum-told-2 c = search needs
 
 unpack-sectors-requires : tie.Need-unpack-sectors-requires
-unpack-sectors-requires c κs = (sym (c .before .before .before .table-fault .ensures) ∙ c .before .enum-told2 .given .1, c .before .before .before .before .before .before .before .if2 .left)
+unpack-sectors-requires c κs =
+    let after-table-fault = c .before .before .before in
+    let after-hfe-header-fault = after-table-fault .before .before .before in
+    let else2 = after-hfe-header-fault .before in
+    (sym (after-table-fault .table-fault .ensures) ∙ c .before .enum-told2 .given .1, else2 .if2 .left)
 
 returns-4 : tie.Need-returns-4
-returns-4 c = let e = table-reply _ _ (c .before .before .before .before .before .before .before .before .before .if1 .left) (c .before .before .before .before .before .before .before .before .if2 .left) (sym (c .before .before .before .before .before .before .before .hfe-header-fault .ensures) ∙ c .before .before .before .before .before .enum-told .given .1) _ (sym (c .before .before .before .before .table-fault .ensures) ∙ c .before .before .t .given .1) in
+returns-4 c =
+    let after-t = c .before .before in
+    let after-table-fault = after-t .before .before in
+    let after-enum-told = after-table-fault .before in
+    let after-hfe-header-fault = after-enum-told .before .before in
+    let else2 = after-hfe-header-fault .before in
+    let else1 = else2 .before in
+    let e = table-reply _ _ (else1 .if1 .left) (else2 .if2 .left)
+    (sym (after-hfe-header-fault .hfe-header-fault .ensures) ∙ after-enum-told .enum-told .given .1) _
+    (sym (after-table-fault .table-fault .ensures) ∙ after-t .t .given .1) in
     (c .refused4 .ensures ∙ sym e, sym (image-after _ _ _ e))
 
 same-length : tie.Need-same-length
 same-length c = search needs
 
 returns-5 : tie.Need-returns-5
-returns-5 c = let e = sound-reply _ _ (c .before .before .before .before .before .before .before .before .before .before .before .if1 .left) (c .before .before .before .before .before .before .before .before .before .before .if2 .left) (sym (c .before .before .before .before .before .before .before .before .before .hfe-header-fault .ensures) ∙ c .before .before .before .before .before .before .before .enum-told .given .1) (sym (c .before .before .before .before .before .before .table-fault .ensures) ∙ c .before .before .before .before .enum-told2 .given .1) in
-    (c .before .before .unpack-sectors .ensures .answer ∙ sym e, c .before .before .unpack-sectors .ensures .after ∙ sym (image-after _ _ _ e))
+returns-5 c =
+    let after-unpack-sectors = c .before .before in
+    let unpack-sectors = after-unpack-sectors .unpack-sectors in
+    let after-enum-told2 = after-unpack-sectors .before .before in
+    let after-table-fault = after-enum-told2 .before .before in
+    let after-enum-told = after-table-fault .before in
+    let after-hfe-header-fault = after-enum-told .before .before in
+    let else2 = after-hfe-header-fault .before in
+    let else1 = else2 .before in
+    let e = sound-reply _ _ (else1 .if1 .left) (else2 .if2 .left)
+    (sym (after-hfe-header-fault .hfe-header-fault .ensures) ∙ after-enum-told .enum-told .given .1)
+    (sym (after-table-fault .table-fault .ensures) ∙ after-enum-told2 .enum-told2 .given .1) in
+    (unpack-sectors .ensures .answer ∙ sym e, unpack-sectors .ensures .after ∙ sym (image-after _ _ _ e))
 
 pub unpack-spec : {M : Type 1} → statement M
 unpack-spec =

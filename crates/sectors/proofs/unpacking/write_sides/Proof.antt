@@ -1,4 +1,6 @@
 -- `write_sides` meets its contract: the sides below n are written.
+-- Rests on: the laws in Unpacking/Sides and laws::Overlay; the contracts of track_part, track_side and
+-- write_side.
 -- Assumes nothing.
 use mathlib.Core.Path.{_≡_, ap, _∙_}
 use Prim.Native.Nat.{ℕ, _+_, _-_, _*_, _≤_}
@@ -14,7 +16,9 @@ use Rattle.sectors.proofs.unpacking.write_sides.Statement.{statement}
 use Rattle.sectors.proofs.unpacking.write_sides.Tie as tie
 
 abbrev Inv-loop : tie.InvT-loop
-Inv-loop hfe places image₀ n₀ image n = (n ≤ tracks * sides) × (length image ≡ imageBytes) × (image ≡ overlay image₀ 0 (sectorBytes * (sectors * n)) (unpackedByte hfe))
+Inv-loop hfe places image₀ n₀ image n =
+    (n ≤ tracks * sides) × (length image ≡ imageBytes) ×
+    (image ≡ overlay image₀ 0 (sectorBytes * (sectors * n)) (unpackedByte hfe))
 
 abbrev μ-loop : tie.MeasureT-loop
 μ-loop hfe places image₀ n₀ image n = tracks * sides - n
@@ -41,23 +45,38 @@ loop-less : tie.Need-loop-less Inv-loop μ-loop
 loop-less c = omega arith
 
 loop-again : tie.Need-loop-again Inv-loop μ-loop
-loop-again c = let h = c .before .before .before .before .before .before .before .before .before .before .before .args .hfe .now in
-    let n = c .before .before .before .before .before .before .before .loop .n in
+loop-again c =
+    let after-write-side = c .before .before in
+    let write-side = after-write-side .write-side in
+    let after-track-side = after-write-side .before .before in
+    let after-track-part = after-track-side .before in
+    let at-loop = after-track-part .before .before in
+    let loop = at-loop .loop in
+    let after-shared-slice-known = at-loop .before .before .before in
+    let start = after-shared-slice-known .before in
+    let h = start .args .hfe .now in
+    let n = loop .n in
     let q : sectorBytes * (sectors * n) + sectorBytes * sectors ≡ sectorBytes * (sectors * (n + 1)) = omega arith in (
       omega arith,
-      ap length (c .before .before .write-side .ensures) ∙ overlay-length _ _ _ _ ∙ c .before .before .before .before .before .before .before .loop .inv .1,
-      c .before .before .write-side .ensures
-          ∙ overlay-next _ (sectorBytes * (sectors * n)) (sectorBytes * sectors) _ (unpackedByte h) _ (c .before .before .before .before .before .before .before .loop .inv .2)
-          (side-byte h n _ _ (c .before .before .before .before .before .track-part .ensures) (c .before .before .before .before .track-side .ensures) _ (c .before .before .before .before .before .before .before .before .before .before .before .pre .3 .each) (omega arith))
-          ∙ ap (λ (j : ℕ). overlay (c .before .before .before .before .before .before .before .before .before .before .before .args .image .now) 0 j (unpackedByte h)) q,
+      ap length (write-side .ensures) ∙ overlay-length _ _ _ _ ∙ loop .inv .1,
+      write-side .ensures ∙ overlay-next
+          _ (sectorBytes * (sectors * n)) (sectorBytes * sectors) _ (unpackedByte h) _ (loop .inv .2)
+          (side-byte h n _ _ (after-track-part .track-part .ensures) (after-track-side .track-side .ensures) _
+          (start .pre .3 .each) (omega arith)) ∙
+          ap (λ (j : ℕ). overlay (start .args .image .now) 0 j (unpackedByte h)) q,
     )
 
 same-length : tie.Need-same-length Inv-loop μ-loop
 same-length c = search needs
 
 returns : tie.Need-returns Inv-loop μ-loop
-returns c = let e : sectorBytes * (sectors * c .before .loop .n) ≡ imageBytes = omega arith in
-    c .before .loop .inv .2 ∙ rw e (overlay-all _ _ _ (c .before .before .before .before .before .pre .2))
+returns c =
+    let at-loop = c .before in
+    let loop = at-loop .loop in
+    let after-shared-slice-known = at-loop .before .before .before in
+    let start = after-shared-slice-known .before in
+    let e : sectorBytes * (sectors * loop .n) ≡ imageBytes = omega arith in
+    loop .inv .2 ∙ rw e (overlay-all _ _ _ (start .pre .2))
 
 pub write-sides-spec : {M : Type 1} → statement M
 write-sides-spec =

@@ -1,4 +1,5 @@
 -- `bit_before` meets its contract.
+-- Rests on: the laws in cells::Written; the contracts of side_item and cells::last_bit.
 -- Assumes nothing.
 use mathlib.Core.Path.{sym, _∙_}
 use native.Mathlib.Omega.{arith}

@@ -1,4 +1,5 @@
 -- `field_byte` meets its contract.
+-- Rests on: the laws in Packing/Items; the contract of cells::crc_row.
 -- Assumes nothing.
 use mathlib.Core.Path.{_≡_, sym}
 use Prim.Native.Nat.{_+_, _-_}
@@ -52,16 +53,26 @@ cast-result-2 : tie.Need-cast-result-2
 cast-result-2 c = search needs
 
 returns-3 : tie.Need-returns-3
-returns-3 c = let image = c .before .before .before .before .before .before .before .before .args .image .now in
-    let at = c .before .before .before .before .before .before .before .before .args .at in
+returns-3 c =
+    let after-crc-row = c .before .before .before in
+    let else1 = after-crc-row .before .before .before in
+    let start = else1 .before .before in
+    let image = start .args .image .now in
+    let at = start .args .at in
     let e : at + sectorBytes - at ≡ sectorBytes = omega arith in
-    rw (c .before .crc-row2 .ensures, c .before .before .before .crc-row .ensures, e, field-crc image at (omega arith)) (sym (row-high image at _ (omega arith)))
+    rw (c .before .crc-row2 .ensures, after-crc-row .crc-row .ensures, e, field-crc image at (omega arith))
+    (sym (row-high image at _ (omega arith)))
 
 returns-4 : tie.Need-returns-4
-returns-4 c = let image = c .before .before .before .before .before .before .before .before .args .image .now in
-    let at = c .before .before .before .before .before .before .before .before .args .at in
+returns-4 c =
+    let after-crc-row = c .before .before .before in
+    let else1 = after-crc-row .before .before .before in
+    let start = else1 .before .before in
+    let image = start .args .image .now in
+    let at = start .args .at in
     let e : at + sectorBytes - at ≡ sectorBytes = omega arith in
-    rw (c .before .crc-row2 .ensures, c .before .before .before .crc-row .ensures, e, field-crc image at (omega arith)) (sym (row-low image at _ (omega arith)))
+    rw (c .before .crc-row2 .ensures, after-crc-row .crc-row .ensures, e, field-crc image at (omega arith))
+    (sym (row-low image at _ (omega arith)))
 
 pub field-byte-spec : {M : Type 1} → statement M
 field-byte-spec =

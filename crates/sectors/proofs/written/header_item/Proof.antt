@@ -1,4 +1,5 @@
 -- `header_item` meets its contract.
+-- Rests on: the laws in sector_rules::Base/Packed; the contract of sector_header_byte.
 -- Assumes nothing.
 use mathlib.Core.Path.{sym, ap, _∙_}
 use native.Mathlib.Omega.{arith}

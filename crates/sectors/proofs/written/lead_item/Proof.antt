@@ -1,4 +1,5 @@
 -- `lead_item` meets its contract.
+-- Rests on: the laws in Packing/Items.
 -- Assumes nothing.
 use mathlib.Core.Path.{sym}
 use native.Mathlib.Omega.{arith}

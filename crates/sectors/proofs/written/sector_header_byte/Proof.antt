@@ -1,4 +1,5 @@
 -- `sector_header_byte` meets its contract.
+-- Rests on: the laws in Packing/Items and sector_rules::Base/Packed; the contract of cells::crc_row.
 -- Assumes nothing.
 use mathlib.Core.Path.{sym}
 use native.Mathlib.Omega.{arith}

@@ -1,4 +1,6 @@
 -- `sector_item` meets its contract.
+-- Rests on: the laws in Packing/Items and sector_rules::Base/Packed; the contracts of header_item, sector_start
+-- and field_byte.
 -- Assumes nothing.
 use mathlib.Core.Path.{sym, ap, _∙_}
 use native.Mathlib.Omega.{arith}

@@ -1,4 +1,6 @@
 -- `side_item` meets its contract.
+-- Rests on: the laws in Packing/Items and sector_rules::Base/Packed; the contracts of lead_item and
+-- sector_item.
 -- Assumes nothing.
 use mathlib.Core.Path.{sym, _∙_}
 use native.Mathlib.Omega.{arith}

@@ -1,4 +1,6 @@
 -- `write_items` meets its contract: the items below i are written, and the bit before item i is known.
+-- Rests on: the laws in Packing/Runs and laws::Overlay; the contracts of bit_before, side_item,
+-- cells::item_byte and cells::last_bit.
 -- Assumes nothing.
 use mathlib.Core.Path.{_≡_, refl, _∙_}
 use Prim.Native.Nat.{_+_, _-_, _*_, _≤_}
@@ -14,7 +16,9 @@ use Rattle.sectors.proofs.written.write_items.Statement.{statement}
 use Rattle.sectors.proofs.written.write_items.Tie as tie
 
 abbrev Inv-loop : tie.InvT-loop
-Inv-loop image t s first n hfe₀ at before₀ i₀ hfe before i = (i ≤ n) × (length hfe ≡ length hfe₀) × (before ≡ bitBefore (imageSide image t s) (first + i)) × (hfe ≡ overlay hfe₀ at (2 * i) (itemsByte (imageSide image t s) first))
+Inv-loop image t s first n hfe₀ at before₀ i₀ hfe before i =
+    (i ≤ n) × (length hfe ≡ length hfe₀) × (before ≡ bitBefore (imageSide image t s) (first + i)) ×
+    (hfe ≡ overlay hfe₀ at (2 * i) (itemsByte (imageSide image t s) first))
 
 abbrev μ-loop : tie.MeasureT-loop
 μ-loop image t s first n hfe₀ at before₀ i₀ hfe before i = n - i
@@ -69,18 +73,28 @@ loop-less : tie.Need-loop-less Inv-loop μ-loop
 loop-less c = omega arith
 
 loop-again : tie.Need-loop-again Inv-loop μ-loop
-loop-again c = (
-  omega arith,
-  simp length-set (c .before .before .before .before .before .loop .inv .1),
-  c .last-bit .ensures ∙ bit-next _ _ _ _ (c .before .before .before .before .before .loop .inv .2) (c .before .before .before .side-item .ensures) _ (omega arith),
-  items-more _ _ _ _ (c .before .before .before .before .before .loop .inv .2) (c .before .before .before .side-item .ensures) _ _ _ _ _ _ _ refl (omega arith) (c .before .before .before .before .before .loop .inv .3) (c .before .before .item-byte .ensures) (c .before .item-byte2 .ensures),
-)
+loop-again c =
+    let after-item-byte = c .before .before in
+    let after-side-item = after-item-byte .before in
+    let side-item = after-side-item .side-item in
+    let at-loop = after-side-item .before .before in
+    let loop = at-loop .loop in (
+      omega arith,
+      simp length-set (loop .inv .1),
+      c .last-bit .ensures ∙ bit-next _ _ _ _ (loop .inv .2) (side-item .ensures)
+          _ (omega arith),
+      items-more _ _ _ _ (loop .inv .2) (side-item .ensures) _ _ _ _ _ _ _ refl (omega arith) (loop .inv .3)
+          (after-item-byte .item-byte .ensures) (c .before .item-byte2 .ensures),
+    )
 
 same-length : tie.Need-same-length Inv-loop μ-loop
 same-length c = search needs
 
 returns : tie.Need-returns Inv-loop μ-loop
-returns c = let e : c .before .loop .i ≡ c .before .before .before .before .before .args .n = omega arith in rw e at (c .before .loop .inv .3)
+returns c =
+    let after-bit-before = c .before .before in
+    let start = after-bit-before .before .before .before in
+    let e : c .before .loop .i ≡ start .args .n = omega arith in rw e at (c .before .loop .inv .3)
 
 pub write-items-spec : {M : Type 1} → statement M
 write-items-spec =
