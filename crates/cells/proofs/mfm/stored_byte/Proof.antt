@@ -18,9 +18,11 @@ Inv-loop p item start v₀ j₀ v j = (j ≤ 8) × (v ≡ packedBits (itemCell p
 abbrev μ-loop : tie.MeasureT-loop
 μ-loop p item start v₀ j₀ v j = 8 - j
 
-step : (c : tie.After-item-cell Inv-loop μ-loop)
-    → c .item-cell .result * 2 ^ c .before .before .loop .j % 256 + c .before .before .loop .v
-    ≡ packedBits (itemCell (c .before .before .before .args .p) (c .before .before .before .args .item)) (c .before .before .before .args .start) (c .before .before .loop .j + 1)
+step : (c : tie.After-item-cell Inv-loop μ-loop) →
+    let loop = c .before .before .loop in
+    let args = c .before .before .before .args in
+    c .item-cell .result * 2 ^ loop .j % 256 + loop .v
+    ≡ packedBits (itemCell (args .p) (args .item)) (args .start) (loop .j + 1)
 step c = packed-step _ (itemCell-bit _ _) _ _ (omega arith) _ _ (c .item-cell .ensures) (c .before .before .loop .inv .1)
 
 loop-holds : tie.Need-loop-holds Inv-loop μ-loop

@@ -11,8 +11,10 @@ use Rattle.cells.specs.Laws.Stream.{stream-in, stream-out, stream-past, 
 use Rattle.cells.proofs.stream.cell.Statement.{statement}
 use Rattle.cells.proofs.stream.cell.Tie as tie
 
-product : (c : tie.After-struct-known3)
-    → c .before .before .before .before .args .side .stride * (c .before .before .before .before .args .i / 8 / 256) < 2 ^ 53
+product : (c : tie.After-struct-known3) →
+    let else1 = c .before .before .before in
+    let args = else1 .before .args in
+    args .side .stride * (args .i / 8 / 256) < 2 ^ 53
 product c = product-fits _ _ (omega arith) (omega arith)
 
 cast-cells : tie.Need-cast-cells

@@ -1,4 +1,6 @@
 -- `add` meets its contract.
+-- Rests on: the laws in Judging/Verdict, Writing/InStep, Calling/SoundDisk and file_rules::Base/OnSound; the
+-- contracts of sectors::refused, load_map, judge and add_sound.
 -- Assumes nothing.
 use mathlib.Core.Path.{refl, sym, _∙_}
 use Rattle.file_rules.specs.Calls.{add}
@@ -30,21 +32,44 @@ enum-told : tie.Need-enum-told
 enum-told c = search needs
 
 add-sound-requires : tie.Need-add-sound-requires
-add-sound-requires c κs = let passed = (verdict-none _ (sym (c .before .before .enum-told .given .1) ∙ c .before .before .before .before .judge .ensures)) in (in-step _ _ (c .before .before .before .before .before .before .before .before .before .before .if1 .left) (c .before .before .before .before .before .before .before .load-map .ensures) passed, passed)
+add-sound-requires c κs =
+    let after-enum-told = c .before .before in
+    let after-judge = after-enum-told .before .before in
+    let after-load-map = after-judge .before .before .before in
+    let else1 = after-load-map .before .before .before in
+    let passed = (verdict-none _ (sym (after-enum-told .enum-told .given .1) ∙ after-judge .judge .ensures)) in
+    (in-step _ _ (else1 .if1 .left) (after-load-map .load-map .ensures) passed, passed)
 
 same-length : tie.Need-same-length
 same-length c = search needs
 
 returns-2 : tie.Need-returns-2
 unfolding add
-returns-2 c = wrote-refused _ _ _ _ (sound-refused _ _ _ (c .before .before .before .before .before .before .before .before .before .if1 .left) _ (verdict-some _ _ (sym (c .before .r .given .1) ∙ c .before .before .before .judge .ensures))) refl
+returns-2 c =
+    let after-judge = c .before .before .before in
+    let after-load-map = after-judge .before .before .before in
+    let else1 = after-load-map .before .before .before in
+    wrote-refused _ _ _ _
+    (sound-refused _ _ _ (else1 .if1 .left) _ (verdict-some _ _ (sym (c .before .r .given .1) ∙ after-judge .judge .ensures)))
+    refl
 
 same-length-2 : tie.Need-same-length-2
 same-length-2 c = search needs
 
 returns-3 : tie.Need-returns-3
 unfolding add
-returns-3 c = wrote-gave _ _ _ _ (sound-passed _ _ _ (c .before .before .before .before .before .before .before .before .before .before .before .before .before .if1 .left) (verdict-none _ (sym (c .before .before .before .before .before .enum-told .given .1) ∙ c .before .before .before .before .before .before .before .judge .ensures))) (c .before .before .add-sound .ensures)
+returns-3 c =
+    let after-add-sound = c .before .before in
+    let after-enum-told = after-add-sound .before .before .before in
+    let after-judge = after-enum-told .before .before in
+    let after-load-map = after-judge .before .before .before in
+    let else1 = after-load-map .before .before .before in
+    wrote-gave _ _ _ _ (sound-passed _ _ _ (else1 .if1 .left)
+    (verdict-none _ (sym (after-enum-told .enum-told .given .1) ∙ after-judge .judge .ensures)))
+    (after-add-sound .add-sound .ensures)
 
 pub add-spec : {M : Type 1} → statement M
-add-spec = tie.close (tie.spec refused-requires returns load-map-requires judge-requires enum-known-r enum-told add-sound-requires same-length returns-2 same-length-2 returns-3)
+add-spec =
+    tie.close
+    (tie.spec refused-requires returns load-map-requires judge-requires enum-known-r enum-told add-sound-requires same-length
+    returns-2 same-length-2 returns-3)

@@ -1,4 +1,5 @@
 -- `blocks_for` meets its contract.
+-- Rests on: the contract of blocks_of.
 -- Assumes nothing.
 use Prim.Native.Nat.{_-_}
 use native.Mathlib.Omega.{arith}

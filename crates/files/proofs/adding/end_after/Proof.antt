@@ -1,4 +1,5 @@
 -- `end_after` meets its contract.
+-- Rests on: the laws in Calling/Changed; the contract of set_end.
 -- Assumes nothing.
 use Prim.Native.Nat.{_-_}
 use borrow.Author.Needs.{needs}
@@ -19,7 +20,10 @@ same-length : tie.Need-same-length
 same-length c = search needs
 
 returns-2 : tie.Need-returns-2
-returns-2 c = end-grown _ _ _ _ (c .before .before .before .before .if1 .left) (c .before .before .set-end .ensures)
+returns-2 c =
+    let after-set-end = c .before .before in
+    let else1 = after-set-end .before .before in
+    end-grown _ _ _ _ (else1 .if1 .left) (after-set-end .set-end .ensures)
 
 pub end-after-spec : {M : Type 1} → statement M
 end-after-spec = tie.close (tie.spec returns add-set-end set-end-requires same-length returns-2)

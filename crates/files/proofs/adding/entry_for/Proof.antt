@@ -1,4 +1,5 @@
 -- `entry_for` meets its contract.
+-- Rests on: the laws in Calling/SoundDisk; the contract of fields::copy_into.
 -- Assumes nothing.
 use mathlib.Core.Path.{refl}
 use Prim.Native.Nat.{_-_}

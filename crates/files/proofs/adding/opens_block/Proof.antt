@@ -1,4 +1,5 @@
 -- `opens_block` meets its contract.
+-- Rests on: the laws in Calling/SoundDisk; the contract of dir_end.
 -- Assumes nothing.
 use Prim.Native.Nat.{_-_}
 use borrow.Author.Needs.{needs}

@@ -1,4 +1,5 @@
 -- `block_byte` meets its contract.
+-- Rests on: the laws in Loading/Blocks; the contracts of byte_place and fields::byte.
 -- Assumes nothing.
 use mathlib.Core.Path.{sym, _∙_}
 use native.Mathlib.Omega.{arith}

@@ -1,4 +1,5 @@
 -- `block_word2` meets its contract.
+-- Rests on: the laws in laws::Numbers; the contract of wide.
 -- Assumes nothing.
 use borrow.Author.Needs.{needs}
 use Rattle.laws.specs.Laws.Numbers.{at16-is}

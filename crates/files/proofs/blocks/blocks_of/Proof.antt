@@ -1,4 +1,5 @@
 -- `blocks_of` meets its contract.
+-- Rests on: arithmetic alone.
 -- Assumes nothing.
 use mathlib.Core.Path.{refl}
 use Prim.Native.Nat.{_-_}

@@ -1,4 +1,5 @@
 -- `byte_place` meets its contract.
+-- Rests on: the laws in sector_rules::Base/Geometry.
 -- Assumes nothing.
 use Prim.Native.Nat.{_-_, _<_}
 use native.Mathlib.Omega.{arith}
@@ -9,7 +10,9 @@ use Rattle.files.proofs.blocks.byte_place.Statement.{statement}
 use Rattle.files.proofs.blocks.byte_place.Tie as tie
 
 bound : (c : tie.After-struct-known) → c .before .place .result .0 < 1440
-bound c = let h : c .before .before .running .result .0 < 1440 = omega (arith, c .before .before .running .ensures) in rw (c .before .place .ensures) (image-lt _ h)
+bound c =
+    let h : c .before .before .running .result .0 < 1440 = omega (arith, c .before .before .running .ensures) in
+    rw (c .before .place .ensures) (image-lt _ h)
 
 running-requires : tie.Need-running-requires
 running-requires c κs = search needs

@@ -1,4 +1,5 @@
 -- `run_place` meets its contract.
+-- Rests on: the laws in Writing/Rows and laws::Tests; the contract of byte_place.
 -- Assumes nothing.
 use mathlib.Core.Path.{sym, _∙_}
 use Prim.Native.Nat.{_-_}

@@ -1,4 +1,5 @@
 -- `first_block` meets its contract.
+-- Rests on: the laws in Loading/Chains and laws::Tests; the contract of block_number.
 -- Assumes nothing.
 use mathlib.Core.Path.{sym, _∙_}
 use Rattle.laws.specs.Laws.Tests.{lt-true, lt-false, cond-true, cond-false}

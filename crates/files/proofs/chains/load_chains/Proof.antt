@@ -1,4 +1,5 @@
 -- `load_chains` meets its contract: the last i blocks are chained.
+-- Rests on: the laws in Loading/Chains; the contracts of map_record and bearer.
 -- Assumes nothing.
 use mathlib.Core.Path.{_≡_}
 use Prim.Native.Nat.{_-_, _≤_}
@@ -58,7 +59,13 @@ loop-less : tie.Need-loop-less Inv-loop μ-loop
 loop-less c = omega arith
 
 loop-again : tie.Need-loop-again Inv-loop μ-loop
-loop-again c = (omega arith, chain-more _ _ _ _ _ _ (omega arith) (omega arith) (omega arith) (c .before .before .before .before .loop .inv .1) _ (rw (c .before .before .map-record .ensures) at (c .before .bearer .ensures)))
+loop-again c =
+    let after-map-record = c .before .before in
+    let at-loop = after-map-record .before .before in (
+      omega arith,
+      chain-more _ _ _ _ _ _ (omega arith) (omega arith) (omega arith) (at-loop .loop .inv .1) _
+          (rw (after-map-record .map-record .ensures) at (c .before .bearer .ensures)),
+    )
 
 returns : tie.Need-returns Inv-loop μ-loop
 returns c = let e : blocks - c .before .loop .i ≡ 0 = omega arith in rw e at (c .before .loop .inv .1)

@@ -1,4 +1,6 @@
 -- `file_fault` meets its contract: the files below f are sound.
+-- Rests on: the laws in Loading/NameHashes, Loading/Tally, Loading/Parts, Loading/Chains, Loading/Slots and
+-- Judging/Sound; the contracts of file_blocks, load_chains, dir_end, judged_end, tally_names and file_right.
 -- Assumes nothing.
 use borrow.Author.Count.{below-none, below-more}
 use Rattle.sector_rules.specs.Geometry.{blocks}
@@ -39,16 +41,54 @@ judged-end-requires : tie.Need-judged-end-requires Inv-loop μ-loop
 judged-end-requires c κs = search needs
 
 tally-names-requires : tie.Need-tally-names-requires Inv-loop μ-loop
-tally-names-requires c κs = (c .before .before .before .before .before .before .before .before .before .before .pre .0, c .before .judged-end .ensures .1, located-directory _ _ _ (c .before .before .before .before .before .before .before .before .before .before .pre .1) (c .before .before .before .before .before .before .before .file-blocks .ensures), tally-none (suc hashCount) _)
+tally-names-requires c κs =
+    let after-dir-end = c .before .before .before in
+    let after-load-chains = after-dir-end .before in
+    let after-file-blocks = after-load-chains .before .before .before in
+    let start = after-file-blocks .before .before .before in (
+      start .pre .0,
+      c .before .judged-end .ensures .1,
+      located-directory _ _ _ (start .pre .1)
+          (after-file-blocks .file-blocks .ensures),
+      tally-none (suc hashCount) _,
+    )
 
 loop-holds : tie.Need-loop-holds Inv-loop μ-loop
 loop-holds c = (omega arith, below-none _)
 
 file-right-requires : tie.Need-file-right-requires Inv-loop μ-loop
-file-right-requires c κs = (record { long = c .before .before .before .before .before .before .before .before .before .before .before .before .before .before .before .before .before .pre .0; loadedMap = c .before .before .before .before .before .before .before .before .before .before .before .before .before .before .before .before .before .pre .1; loadedDirectory = located-directory _ _ _ (c .before .before .before .before .before .before .before .before .before .before .before .before .before .before .before .before .before .pre .1) (c .before .before .before .before .before .before .before .before .before .before .before .before .before .before .file-blocks .ensures); loadedChains = c .before .before .before .before .before .before .before .before .before .before .before .load-chains .ensures; talliedNames = rw (c .before .before .before .before .before .before .before .before .judged-end .ensures .0, c .before .before .before .before .before .before .before .before .before .before .dir-end .ensures .0) at (c .before .before .before .before .before .before .tally-names .ensures) }, omega arith, c .before .before .before .before .before .before .before .before .before .before .dir-end .ensures .0)
+file-right-requires c κs =
+    let after-dir3 = c .before .before .before in
+    let after-tally-names = after-dir3 .before .before .before in
+    let after-judged-end = after-tally-names .before .before in
+    let after-dir-end = after-judged-end .before .before in
+    let dir-end = after-dir-end .dir-end in
+    let after-load-chains = after-dir-end .before in
+    let after-file-blocks = after-load-chains .before .before .before in
+    let start = after-file-blocks .before .before .before in (
+      record {
+        long = start .pre .0;
+        loadedMap = start .pre .1;
+        loadedDirectory = located-directory _ _ _ (start .pre .1)
+            (after-file-blocks .file-blocks .ensures);
+        loadedChains = after-load-chains .load-chains .ensures;
+        talliedNames = rw
+            (after-judged-end .judged-end .ensures .0, dir-end .ensures .0) at (after-tally-names .tally-names .ensures);
+      },
+      omega
+          arith,
+      dir-end .ensures .0,
+    )
 
 returns : tie.Need-returns Inv-loop μ-loop
-returns c = (fault-here _ _ (omega arith) (c .before .before .before .before .before .before .before .loop .inv .1) (ap not (sym (c .before .file-right .ensures)) ∙ c .if1 .taken), omega arith)
+returns c =
+    let after-file-right = c .before in
+    let after-first2 = after-file-right .before .before .before in
+    let at-loop = after-first2 .before .before .before in (
+      fault-here _ _ (omega arith) (at-loop .loop .inv .1)
+          (ap not (sym (after-file-right .file-right .ensures)) ∙ c .if1 .taken),
+      omega arith,
+    )
 
 add-f : tie.Need-add-f Inv-loop μ-loop
 add-f c = search needs
@@ -57,7 +97,14 @@ loop-less : tie.Need-loop-less Inv-loop μ-loop
 loop-less c = omega arith
 
 loop-again : tie.Need-loop-again Inv-loop μ-loop
-loop-again c = (omega arith, below-more _ _ (c .before .before .before .before .before .before .before .loop .inv .1) (ap not (sym (c .before .file-right .ensures)) ∙ c .if1 .left))
+loop-again c =
+    let after-file-right = c .before in
+    let after-first2 = after-file-right .before .before .before in
+    let at-loop = after-first2 .before .before .before in (
+      omega arith,
+      below-more _ _ (at-loop .loop .inv .1)
+          (ap not (sym (after-file-right .file-right .ensures)) ∙ c .if1 .left),
+    )
 
 returns-2 : tie.Need-returns-2 Inv-loop μ-loop
 returns-2 c = (file-fault-none _ (λ j h. c .before .loop .inv .1 j (omega arith)), omega arith)

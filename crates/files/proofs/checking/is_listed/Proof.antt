@@ -1,4 +1,5 @@
 -- `is_listed` meets its contract.
+-- Rests on: the laws in laws::Tests; the contract of held_slot.
 -- Assumes nothing.
 use mathlib.Core.Path.{sym, ap, _∙_}
 use mathlib.Core.Bool.{Bool, _&&_}
@@ -14,7 +15,11 @@ held-slot-requires : tie.Need-held-slot-requires
 held-slot-requires c κs = search needs
 
 returns : tie.Need-returns
-returns c = c .held-slot .ensures ∙ sym (ap (λ (b : Bool). b && held (diskOf (c .before .before .before .args .image .now)) (c .before .before .before .args .f)) (lt-true (c .before .if1 .taken)))
+returns c =
+    c .held-slot .ensures ∙
+    sym (ap
+    (λ (b : Bool). b && held (diskOf (c .before .before .before .args .image .now)) (c .before .before .before .args .f))
+    (lt-true (c .before .if1 .taken)))
 
 returns-2 : tie.Need-returns-2
 returns-2 c = sym (ap (λ (b : Bool). b && held (diskOf (c .before .before .args .image .now)) (c .before .before .args .f)) (lt-false (c .if1 .left)))

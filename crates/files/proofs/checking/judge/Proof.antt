@@ -1,4 +1,6 @@
 -- `judge` meets its contract.
+-- Rests on: the laws in Judging/Verdict and Judging/Sound; the contracts of judge_header, judge_map,
+-- judge_files and judge_free.
 -- Assumes nothing.
 use mathlib.Core.Path.{sym, ap, _∙_}
 use Rattle.files.specs.Laws.Judging.Verdict.{verdictOf}
@@ -26,7 +28,13 @@ enum-known-r-2 : tie.Need-enum-known-r-2
 enum-known-r-2 c = search needs
 
 returns-2 : tie.Need-returns-2
-returns-2 c = disk-refusal-map _ (sym (c .before .before .before .before .enum-told .given .1) ∙ c .before .before .before .before .before .before .judge-header .ensures) _ (sym (c .before .r2 .given .1) ∙ c .before .before .before .judge-map .ensures ∙ ap verdictOf (refusal-loaded _ _ (c .before .before .before .before .before .before .before .before .pre .1)))
+returns-2 c =
+    let after-judge-map = c .before .before .before in
+    let after-enum-told = after-judge-map .before in
+    let after-judge-header = after-enum-told .before .before in
+    let start = after-judge-header .before .before in
+    disk-refusal-map _ (sym (after-enum-told .enum-told .given .1) ∙ after-judge-header .judge-header .ensures) _
+    (sym (c .before .r2 .given .1) ∙ after-judge-map .judge-map .ensures ∙ ap verdictOf (refusal-loaded _ _ (start .pre .1)))
 
 enum-told-2 : tie.Need-enum-told-2
 enum-told-2 c = search needs
@@ -44,10 +52,33 @@ judge-free-requires : tie.Need-judge-free-requires
 judge-free-requires c κs = search needs
 
 returns-3 : tie.Need-returns-3
-returns-3 c = disk-refusal-files _ (sym (c .before .before .before .before .before .before .before .enum-told .given .1) ∙ c .before .before .before .before .before .before .before .before .before .judge-header .ensures) (sym (c .before .before .before .before .enum-told2 .given .1) ∙ c .before .before .before .before .before .before .judge-map .ensures ∙ ap verdictOf (refusal-loaded _ _ (c .before .before .before .before .before .before .before .before .before .before .before .pre .1))) _ (sym (c .before .r3 .given .1) ∙ c .before .before .before .judge-files .ensures)
+returns-3 c =
+    let after-judge-files = c .before .before .before in
+    let after-enum-told2 = after-judge-files .before in
+    let after-judge-map = after-enum-told2 .before .before in
+    let after-enum-told = after-judge-map .before in
+    let after-judge-header = after-enum-told .before .before in
+    let start = after-judge-header .before .before in
+    disk-refusal-files _ (sym (after-enum-told .enum-told .given .1) ∙ after-judge-header .judge-header .ensures)
+    (sym (after-enum-told2 .enum-told2 .given .1) ∙ after-judge-map .judge-map .ensures ∙
+    ap verdictOf (refusal-loaded _ _ (start .pre .1)))
+    _ (sym (c .before .r3 .given .1) ∙ after-judge-files .judge-files .ensures)
 
 returns-4 : tie.Need-returns-4
-returns-4 c = disk-refusal-free _ (sym (c .before .before .before .before .before .before .before .enum-told .given .1) ∙ c .before .before .before .before .before .before .before .before .before .judge-header .ensures) (sym (c .before .before .before .before .enum-told2 .given .1) ∙ c .before .before .before .before .before .before .judge-map .ensures ∙ ap verdictOf (refusal-loaded _ _ (c .before .before .before .before .before .before .before .before .before .before .before .pre .1))) _ (c .judge-free .ensures) (sym (c .before .enum-told3 .given .1) ∙ c .before .before .before .judge-files .ensures)
+returns-4 c =
+    let after-judge-files = c .before .before .before in
+    let after-enum-told2 = after-judge-files .before in
+    let after-judge-map = after-enum-told2 .before .before in
+    let after-enum-told = after-judge-map .before in
+    let after-judge-header = after-enum-told .before .before in
+    let start = after-judge-header .before .before in
+    disk-refusal-free _ (sym (after-enum-told .enum-told .given .1) ∙ after-judge-header .judge-header .ensures)
+    (sym (after-enum-told2 .enum-told2 .given .1) ∙ after-judge-map .judge-map .ensures ∙
+    ap verdictOf (refusal-loaded _ _ (start .pre .1)))
+    _ (c .judge-free .ensures) (sym (c .before .enum-told3 .given .1) ∙ after-judge-files .judge-files .ensures)
 
 pub judge-spec : {M : Type 1} → statement M
-judge-spec = tie.close (tie.spec judge-header-requires enum-known-r returns enum-told judge-map-requires enum-known-r-2 returns-2 enum-told-2 judge-files-requires enum-known-r-3 enum-told-3 judge-free-requires returns-3 returns-4)
+judge-spec =
+    tie.close
+    (tie.spec judge-header-requires enum-known-r returns enum-told judge-map-requires enum-known-r-2 returns-2 enum-told-2
+    judge-files-requires enum-known-r-3 enum-told-3 judge-free-requires returns-3 returns-4)

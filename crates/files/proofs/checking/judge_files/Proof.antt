@@ -1,4 +1,5 @@
 -- `judge_files` meets its contract.
+-- Rests on: the laws in Judging/Sound; the contracts of file_fault and sectors::refused.
 -- Assumes nothing.
 use Rattle.files.specs.Laws.Judging.Sound.{refused-files, passed-files}
 use borrow.Author.Needs.{needs}

@@ -1,4 +1,6 @@
 -- `judge_free` meets its contract.
+-- Rests on: the laws in Loading/Loaded and Judging/Sound; the contracts of head_word, count_free and
+-- sectors::refused.
 -- Assumes nothing.
 use mathlib.Core.Path.{_∙_}
 use Rattle.files.specs.Laws.Loading.Loaded.{free-loaded}
@@ -18,13 +20,22 @@ mul-if1 : tie.Need-mul-if1
 mul-if1 c = search needs
 
 returns : tie.Need-returns
-returns c = passed-free _ _ _ (c .before .before .head-word .ensures .0) (c .before .count-free .ensures .0 ∙ free-loaded _ _ (c .before .before .before .before .pre)) (c .if1 .taken)
+returns c =
+    let after-head-word = c .before .before in
+    let start = after-head-word .before .before in
+    passed-free _ _ _ (after-head-word .head-word .ensures .0)
+    (c .before .count-free .ensures .0 ∙ free-loaded _ _ (start .pre)) (c .if1 .taken)
 
 refused-requires : tie.Need-refused-requires
 refused-requires c κs = search needs
 
 returns-2 : tie.Need-returns-2
-returns-2 c = rw (c .refused .ensures) (refused-free _ _ _ (c .before .before .before .head-word .ensures .0) (c .before .before .count-free .ensures .0 ∙ free-loaded _ _ (c .before .before .before .before .before .pre)) (c .before .if1 .left))
+returns-2 c =
+    let after-count-free = c .before .before in
+    let after-head-word = after-count-free .before in
+    let start = after-head-word .before .before in
+    rw (c .refused .ensures) (refused-free _ _ _ (after-head-word .head-word .ensures .0)
+    (after-count-free .count-free .ensures .0 ∙ free-loaded _ _ (start .pre)) (c .before .if1 .left))
 
 pub judge-free-spec : {M : Type 1} → statement M
 judge-free-spec =

@@ -1,4 +1,5 @@
 -- `judge_map` meets its contract.
+-- Rests on: the laws in Judging/Sound; the contracts of map_fault and sectors::refused.
 -- Assumes nothing.
 use Rattle.files.specs.Laws.Judging.Sound.{refused-map, passed-map}
 use borrow.Author.Needs.{needs}

@@ -1,4 +1,5 @@
 -- `entry_has_name` meets its contract: the first i bytes are equal.
+-- Rests on: the laws in Loading/Slots; the contracts of name_length and fields::byte.
 -- Assumes nothing.
 use mathlib.Core.Path.{_≡_, sym, _∙_}
 use Prim.Native.Nat.{ℕ, _+_, _-_, _≤_, _<_}
@@ -37,7 +38,15 @@ shared-slice-read-if2 c = search needs
 
 returns-2 : tie.Need-returns-2 Inv-loop μ-loop
 unfolding elementAt
-returns-2 c = name-other (c .before .before .before .before .before .before .before .before .before .args .image .now) (c .before .before .before .before .before .before .before .before .before .args .at) (c .before .before .before .before .before .before .before .before .before .args .name .now) (sym (c .before .before .before .before .before .before .name-length .ensures) ∙ c .before .before .before .before .before .if1 .left) (c .before .before .before .before .loop .i) (omega arith) (λ e. c .if2 .taken (c .before .before .byte .ensures ∙ e))
+returns-2 c =
+    let after-byte = c .before .before in
+    let at-loop = after-byte .before .before in
+    let else1 = at-loop .before in
+    let after-name-length = else1 .before in
+    let start = after-name-length .before .before .before in
+    name-other (start .args .image .now) (start .args .at) (start .args .name .now)
+    (sym (after-name-length .name-length .ensures) ∙ else1 .if1 .left) (at-loop .loop .i) (omega arith)
+    (λ e. c .if2 .taken (after-byte .byte .ensures ∙ e))
 
 add-i : tie.Need-add-i Inv-loop μ-loop
 add-i c = search needs
@@ -47,10 +56,15 @@ loop-less c = omega arith
 
 loop-again : tie.Need-loop-again Inv-loop μ-loop
 unfolding elementAt
-loop-again c = (omega arith, below-more _ _ (c .before .before .before .before .loop .inv .1) (sym (c .before .before .byte .ensures) ∙ c .if2 .left))
+loop-again c =
+    let after-byte = c .before .before in
+    let at-loop = after-byte .before .before in
+    (omega arith, below-more _ _ (at-loop .loop .inv .1) (sym (after-byte .byte .ensures) ∙ c .if2 .left))
 
 returns-3 : tie.Need-returns-3 Inv-loop μ-loop
-returns-3 c = name-equal _ _ _ (sym (c .before .before .before .name-length .ensures) ∙ c .before .before .if1 .left) (λ k h. c .before .loop .inv .1 k (omega arith))
+returns-3 c =
+    name-equal _ _ _ (sym (c .before .before .before .name-length .ensures) ∙ c .before .before .if1 .left)
+    (λ k h. c .before .loop .inv .1 k (omega arith))
 
 pub entry-has-name-spec : {M : Type 1} → statement M
 entry-has-name-spec =

@@ -1,4 +1,5 @@
 -- `find_name` meets its contract: no slot below k is held and has the name.
+-- Rests on: the laws in Loading/Slots; the contracts of dir_end and slot_has_name.
 -- Assumes nothing.
 use mathlib.Core.Path.{_≡_, sym, _∙_}
 use Prim.Native.Nat.{ℕ, _-_, _≤_, _<_}
@@ -28,7 +29,11 @@ slot-has-name-requires : tie.Need-slot-has-name-requires Inv-loop μ-loop
 slot-has-name-requires c κs = search needs
 
 returns : tie.Need-returns Inv-loop μ-loop
-returns c = found-at _ _ (c .before .before .before .before .dir-end .ensures .0) _ _ (omega arith) (c .before .before .before .loop .inv .1) (sym (c .before .slot-has-name .ensures) ∙ c .if1 .taken)
+returns c =
+    let at-loop = c .before .before .before in
+    let after-dir-end = at-loop .before in
+    found-at _ _ (after-dir-end .dir-end .ensures .0) _ _ (omega arith) (at-loop .loop .inv .1)
+    (sym (c .before .slot-has-name .ensures) ∙ c .if1 .taken)
 
 add-k : tie.Need-add-k Inv-loop μ-loop
 add-k c = search needs

@@ -1,4 +1,5 @@
 -- `held_slot` meets its contract.
+-- Rests on: the laws in Loading/Slots; the contracts of slot_place and vacant_at.
 -- Assumes nothing.
 use Prim.Native.Nat.{_-_}
 use native.Mathlib.Omega.{arith}
@@ -17,7 +18,11 @@ vacant-at-requires : tie.Need-vacant-at-requires
 vacant-at-requires c κs = search needs
 
 returns-2 : tie.Need-returns-2
-returns-2 c = rw (c .vacant-at .ensures, c .before .slot-place .ensures .0) (held-row _ _ _ (c .before .before .before .before .pre .0) (c .before .before .before .before .pre .1) (c .before .before .before .before .pre .2) (omega arith))
+returns-2 c =
+    let after-slot-place = c .before in
+    let start = after-slot-place .before .before .before in
+    rw (c .vacant-at .ensures, after-slot-place .slot-place .ensures .0)
+    (held-row _ _ _ (start .pre .0) (start .pre .1) (start .pre .2) (omega arith))
 
 pub held-slot-spec : {M : Type 1} → statement M
 held-slot-spec = tie.close (tie.spec returns slot-place-requires vacant-at-requires returns-2)

@@ -1,4 +1,5 @@
 -- `name_at` meets its contract: the first i bytes are copied.
+-- Rests on: the laws in Loading/Slots and laws::Tab; the contract of fields::byte.
 -- Assumes nothing.
 use mathlib.Core.Path.{_≡_, refl}
 use Prim.Native.Nat.{ℕ, _-_, _≤_, _<_}
@@ -36,7 +37,15 @@ loop-less c = omega arith
 
 loop-again : tie.Need-loop-again Inv-loop μ-loop
 unfolding elementAt
-loop-again c = (omega arith, simp length-set (c .before .before .loop .inv .1), parts-more (c .before .before .loop .name) (elementAt (c .before .before .before .before .args .image .now) (c .before .before .before .before .args .at)) (c .before .before .loop .i) _ (omega arith) (c .before .before .loop .inv .2) (c .byte .ensures))
+loop-again c =
+    let at-loop = c .before .before in
+    let loop = at-loop .loop in
+    let start = at-loop .before .before in (
+      omega arith,
+      simp length-set (loop .inv .1),
+      parts-more (loop .name)
+          (elementAt (start .args .image .now) (start .args .at)) (loop .i) _ (omega arith) (loop .inv .2) (c .byte .ensures),
+    )
 
 returns : tie.Need-returns Inv-loop μ-loop
 returns c = eq-tab _ _ nameMost (c .before .loop .inv .1) (λ k h. c .before .loop .inv .2 k (omega arith))

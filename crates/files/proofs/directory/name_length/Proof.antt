@@ -1,4 +1,5 @@
 -- `name_length` meets its contract.
+-- Rests on: the laws in Loading/Slots; the contract of fields::high2.
 -- Assumes nothing.
 use mathlib.Core.Path.{_≡_, _∙_}
 use Prim.Native.Nat.{_-_}
@@ -20,10 +21,18 @@ cast-stored : tie.Need-cast-stored
 cast-stored c = search needs
 
 returns : tie.Need-returns
-returns c = let e : c .before .high2 .result ≡ at16 (elementAt (c .before .before .before .args .image .now) (c .before .before .before .args .at)) 14 = c .before .high2 .ensures ∙ word2-row _ _ 14 in omega arith
+returns c =
+    let e : c .before .high2 .result ≡ at16
+    (elementAt (c .before .before .before .args .image .now) (c .before .before .before .args .at)) 14 =
+    c .before .high2 .ensures ∙ word2-row _ _ 14 in
+    omega arith
 
 returns-2 : tie.Need-returns-2
-returns-2 c = let e : c .before .high2 .result ≡ at16 (elementAt (c .before .before .before .args .image .now) (c .before .before .before .args .at)) 14 = c .before .high2 .ensures ∙ word2-row _ _ 14 in omega arith
+returns-2 c =
+    let e : c .before .high2 .result ≡ at16
+    (elementAt (c .before .before .before .args .image .now) (c .before .before .before .args .at)) 14 =
+    c .before .high2 .ensures ∙ word2-row _ _ 14 in
+    omega arith
 
 pub name-length-spec : {M : Type 1} → statement M
 name-length-spec = tie.close (tie.spec add-high2 high2-requires cast-stored returns returns-2)

@@ -1,4 +1,5 @@
 -- `read_entry` meets its contract.
+-- Rests on: the laws in Loading/Slots; the contracts of name_at, fields::high4 and fields::high2.
 -- Assumes nothing.
 use Prim.Native.Nat.{_-_}
 use borrow.Author.Needs.{needs}
@@ -28,7 +29,9 @@ high4-requires-2 : tie.Need-high4-requires-2
 high4-requires-2 c κs = search needs
 
 returns : tie.Need-returns
-returns c = entry-read _ _ _ _ _ _ (c .before .before .before .name-at .ensures) (c .before .before .high4 .ensures) (c .before .high2 .ensures) (c .high42 .ensures)
+returns c =
+    entry-read _ _ _ _ _ _ (c .before .before .before .name-at .ensures) (c .before .before .high4 .ensures)
+    (c .before .high2 .ensures) (c .high42 .ensures)
 
 pub read-entry-spec : {M : Type 1} → statement M
 read-entry-spec =

@@ -1,4 +1,5 @@
 -- `slot_has_name` meets its contract.
+-- Rests on: the laws in Loading/Slots; the contracts of slot_place, entry_has_name and held_slot.
 -- Assumes nothing.
 use Prim.Native.Nat.{_-_}
 use borrow.Author.Needs.{needs}
@@ -16,10 +17,19 @@ held-slot-requires : tie.Need-held-slot-requires
 held-slot-requires c κs = search needs
 
 returns : tie.Need-returns
-returns c = held-named _ _ _ (c .before .before .before .before .before .before .pre .0) (c .before .before .before .before .before .before .pre .1) (c .before .before .before .before .before .before .pre .2) _ _ (c .before .before .before .slot-place .ensures .0) _ (c .before .before .entry-has-name .ensures) _ (c .held-slot .ensures) (c .before .if1 .taken)
+returns c =
+    let after-entry-has-name = c .before .before in
+    let after-slot-place = after-entry-has-name .before in
+    let start = after-slot-place .before .before .before in
+    held-named _ _ _ (start .pre .0) (start .pre .1) (start .pre .2) _ _ (after-slot-place .slot-place .ensures .0) _
+    (after-entry-has-name .entry-has-name .ensures) _ (c .held-slot .ensures) (c .before .if1 .taken)
 
 returns-2 : tie.Need-returns-2
-returns-2 c = not-named _ _ _ (c .before .before .before .before .before .pre .0) (c .before .before .before .before .before .pre .1) (c .before .before .before .before .before .pre .2) _ _ (c .before .before .slot-place .ensures .0) _ (c .before .entry-has-name .ensures) (c .if1 .left)
+returns-2 c =
+    let after-slot-place = c .before .before in
+    let start = after-slot-place .before .before .before in
+    not-named _ _ _ (start .pre .0) (start .pre .1) (start .pre .2) _ _ (after-slot-place .slot-place .ensures .0) _
+    (c .before .entry-has-name .ensures) (c .if1 .left)
 
 pub slot-has-name-spec : {M : Type 1} → statement M
 slot-has-name-spec =

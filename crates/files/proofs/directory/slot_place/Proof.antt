@@ -1,4 +1,5 @@
 -- `slot_place` meets its contract.
+-- Rests on: the laws in Loading/Slots and laws::Tests; the contracts of block_number and byte_place.
 -- Assumes nothing.
 use mathlib.Core.Path.{sym, ap, _∙_}
 use Prim.Native.Nat.{ℕ, _*_, _%_}
@@ -28,7 +29,14 @@ byte-place-requires c κs = search needs
 
 returns : tie.Need-returns
 unfolding slotPlace
-returns c = let e = c .before .before .block-number .ensures in (c .byte-place .ensures .0 ∙ ap (λ (b : ℕ). imagePlace b (c .before .before .before .before .args .k % blockSlots * slotBytes)) e ∙ sym (cond-true _ _ (lt-true (rw e at (c .before .if1 .taken)))), omega arith)
+returns c =
+    let after-block-number = c .before .before in
+    let start = after-block-number .before .before in
+    let e = after-block-number .block-number .ensures in (
+      c .byte-place .ensures .0 ∙ ap (λ (b : ℕ). imagePlace b (start .args .k % blockSlots * slotBytes)) e ∙ sym
+          (cond-true _ _ (lt-true (rw e at (c .before .if1 .taken)))),
+      omega arith,
+    )
 
 returns-2 : tie.Need-returns-2
 unfolding slotPlace

@@ -1,4 +1,5 @@
 -- `vacant_at` meets its contract: the first i bytes are zero.
+-- Rests on: the laws in laws::Tests and laws::All; the contract of fields::byte.
 -- Assumes nothing.
 use mathlib.Core.Path.{_≡_, sym, _∙_}
 use mathlib.Core.Bool.{true}

@@ -1,4 +1,5 @@
 -- `vacant_slot` meets its contract: no slot below k is vacant.
+-- Rests on: the laws in Loading/Slots; the contracts of dir_end and held_slot.
 -- Assumes nothing.
 use mathlib.Core.Path.{_≡_, sym, ap, _∙_}
 use Prim.Native.Nat.{ℕ, _-_, _≤_, _<_}
@@ -29,7 +30,12 @@ held-slot-requires : tie.Need-held-slot-requires Inv-loop μ-loop
 held-slot-requires c κs = search needs
 
 returns : tie.Need-returns Inv-loop μ-loop
-returns c = vacant-here _ _ (c .before .before .before .before .dir-end .ensures .0) _ (omega arith) (c .before .before .before .loop .inv .1) (ap (λ (h : Bool). ltb 0 (c .before .before .before .loop .k) && not h) (sym (c .before .held-slot .ensures)) ∙ c .if1 .taken)
+returns c =
+    let at-loop = c .before .before .before in
+    let loop = at-loop .loop in
+    let after-dir-end = at-loop .before in
+    vacant-here _ _ (after-dir-end .dir-end .ensures .0) _ (omega arith) (loop .inv .1)
+    (ap (λ (h : Bool). ltb 0 (loop .k) && not h) (sym (c .before .held-slot .ensures)) ∙ c .if1 .taken)
 
 add-k : tie.Need-add-k Inv-loop μ-loop
 add-k c = search needs
@@ -38,7 +44,12 @@ loop-less : tie.Need-loop-less Inv-loop μ-loop
 loop-less c = omega arith
 
 loop-again : tie.Need-loop-again Inv-loop μ-loop
-loop-again c = (omega arith, below-more _ _ (c .before .before .before .loop .inv .1) (ap (λ (h : Bool). ltb 0 (c .before .before .before .loop .k) && not h) (sym (c .before .held-slot .ensures)) ∙ c .if1 .left))
+loop-again c = (
+  omega arith,
+  below-more _ _ (c .before .before .before .loop .inv .1)
+      (ap (λ (h : Bool). ltb 0 (c .before .before .before .loop .k) && not h) (sym (c .before .held-slot .ensures)) ∙
+      c .if1 .left),
+)
 
 returns-2 : tie.Need-returns-2 Inv-loop μ-loop
 returns-2 c = vacant-none _ _ (c .before .before .dir-end .ensures .0) (λ j h. c .before .loop .inv .1 j (omega arith))

@@ -1,4 +1,6 @@
 -- `format` meets its contract.
+-- Rests on: the laws in Calling/Fresh, Calling/SoundDisk and file_rules::OnImages/Run; the contracts of
+-- sectors::refused, write_fresh and sectors::done.
 -- Assumes nothing.
 use Prim.Native.Nat.{_-_}
 use borrow.Author.Needs.{needs}
@@ -30,7 +32,12 @@ same-length : tie.Need-same-length
 same-length c = search needs
 
 returns-3 : tie.Need-returns-3
-returns-3 c = wrote-done _ _ _ _ (format-done _ _ (c .before .before .before .before .before .before .if1 .left) (c .before .before .before .before .before .if2 .left)) (c .done .ensures) (c .before .before .before .write-fresh .ensures)
+returns-3 c =
+    let after-write-fresh = c .before .before .before in
+    let else2 = after-write-fresh .before .before in
+    let else1 = else2 .before in
+    wrote-done _ _ _ _ (format-done _ _ (else1 .if1 .left) (else2 .if2 .left)) (c .done .ensures)
+    (after-write-fresh .write-fresh .ensures)
 
 pub format-spec : {M : Type 1} → statement M
 format-spec =

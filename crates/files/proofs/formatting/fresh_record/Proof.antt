@@ -1,4 +1,5 @@
 -- `fresh_record` meets its contract.
+-- Rests on: the laws in Calling/Fresh.
 -- Assumes nothing.
 use Prim.Native.Nat.{_-_}
 use Rattle.files.specs.Laws.Calling.Fresh.{fresh-zero, fresh-one, fresh-free}

@@ -1,4 +1,5 @@
 -- `header_bytes` meets its contract.
+-- Rests on: the laws in Calling/Fresh; the contracts of put_title, put_dimensions and put_start.
 -- Assumes nothing.
 use mathlib.Core.Path.{refl}
 use Prim.Native.Nat.{_-_}
@@ -28,7 +29,12 @@ put-start-requires c κs = search needs
 
 returns : tie.Need-returns
 unfolding tab
-returns c = header-row _ _ _ _ _ refl (c .before .before .before .before .before .before .before .put-title .ensures) (c .before .before .before .before .put-dimensions .ensures) (c .before .put-start .ensures)
+returns c =
+    let after-put-start = c .before in
+    let after-put-dimensions = after-put-start .before .before .before in
+    let after-put-title = after-put-dimensions .before .before .before in
+    header-row _ _ _ _ _ refl (after-put-title .put-title .ensures) (after-put-dimensions .put-dimensions .ensures)
+    (after-put-start .put-start .ensures)
 
 pub header-bytes-spec : {M : Type 1} → statement M
 header-bytes-spec =

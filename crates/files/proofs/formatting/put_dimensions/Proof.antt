@@ -1,4 +1,5 @@
 -- `put_dimensions` meets its contract.
+-- Rests on: the laws in Calling/Fresh; the contract of fields::put_high2.
 -- Assumes nothing.
 use Prim.Native.Nat.{_-_}
 use borrow.Author.Needs.{needs}
@@ -52,7 +53,23 @@ same-length : tie.Need-same-length
 same-length c = search needs
 
 returns : tie.Need-returns
-returns c = sized-is _ _ _ _ _ _ _ _ (c .before .before .before .before .before .before .before .before .before .before .before .before .before .before .before .before .before .before .before .before .before .before .before .before .before .before .put-high2 .ensures) (c .before .before .before .before .before .before .before .before .before .before .before .before .before .before .before .before .before .before .before .before .before .before .put-high22 .ensures) (c .before .before .before .before .before .before .before .before .before .before .before .before .before .before .before .before .before .before .put-high23 .ensures) (c .before .before .before .before .before .before .before .before .before .before .before .before .before .before .put-high24 .ensures) (c .before .before .before .before .before .before .before .before .before .before .put-high25 .ensures) (c .before .before .before .before .before .before .put-high26 .ensures) (c .before .before .put-high27 .ensures)
+returns c =
+    let after-put-high27 = c .before .before in
+    let after-head6 = after-put-high27 .before .before .before in
+    let after-put-high26 = after-head6 .before in
+    let after-head5 = after-put-high26 .before .before .before in
+    let after-put-high25 = after-head5 .before in
+    let after-head4 = after-put-high25 .before .before .before in
+    let after-put-high24 = after-head4 .before in
+    let after-head3 = after-put-high24 .before .before .before in
+    let after-put-high23 = after-head3 .before in
+    let after-head2 = after-put-high23 .before .before .before in
+    let after-put-high22 = after-head2 .before in
+    let after-head = after-put-high22 .before .before .before in
+    let after-put-high2 = after-head .before in
+    sized-is _ _ _ _ _ _ _ _ (after-put-high2 .put-high2 .ensures) (after-put-high22 .put-high22 .ensures)
+    (after-put-high23 .put-high23 .ensures) (after-put-high24 .put-high24 .ensures) (after-put-high25 .put-high25 .ensures)
+    (after-put-high26 .put-high26 .ensures) (after-put-high27 .put-high27 .ensures)
 
 pub put-dimensions-spec : {M : Type 1} → statement M
 put-dimensions-spec =

@@ -1,4 +1,6 @@
 -- `put_start` meets its contract.
+-- Rests on: the laws in Calling/Fresh; the contracts of fields::copy_into, fields::put_high4 and
+-- fields::put_high2.
 -- Assumes nothing.
 use Prim.Native.Nat.{_-_}
 use borrow.Author.Needs.{needs}
@@ -48,7 +50,21 @@ same-length c = search needs
 
 returns : tie.Need-returns
 unfolding sidePlace backward
-returns c = started-is _ _ _ _ _ _ _ (c .before .before .before .before .before .before .before .before .before .before .before .before .before .before .before .before .before .before .before .before .before .before .before .copy-into .ensures) (c .before .before .before .before .before .before .before .before .before .before .before .before .before .before .before .before .before .before .copy-into2 .ensures) (c .before .before .before .before .before .before .before .before .before .before .before .before .before .before .put-high4 .ensures) (c .before .before .before .before .before .before .before .before .before .before .put-high2 .ensures) (c .before .before .before .before .before .before .put-high22 .ensures) (c .before .before .put-high23 .ensures)
+returns c =
+    let after-put-high23 = c .before .before in
+    let after-head5 = after-put-high23 .before .before .before in
+    let after-put-high22 = after-head5 .before in
+    let after-head4 = after-put-high22 .before .before .before in
+    let after-put-high2 = after-head4 .before in
+    let after-head3 = after-put-high2 .before .before .before in
+    let after-put-high4 = after-head3 .before in
+    let after-head2 = after-put-high4 .before .before .before in
+    let after-copy-into2 = after-head2 .before in
+    let after-slice-known2 = after-copy-into2 .before .before .before in
+    let after-copy-into = after-slice-known2 .before .before in
+    started-is _ _ _ _ _ _ _ (after-copy-into .copy-into .ensures) (after-copy-into2 .copy-into2 .ensures)
+    (after-put-high4 .put-high4 .ensures) (after-put-high2 .put-high2 .ensures) (after-put-high22 .put-high22 .ensures)
+    (after-put-high23 .put-high23 .ensures)
 
 pub put-start-spec : {M : Type 1} → statement M
 put-start-spec =

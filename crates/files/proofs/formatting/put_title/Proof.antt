@@ -1,4 +1,5 @@
 -- `put_title` meets its contract.
+-- Rests on: the laws in Calling/Fresh; the contracts of fields::copy_into, fields::fill and fields::put_high2.
 -- Assumes nothing.
 use Prim.Native.Nat.{_-_}
 use borrow.Author.Needs.{needs}
@@ -27,7 +28,18 @@ same-length c = search needs
 
 returns : tie.Need-returns
 unfolding diskSignature
-returns c = titled-is _ _ _ _ _ _ (c .before .before .before .before .before .before .before .before .before .before .before .before .before .before .before .before .before .before .before .pre) (c .before .before .before .before .before .before .before .before .before .before .before .before .before .before .copy-into .ensures) (c .before .before .before .before .before .before .before .before .before .before .fill .ensures) (c .before .before .before .before .before .before .copy-into2 .ensures) (c .before .before .put-high2 .ensures)
+returns c =
+    let after-put-high2 = c .before .before in
+    let after-head3 = after-put-high2 .before .before .before in
+    let after-copy-into2 = after-head3 .before in
+    let after-head2 = after-copy-into2 .before .before .before in
+    let after-fill = after-head2 .before in
+    let after-head = after-fill .before .before .before in
+    let after-copy-into = after-head .before in
+    let after-shared-slice-known = after-copy-into .before .before .before in
+    let start = after-shared-slice-known .before .before in
+    titled-is _ _ _ _ _ _ (start .pre) (after-copy-into .copy-into .ensures) (after-fill .fill .ensures)
+    (after-copy-into2 .copy-into2 .ensures) (after-put-high2 .put-high2 .ensures)
 
 pub put-title-spec : {M : Type 1} → statement M
 put-title-spec =

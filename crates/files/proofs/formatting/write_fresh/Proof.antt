@@ -1,4 +1,5 @@
 -- `write_fresh` meets its contract.
+-- Rests on: the laws in Calling/Fresh; the contracts of header_bytes, fields::fill, put_bytes and write_map.
 -- Assumes nothing.
 use Prim.Native.Nat.{_-_}
 use borrow.Author.Needs.{needs}
@@ -25,7 +26,16 @@ same-length : tie.Need-same-length
 same-length c = search needs
 
 returns : tie.Need-returns
-returns c = fresh-written _ _ _ _ _ _ (c .before .before .before .before .before .before .before .before .before .before .before .before .before .before .before .before .pre .0) (c .before .before .before .before .before .before .before .before .before .before .before .fill .ensures) (c .before .before .before .before .before .before .before .before .before .before .before .before .before .header-bytes .ensures) (c .before .before .before .before .before .before .put-bytes .ensures) (c .before .before .write-map .ensures)
+returns c =
+    let after-write-map = c .before .before in
+    let after-image2 = after-write-map .before .before .before in
+    let after-put-bytes = after-image2 .before in
+    let after-slice-known2 = after-put-bytes .before .before .before in
+    let after-fill = after-slice-known2 .before .before in
+    let after-header-bytes = after-fill .before .before in
+    let start = after-header-bytes .before .before .before in
+    fresh-written _ _ _ _ _ _ (start .pre .0) (after-fill .fill .ensures) (after-header-bytes .header-bytes .ensures)
+    (after-put-bytes .put-bytes .ensures) (after-write-map .write-map .ensures)
 
 pub write-fresh-spec : {M : Type 1} → statement M
 write-fresh-spec =

@@ -1,4 +1,5 @@
 -- `write_map` meets its contract: the records below b are written.
+-- Rests on: the laws in Writing/Steps and Calling/Fresh; the contracts of fresh_record and set_record.
 -- Assumes nothing.
 use mathlib.Core.Path.{_≡_, sym, _∙_, subst}
 use Prim.Native.Nat.{_-_, _≤_}
@@ -35,7 +36,17 @@ loop-less : tie.Need-loop-less Inv-loop μ-loop
 loop-less c = search needs
 
 loop-again : tie.Need-loop-again Inv-loop μ-loop
-loop-again c = (omega arith, c .before .before .set-record .kept .0 ∙ c .before .before .before .before .before .before .loop .inv .1, records-more _ _ _ _ _ _ (c .before .before .before .before .before .before .loop .inv .2) (c .before .before .set-record .ensures) (c .before .before .before .fresh-record .ensures))
+loop-again c =
+    let after-set-record = c .before .before in
+    let set-record = after-set-record .set-record in
+    let after-fresh-record = after-set-record .before in
+    let at-loop = after-fresh-record .before .before .before in
+    let loop = at-loop .loop in (
+      omega arith,
+      set-record .kept .0 ∙ loop .inv .1,
+      records-more _ _ _ _ _ _ (loop .inv .2) (set-record .ensures)
+          (after-fresh-record .fresh-record .ensures),
+    )
 
 same-length : tie.Need-same-length Inv-loop μ-loop
 same-length c = search needs

@@ -1,4 +1,5 @@
 -- `dimensions_fault` meets its contract.
+-- Rests on: the laws in sectors::Reading/Faults; the contracts of word_fault and sectors::or_fault.
 -- Assumes nothing.
 use borrow.Author.Needs.{needs}
 use Rattle.sectors.specs.Laws.Reading.Faults.{or-link}
@@ -41,7 +42,22 @@ or-fault-requires-5 c κs = search needs
 
 returns : tie.Need-returns
 unfolding dimensionsFault
-returns c = or-link _ _ _ _ _ (c .or-fault5 .ensures) (c .before .before .before .before .before .word-fault6 .ensures) (or-link _ _ _ _ _ (c .before .or-fault4 .ensures) (c .before .before .before .before .before .before .word-fault5 .ensures) (or-link _ _ _ _ _ (c .before .before .or-fault3 .ensures) (c .before .before .before .before .before .before .before .word-fault4 .ensures) (or-link _ _ _ _ _ (c .before .before .before .or-fault2 .ensures) (c .before .before .before .before .before .before .before .before .word-fault3 .ensures) (or-link _ _ _ _ _ (c .before .before .before .before .or-fault .ensures) (c .before .before .before .before .before .before .before .before .before .word-fault2 .ensures) (c .before .before .before .before .before .before .before .before .before .before .word-fault .ensures)))))
+returns c =
+    let after-or-fault3 = c .before .before in
+    let after-or-fault2 = after-or-fault3 .before in
+    let after-or-fault = after-or-fault2 .before in
+    let after-word-fault6 = after-or-fault .before in
+    let after-word-fault5 = after-word-fault6 .before in
+    let after-word-fault4 = after-word-fault5 .before in
+    let after-word-fault3 = after-word-fault4 .before in
+    let after-word-fault2 = after-word-fault3 .before in
+    let after-word-fault = after-word-fault2 .before in
+    or-link _ _ _ _ _ (c .or-fault5 .ensures) (after-word-fault6 .word-fault6 .ensures)
+    (or-link _ _ _ _ _ (c .before .or-fault4 .ensures) (after-word-fault5 .word-fault5 .ensures)
+    (or-link _ _ _ _ _ (after-or-fault3 .or-fault3 .ensures) (after-word-fault4 .word-fault4 .ensures)
+    (or-link _ _ _ _ _ (after-or-fault2 .or-fault2 .ensures) (after-word-fault3 .word-fault3 .ensures)
+    (or-link _ _ _ _ _ (after-or-fault .or-fault .ensures) (after-word-fault2 .word-fault2 .ensures)
+    (after-word-fault .word-fault .ensures)))))
 
 pub dimensions-fault-spec : {M : Type 1} → statement M
 dimensions-fault-spec =

@@ -1,4 +1,5 @@
 -- `dir_bytes` meets its contract.
+-- Rests on: the contract of head_word.
 -- Assumes nothing.
 use native.Mathlib.Omega.{arith}
 use borrow.Author.Needs.{needs}

@@ -1,4 +1,5 @@
 -- `dir_end` meets its contract.
+-- Rests on: the contract of dir_bytes.
 -- Assumes nothing.
 use native.Mathlib.Omega.{arith}
 use borrow.Author.Needs.{needs}

@@ -1,4 +1,6 @@
 -- `disk_header_fault` meets its contract.
+-- Rests on: the laws in Judging/Verdict and sectors::Reading/Faults; the contracts of fields::stands_at,
+-- sectors::wrong_at, word_fault, length_right, sectors::or_fault and dimensions_fault.
 -- Assumes nothing.
 use mathlib.Core.Path.{ap, _∙_}
 use native.Mathlib.Omega.{arith}
@@ -67,7 +69,33 @@ or-fault-requires-5 c κs = search needs
 
 returns : tie.Need-returns
 unfolding diskHeaderFault diskSignature sidePlace backward
-returns c = or-link _ _ _ _ _ (c .or-fault5 .ensures) (bytes-fault _ _ _ 0 diskSignature (c .before .before .before .before .before .before .before .before .before .before .before .before .before .before .before .before .before .before .before .pre) (omega arith) (c .before .before .before .before .before .before .wrong-at4 .ensures) (c .before .before .before .before .before .before .before .stands-at3 .ensures)) (or-link _ _ _ _ _ (c .before .or-fault4 .ensures) (c .before .before .dimensions-fault .ensures) (or-link _ _ _ _ _ (c .before .before .before .or-fault3 .ensures) (c .before .before .before .before .before .before .before .before .before .wrong-at3 .ensures ∙ ap (wrongAt 34) (c .before .before .before .before .before .before .before .before .before .before .length-right .ensures)) (or-link _ _ _ _ _ (c .before .before .before .before .or-fault2 .ensures) (c .before .before .before .before .before .before .before .before .before .before .before .word-fault .ensures) (or-link _ _ _ _ _ (c .before .before .before .before .before .or-fault .ensures) (bytes-fault _ _ _ 40 sidePlace (c .before .before .before .before .before .before .before .before .before .before .before .before .before .before .before .before .before .before .before .pre) (omega arith) (c .before .before .before .before .before .before .before .before .before .before .before .before .wrong-at2 .ensures) (c .before .before .before .before .before .before .before .before .before .before .before .before .before .stands-at2 .ensures)) (bytes-fault _ _ _ 58 backward (c .before .before .before .before .before .before .before .before .before .before .before .before .before .before .before .before .before .before .before .pre) (omega arith) (c .before .before .before .before .before .before .before .before .before .before .before .before .before .before .before .wrong-at .ensures) (c .before .before .before .before .before .before .before .before .before .before .before .before .before .before .before .before .stands-at .ensures))))))
+returns c =
+    let after-dimensions-fault = c .before .before in
+    let after-or-fault3 = after-dimensions-fault .before in
+    let after-or-fault2 = after-or-fault3 .before in
+    let after-or-fault = after-or-fault2 .before in
+    let after-wrong-at4 = after-or-fault .before in
+    let after-stands-at3 = after-wrong-at4 .before in
+    let after-wrong-at3 = after-stands-at3 .before .before in
+    let after-length-right = after-wrong-at3 .before in
+    let after-word-fault = after-length-right .before in
+    let after-wrong-at2 = after-word-fault .before in
+    let after-stands-at2 = after-wrong-at2 .before in
+    let after-wrong-at = after-stands-at2 .before .before in
+    let after-stands-at = after-wrong-at .before in
+    let start = after-stands-at .before .before .before in
+    or-link _ _ _ _ _ (c .or-fault5 .ensures)
+    (bytes-fault _ _ _ 0 diskSignature (start .pre) (omega arith) (after-wrong-at4 .wrong-at4 .ensures)
+    (after-stands-at3 .stands-at3 .ensures))
+    (or-link _ _ _ _ _ (c .before .or-fault4 .ensures) (after-dimensions-fault .dimensions-fault .ensures)
+    (or-link _ _ _ _ _ (after-or-fault3 .or-fault3 .ensures)
+    (after-wrong-at3 .wrong-at3 .ensures ∙ ap (wrongAt 34) (after-length-right .length-right .ensures))
+    (or-link _ _ _ _ _ (after-or-fault2 .or-fault2 .ensures) (after-word-fault .word-fault .ensures)
+    (or-link _ _ _ _ _ (after-or-fault .or-fault .ensures)
+    (bytes-fault _ _ _ 40 sidePlace (start .pre) (omega arith) (after-wrong-at2 .wrong-at2 .ensures)
+    (after-stands-at2 .stands-at2 .ensures))
+    (bytes-fault _ _ _ 58 backward (start .pre) (omega arith) (after-wrong-at .wrong-at .ensures)
+    (after-stands-at .stands-at .ensures))))))
 
 pub disk-header-fault-spec : {M : Type 1} → statement M
 disk-header-fault-spec =

@@ -1,4 +1,5 @@
 -- `judge_header` meets its contract.
+-- Rests on: the laws in Judging/Verdict; the contracts of disk_header_fault and sectors::refused.
 -- Assumes nothing.
 use mathlib.Core.Path.{sym, _∙_}
 use borrow.Author.Needs.{needs}
@@ -19,7 +20,11 @@ enum-told : tie.Need-enum-told
 enum-told c = search needs
 
 returns : tie.Need-returns
-returns c = rw (c .refused .ensures) (refused-header _ _ (sym (c .before .before .o .given .1) ∙ c .before .before .before .before .disk-header-fault .ensures))
+returns c =
+    let after-o = c .before .before in
+    let after-disk-header-fault = after-o .before .before in
+    rw (c .refused .ensures)
+    (refused-header _ _ (sym (after-o .o .given .1) ∙ after-disk-header-fault .disk-header-fault .ensures))
 
 returns-2 : tie.Need-returns-2
 returns-2 c = passed-header _ (sym (c .enum-told .given .1) ∙ c .before .before .disk-header-fault .ensures)

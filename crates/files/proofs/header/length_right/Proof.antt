@@ -1,4 +1,5 @@
 -- `length_right` meets its contract.
+-- Rests on: the contracts of dir_bytes and head_word.
 -- Assumes nothing.
 use borrow.Author.Needs.{needs}
 use Rattle.file_rules.specs.Check.{lengthRight}

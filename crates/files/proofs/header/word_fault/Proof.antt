@@ -1,4 +1,5 @@
 -- `word_fault` meets its contract.
+-- Rests on: the contracts of head_word and sectors::wrong_at.
 -- Assumes nothing.
 use mathlib.Core.Path.{_∙_}
 use borrow.Author.Needs.{needs}

@@ -1,4 +1,5 @@
 -- `copy_slot` meets its contract: the first i bytes are copied.
+-- Rests on: the laws in laws::Overlay; the contract of fields::byte.
 -- Assumes nothing.
 use mathlib.Core.Path.{_≡_, refl}
 use Prim.Native.Nat.{_-_, _≤_}
@@ -38,7 +39,15 @@ loop-less c = omega arith
 
 loop-again : tie.Need-loop-again Inv-loop μ-loop
 unfolding elementAt
-loop-again c = (omega arith, simp length-set (c .before .before .loop .inv .1), overlay-more _ _ _ (elementAt (c .before .before .before .before .before .args .image .now) (c .before .before .before .before .before .args .at)) _ _ (omega arith) (c .before .before .loop .inv .2) (c .byte .ensures))
+loop-again c =
+    let at-loop = c .before .before in
+    let loop = at-loop .loop in
+    let start = at-loop .before .before .before in (
+      omega arith,
+      simp length-set (loop .inv .1),
+      overlay-more _ _ _ (elementAt (start .args .image .now) (start .args .at))
+          _ _ (omega arith) (loop .inv .2) (c .byte .ensures),
+    )
 
 same-length : tie.Need-same-length Inv-loop μ-loop
 same-length c = search needs

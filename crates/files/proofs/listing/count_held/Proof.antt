@@ -1,4 +1,5 @@
 -- `count_held` meets its contract: n of the slots below k are held.
+-- Rests on: the laws in Loading/Loops; the contract of held_slot.
 -- Assumes nothing.
 use mathlib.Core.Path.{_≡_, refl, sym, _∙_}
 use mathlib.Core.Logic.{⊎-elim}
@@ -35,14 +36,19 @@ loop-less : tie.Need-loop-less Inv-loop μ-loop
 loop-less c = omega arith
 
 loop-again : tie.Need-loop-again Inv-loop μ-loop
-loop-again c = (
-  omega arith,
-  ⊎-elim (λ w. omega (arith, w .1)) (λ w. omega (arith, w .1)) (c .if1 .came),
-  ⊎-elim
-      (λ w. w .1 ∙ counted-yes (held (diskOf (c .before .before .before .before .before .args .image .now))) _ _ (c .before .before .before .loop .inv .2) (sym (c .before .held-slot .ensures) ∙ w .0 .taken))
-      (λ w. w .1 ∙ counted-no (held (diskOf (c .before .before .before .before .before .args .image .now))) _ _ (c .before .before .before .loop .inv .2) (sym (c .before .held-slot .ensures) ∙ w .0 .left))
-      (c .if1 .came),
-)
+loop-again c =
+    let at-loop = c .before .before .before in
+    let loop = at-loop .loop in
+    let start = at-loop .before .before in
+    let image = start .args .image .now in
+    let disk = diskOf image in (
+      omega arith,
+      ⊎-elim (λ w. omega (arith, w .1)) (λ w. omega (arith, w .1)) (c .if1 .came),
+      ⊎-elim
+          (λ w. w .1 ∙ counted-yes (held disk) _ _ (loop .inv .2) (sym (c .before .held-slot .ensures) ∙ w .0 .taken))
+          (λ w. w .1 ∙ counted-no (held disk) _ _ (loop .inv .2) (sym (c .before .held-slot .ensures) ∙ w .0 .left))
+          (c .if1 .came),
+    )
 
 returns : tie.Need-returns Inv-loop μ-loop
 returns c = let e : c .before .loop .k ≡ c .before .before .before .args .end = omega arith in (rw e at (c .before .loop .inv .2), omega arith)

@@ -1,4 +1,6 @@
 -- `list_sound` meets its contract.
+-- Rests on: the laws in Loading/Parts, Loading/Slots and Calling/Delivered; the contracts of file_blocks,
+-- dir_end, count_held, sectors::refused, list_slots and sectors::done_with.
 -- Assumes nothing.
 use mathlib.Core.Path.{ap, _∙_}
 use Prim.Native.Nat.{ℕ, _*_}
@@ -23,7 +25,15 @@ dir-end-requires : tie.Need-dir-end-requires
 dir-end-requires c κs = search needs
 
 count-held-requires : tie.Need-count-held-requires
-count-held-requires c κs = (c .before .before .before .before .before .before .pre .0, omega (arith, c .before .before .before .before .before .before .pre .1, c .before .dir-end .ensures .0), located-directory _ _ _ (c .before .before .before .before .before .before .pre .2) (c .before .before .file-blocks .ensures))
+count-held-requires c κs =
+    let after-file-blocks = c .before .before in
+    let after-shared-slice-known = after-file-blocks .before .before .before in
+    let start = after-shared-slice-known .before in (
+      start .pre .0,
+      omega (arith, start .pre .1, c .before .dir-end .ensures .0),
+      located-directory _ _ _ (start .pre .2)
+          (after-file-blocks .file-blocks .ensures),
+    )
 
 mul-needed : tie.Need-mul-needed
 mul-needed c = search needs
@@ -33,10 +43,47 @@ refused-requires c κs = search needs
 
 returns : tie.Need-returns
 unfolding listSound
-returns c = (c .refused .ensures ∙ misses-answer _ _ _ (ap (λ (x : ℕ). slotBytes * x) (c .before .before .count-held .ensures .0 ∙ ap (λ (x : ℕ). count x (held (diskOf (c .before .before .before .before .before .before .before .before .before .args .image .now)))) (c .before .before .before .before .dir-end .ensures .0)) ∙ entries-length (diskOf (c .before .before .before .before .before .before .before .before .before .args .image .now)) (dirEnd (diskOf (c .before .before .before .before .before .before .before .before .before .args .image .now)))) (c .before .if1 .taken), misses-buffer _ _ _ (ap (λ (x : ℕ). slotBytes * x) (c .before .before .count-held .ensures .0 ∙ ap (λ (x : ℕ). count x (held (diskOf (c .before .before .before .before .before .before .before .before .before .args .image .now)))) (c .before .before .before .before .dir-end .ensures .0)) ∙ entries-length (diskOf (c .before .before .before .before .before .before .before .before .before .args .image .now)) (dirEnd (diskOf (c .before .before .before .before .before .before .before .before .before .args .image .now)))) (c .before .if1 .taken))
+returns c =
+    let after-count-held = c .before .before in
+    let count-held = after-count-held .count-held in
+    let after-dir-end = after-count-held .before .before in
+    let dir-end = after-dir-end .dir-end in
+    let after-file-blocks = after-dir-end .before in
+    let after-shared-slice-known = after-file-blocks .before .before .before in
+    let start = after-shared-slice-known .before in
+    let image = start .args .image .now in
+    let disk = diskOf image in
+    let size = ap (λ (x : ℕ). slotBytes * x) (count-held .ensures .0 ∙ ap (λ (x : ℕ). count x (held disk)) (dir-end .ensures .0)) ∙
+    entries-length disk (dirEnd disk) in (
+      c .refused .ensures ∙ misses-answer _ _ _
+          size
+          (c .before .if1 .taken),
+      misses-buffer _ _ _
+          size
+          (c .before .if1 .taken),
+    )
 
 list-slots-requires : tie.Need-list-slots-requires
-list-slots-requires c κs = (c .before .before .before .before .before .before .before .before .before .before .pre .0, omega (arith, c .before .before .before .before .before .before .before .before .before .before .pre .1, c .before .before .before .before .before .dir-end .ensures .0), located-directory _ _ _ (c .before .before .before .before .before .before .before .before .before .before .pre .2) (c .before .before .before .before .before .before .file-blocks .ensures), omega (arith, c .before .before .if1 .left, c .before .before .before .count-held .ensures .0, entries-length (diskOf (c .before .before .before .before .before .before .before .before .before .before .args .image .now)) (c .before .before .before .before .before .dir-end .result)))
+list-slots-requires c κs =
+    let else1 = c .before .before in
+    let after-count-held = else1 .before in
+    let after-dir-end = after-count-held .before .before in
+    let dir-end = after-dir-end .dir-end in
+    let after-file-blocks = after-dir-end .before in
+    let after-shared-slice-known = after-file-blocks .before .before .before in
+    let start = after-shared-slice-known .before in (
+      start .pre .0,
+      omega (arith, start .pre .1, dir-end .ensures .0),
+      located-directory _ _ _ (start .pre .2)
+          (after-file-blocks .file-blocks .ensures),
+      omega (
+        arith,
+        else1 .if1 .left,
+        after-count-held .count-held .ensures .0,
+        entries-length (diskOf (start .args .image .now))
+            (dir-end .result),
+      ),
+    )
 
 done-with-requires : tie.Need-done-with-requires
 done-with-requires c κs = search needs
@@ -46,7 +93,32 @@ same-length c = search needs
 
 returns-2 : tie.Need-returns-2
 unfolding listSound
-returns-2 c = (c .done-with .ensures ∙ fits-answer _ (c .before .before .before .before .before .before .before .before .before .before .before .before .before .before .args .out .now) _ (ap (λ (x : ℕ). slotBytes * x) (c .before .before .before .before .before .before .before .count-held .ensures .0 ∙ ap (λ (x : ℕ). count x (held (diskOf (c .before .before .before .before .before .before .before .before .before .before .before .before .before .before .args .image .now)))) (c .before .before .before .before .before .before .before .before .before .dir-end .ensures .0)) ∙ entries-length (diskOf (c .before .before .before .before .before .before .before .before .before .before .before .before .before .before .args .image .now)) (dirEnd (diskOf (c .before .before .before .before .before .before .before .before .before .before .before .before .before .before .args .image .now)))) (c .before .before .before .before .before .before .if1 .left), c .before .before .before .list-slots .ensures ∙ ap (λ (x : ℕ). put (c .before .before .before .before .before .before .before .before .before .before .before .before .before .before .args .out .now) 0 (entries (diskOf (c .before .before .before .before .before .before .before .before .before .before .before .before .before .before .args .image .now)) x)) (c .before .before .before .before .before .before .before .before .before .dir-end .ensures .0) ∙ fits-buffer _ (c .before .before .before .before .before .before .before .before .before .before .before .before .before .before .args .out .now) _ (ap (λ (x : ℕ). slotBytes * x) (c .before .before .before .before .before .before .before .count-held .ensures .0 ∙ ap (λ (x : ℕ). count x (held (diskOf (c .before .before .before .before .before .before .before .before .before .before .before .before .before .before .args .image .now)))) (c .before .before .before .before .before .before .before .before .before .dir-end .ensures .0)) ∙ entries-length (diskOf (c .before .before .before .before .before .before .before .before .before .before .before .before .before .before .args .image .now)) (dirEnd (diskOf (c .before .before .before .before .before .before .before .before .before .before .before .before .before .before .args .image .now)))) (c .before .before .before .before .before .before .if1 .left))
+returns-2 c =
+    let after-list-slots = c .before .before .before in
+    let else1 = after-list-slots .before .before .before in
+    let if1 = else1 .if1 in
+    let after-count-held = else1 .before in
+    let count-held = after-count-held .count-held in
+    let after-dir-end = after-count-held .before .before in
+    let dir-end = after-dir-end .dir-end in
+    let after-file-blocks = after-dir-end .before in
+    let after-shared-slice-known = after-file-blocks .before .before .before in
+    let start = after-shared-slice-known .before in
+    let image = start .args .image .now in
+    let disk = diskOf image in
+    let out = start .args .out .now in
+    let size = ap (λ (x : ℕ). slotBytes * x) (count-held .ensures .0 ∙ ap (λ (x : ℕ). count x (held disk)) (dir-end .ensures .0)) ∙
+    entries-length disk (dirEnd disk) in (
+      c .done-with .ensures ∙ fits-answer _ out _
+          size
+          (if1 .left),
+      after-list-slots .list-slots .ensures ∙ ap (λ (x : ℕ). put out 0 (entries disk x)) (dir-end .ensures .0) ∙
+          fits-buffer _ out _
+          size
+          (if1 .left),
+    )
 
 pub list-sound-spec : {M : Type 1} → statement M
-list-sound-spec = tie.close (tie.spec file-blocks-requires dir-end-requires count-held-requires mul-needed refused-requires returns list-slots-requires done-with-requires same-length returns-2)
+list-sound-spec =
+    tie.close (tie.spec file-blocks-requires dir-end-requires count-held-requires mul-needed refused-requires returns
+    list-slots-requires done-with-requires same-length returns-2)

@@ -1,4 +1,5 @@
 -- `count_free` meets its contract: n of the records below b are free.
+-- Rests on: the laws in Loading/Loaded and Loading/Loops; the contracts of map_record and is_free.
 -- Assumes nothing.
 use mathlib.Core.Path.{_≡_, refl, sym, ap, _∙_}
 use mathlib.Core.Logic.{⊎-elim}
@@ -40,14 +41,24 @@ loop-less : tie.Need-loop-less Inv-loop μ-loop
 loop-less c = omega arith
 
 loop-again : tie.Need-loop-again Inv-loop μ-loop
-loop-again c = (
-  omega arith,
-  ⊎-elim (λ w. omega (arith, w .1)) (λ w. omega (arith, w .1)) (c .if1 .came),
-  ⊎-elim
-      (λ w. w .1 ∙ counted-yes (λ (j : ℕ). isFree (loadedRecord (c .before .before .before .before .before .args .map .now) j)) _ _ (c .before .before .before .before .loop .inv .2) (sym (ap (λ (m : MapRecord). isFree (m .«record»)) (c .before .before .map-record .ensures)) ∙ sym (c .before .is-free .ensures) ∙ w .0 .taken))
-      (λ w. w .1 ∙ counted-no (λ (j : ℕ). isFree (loadedRecord (c .before .before .before .before .before .args .map .now) j)) _ _ (c .before .before .before .before .loop .inv .2) (sym (ap (λ (m : MapRecord). isFree (m .«record»)) (c .before .before .map-record .ensures)) ∙ sym (c .before .is-free .ensures) ∙ w .0 .left))
-      (c .if1 .came),
-)
+loop-again c =
+    let after-map-record = c .before .before in
+    let map-record = after-map-record .map-record in
+    let at-loop = after-map-record .before .before in
+    let loop = at-loop .loop in
+    let start = at-loop .before in
+    let map = start .args .map .now in (
+      omega arith,
+      ⊎-elim (λ w. omega (arith, w .1)) (λ w. omega (arith, w .1)) (c .if1 .came),
+      ⊎-elim
+          (λ w. w .1 ∙ counted-yes (λ (j : ℕ). isFree (loadedRecord map j)) _ _ (loop .inv .2)
+          (sym (ap (λ (m : MapRecord). isFree (m .«record»)) (map-record .ensures)) ∙ sym (c .before .is-free .ensures) ∙
+          w .0 .taken))
+          (λ w. w .1 ∙ counted-no (λ (j : ℕ). isFree (loadedRecord map j)) _ _ (loop .inv .2)
+          (sym (ap (λ (m : MapRecord). isFree (m .«record»)) (map-record .ensures)) ∙ sym (c .before .is-free .ensures) ∙
+          w .0 .left))
+          (c .if1 .came),
+    )
 
 returns : tie.Need-returns Inv-loop μ-loop
 returns c = let e : c .before .loop .b ≡ blocks = omega arith in (rw e at (c .before .loop .inv .2), omega arith)

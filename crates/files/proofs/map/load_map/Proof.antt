@@ -1,4 +1,5 @@
 -- `load_map` meets its contract: the records below b are loaded.
+-- Rests on: the laws in Loading/Loaded; the contract of load_record.
 -- Assumes nothing.
 use mathlib.Core.Path.{_≡_}
 use Prim.Native.Nat.{ℕ, _-_, _≤_, _<_}
@@ -38,7 +39,15 @@ loop-less : tie.Need-loop-less Inv-loop μ-loop
 loop-less c = omega arith
 
 loop-again : tie.Need-loop-again Inv-loop μ-loop
-loop-again c = (omega arith, simp length-set (c .before .before .loop .inv .1), numbers-more (c .before .before .loop .map) (diskOf (c .before .before .before .before .args .image .now)) (c .before .before .loop .b) _ (omega arith) (c .before .before .loop .inv .2) (c .load-record .ensures))
+loop-again c =
+    let at-loop = c .before .before in
+    let loop = at-loop .loop in
+    let start = at-loop .before .before in (
+      omega arith,
+      simp length-set (loop .inv .1),
+      numbers-more (loop .map) (diskOf (start .args .image .now)) (loop .b) _
+          (omega arith) (loop .inv .2) (c .load-record .ensures),
+    )
 
 returns : tie.Need-returns Inv-loop μ-loop
 returns c = record { long = c .before .loop .inv .1; numbers = λ b h. c .before .loop .inv .2 b (omega arith) }

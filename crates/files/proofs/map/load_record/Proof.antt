@@ -1,4 +1,5 @@
 -- `load_record` meets its contract.
+-- Rests on: the contracts of block_byte and wide.
 -- Assumes nothing.
 use native.Mathlib.Nat.{zero-add, add-zero}
 use borrow.Author.Needs.{needs}
@@ -51,7 +52,21 @@ add-result-2 c = search needs
 
 returns : tie.Need-returns
 unfolding numberAt bigEndian
-returns c = rw (c .before .before .before .before .wide .ensures .0, c .before .before .wide2 .ensures .0, c .wide3 .ensures .0, c .before .before .before .before .before .block-byte .ensures, c .before .before .before .block-byte2 .ensures, c .before .block-byte3 .ensures, add-zero, zero-add)
+returns c =
+    let after-wide2 = c .before .before in
+    let after-block-byte2 = after-wide2 .before in
+    let after-wide = after-block-byte2 .before in
+    let after-block-byte = after-wide .before in
+    rw (
+      after-wide .wide .ensures .0,
+      after-wide2 .wide2 .ensures .0,
+      c .wide3 .ensures .0,
+      after-block-byte .block-byte .ensures,
+      after-block-byte2 .block-byte2 .ensures,
+      c .before .block-byte3 .ensures,
+      add-zero,
+      zero-add,
+    )
 
 pub load-record-spec : {M : Type 1} → statement M
 load-record-spec =

@@ -1,4 +1,5 @@
 -- `map_fault` meets its contract: no record below b passes.
+-- Rests on: the laws in Loading/Loaded and laws::Lowest; the contracts of map_record and record_fault.
 -- Assumes nothing.
 use mathlib.Core.Path.{_≡_, sym, ap, _∙_}
 use mathlib.Core.Bool.{false}
@@ -30,7 +31,14 @@ record-fault-requires : tie.Need-record-fault-requires Inv-loop μ-loop
 record-fault-requires c κs = search needs
 
 returns : tie.Need-returns Inv-loop μ-loop
-returns c = (sym (lowest-some _ _ _ (omega arith) (c .before .before .before .before .loop .inv .1) (sym (ap (λ (m : MapRecord). recordFault (m .block .0) (m .«record»)) (c .before .before .map-record .ensures)) ∙ sym (c .before .record-fault .ensures) ∙ c .if1 .taken)), omega arith)
+returns c =
+    let after-map-record = c .before .before in
+    let at-loop = after-map-record .before .before in (
+      sym (lowest-some _ _ _ (omega arith) (at-loop .loop .inv .1)
+          (sym (ap (λ (m : MapRecord). recordFault (m .block .0) (m .«record»)) (after-map-record .map-record .ensures)) ∙
+          sym (c .before .record-fault .ensures) ∙ c .if1 .taken)),
+      omega arith,
+    )
 
 add-b : tie.Need-add-b Inv-loop μ-loop
 add-b c = search needs
@@ -39,7 +47,14 @@ loop-less : tie.Need-loop-less Inv-loop μ-loop
 loop-less c = omega arith
 
 loop-again : tie.Need-loop-again Inv-loop μ-loop
-loop-again c = (omega arith, below-more _ _ (c .before .before .before .before .loop .inv .1) (sym (ap (λ (m : MapRecord). recordFault (m .block .0) (m .«record»)) (c .before .before .map-record .ensures)) ∙ sym (c .before .record-fault .ensures) ∙ c .if1 .left))
+loop-again c =
+    let after-map-record = c .before .before in
+    let at-loop = after-map-record .before .before in (
+      omega arith,
+      below-more _ _ (at-loop .loop .inv .1)
+          (sym (ap (λ (m : MapRecord). recordFault (m .block .0) (m .«record»)) (after-map-record .map-record .ensures)) ∙
+          sym (c .before .record-fault .ensures) ∙ c .if1 .left),
+    )
 
 returns-2 : tie.Need-returns-2 Inv-loop μ-loop
 returns-2 c = (sym (lowest-none _ _ (λ k h. c .before .loop .inv .1 k (omega arith))), omega arith)

@@ -1,4 +1,5 @@
 -- `map_record` meets its contract.
+-- Rests on: the laws in Loading/Loaded; the contract of record_of.
 -- Assumes nothing.
 use borrow.Author.Needs.{needs}
 use Rattle.files.specs.Laws.Loading.Loaded.{loadedRecord}

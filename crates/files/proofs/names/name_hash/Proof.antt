@@ -1,4 +1,5 @@
 -- `name_hash` meets its contract: the mark of the first i bytes.
+-- Rests on: the laws in Loading/NameHashes; the contracts of name_length, fields::byte and wide.
 -- Assumes nothing.
 use mathlib.Core.Path.{_≡_, refl, _∙_}
 use Prim.Native.Nat.{_-_, _≤_, _<_, _+_}
@@ -47,7 +48,9 @@ loop-again : tie.Need-loop-again Inv-loop μ-loop
 loop-again c = (omega arith, omega arith, hash-more _ _ _ _ _ (c .before .before .before .loop .inv .2) (c .wide .ensures .0 ∙ c .before .byte .ensures))
 
 returns : tie.Need-returns Inv-loop μ-loop
-returns c = let e : c .before .loop .i ≡ c .before .before .name-length .result = omega arith in (hash-row _ _ _ _ (c .before .before .name-length .ensures) (rw e at (c .before .loop .inv .2)), c .before .loop .inv .1)
+returns c =
+    let e : c .before .loop .i ≡ c .before .before .name-length .result = omega arith in
+    (hash-row _ _ _ _ (c .before .before .name-length .ensures) (rw e at (c .before .loop .inv .2)), c .before .loop .inv .1)
 
 pub name-hash-spec : {M : Type 1} → statement M
 name-hash-spec =

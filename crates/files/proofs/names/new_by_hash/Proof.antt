@@ -1,4 +1,5 @@
 -- `new_by_hash` meets its contract.
+-- Rests on: the laws in Loading/NameHashes; the contracts of slot_place, name_hash and new_name.
 -- Assumes nothing.
 use Prim.Native.Nat.{_-_}
 use native.Mathlib.Nat.{sub-zero}
@@ -17,7 +18,14 @@ element-copy-out-if1 : tie.Need-element-copy-out-if1
 element-copy-out-if1 c = search needs
 
 returns : tie.Need-returns
-returns c = new-by-hash _ _ _ _ (c .before .before .before .before .before .before .pre .4) (c .before .before .before .before .before .before .pre .5) (c .before .before .before .before .before .before .pre .1) (c .before .before .before .before .before .before .pre .6) (rw (hash-place _ _ _ (c .before .before .before .before .before .before .pre .0) (c .before .before .before .before .before .before .pre .1) (c .before .before .before .before .before .before .pre .2) _ _ (c .before .before .before .slot-place .ensures .0) (c .before .before .name-hash .ensures .0)) at (c .if1 .taken))
+returns c =
+    let after-name-hash = c .before .before in
+    let after-slot-place = after-name-hash .before in
+    let start = after-slot-place .before .before .before in
+    new-by-hash _ _ _ _ (start .pre .4) (start .pre .5) (start .pre .1) (start .pre .6)
+    (rw (hash-place _ _ _ (start .pre .0) (start .pre .1) (start .pre .2) _ _ (after-slot-place .slot-place .ensures .0)
+    (after-name-hash .name-hash .ensures .0))
+    at (c .if1 .taken))
 
 sub-new-name : tie.Need-sub-new-name
 sub-new-name c = search needs

@@ -1,4 +1,5 @@
 -- `new_name` meets its contract: no slot below j is held and has the name.
+-- Rests on: the laws in laws::All; the contract of slot_has_name.
 -- Assumes nothing.
 use mathlib.Core.Path.{_≡_, sym, ap, _∙_}
 use mathlib.Core.Bool.{true, not, _&&_}
@@ -25,7 +26,11 @@ slot-has-name-requires : tie.Need-slot-has-name-requires Inv-loop μ-loop
 slot-has-name-requires c κs = search needs
 
 returns : tie.Need-returns Inv-loop μ-loop
-returns c = sym (all-false _ (c .before .before .before .before .before .before .args .k) (c .before .before .before .loop .j) (omega arith) (ap not (sym (c .before .slot-has-name .ensures) ∙ c .if1 .taken)))
+returns c =
+    let at-loop = c .before .before .before in
+    let start = at-loop .before .before .before in
+    sym (all-false _ (start .args .k) (at-loop .loop .j) (omega arith)
+    (ap not (sym (c .before .slot-has-name .ensures) ∙ c .if1 .taken)))
 
 add-j : tie.Need-add-j Inv-loop μ-loop
 add-j c = search needs
@@ -37,7 +42,10 @@ loop-again : tie.Need-loop-again Inv-loop μ-loop
 loop-again c = (omega arith, below-more _ _ (c .before .before .before .loop .inv .1) (ap not (sym (c .before .slot-has-name .ensures) ∙ c .if1 .left)))
 
 returns-2 : tie.Need-returns-2 Inv-loop μ-loop
-returns-2 c = sym (all-is _ (c .before .before .before .before .args .k) (λ i h. c .before .loop .inv .1 i (omega arith)))
+returns-2 c =
+    let at-loop = c .before in
+    let start = at-loop .before .before .before in
+    sym (all-is _ (start .args .k) (λ i h. at-loop .loop .inv .1 i (omega arith)))
 
 pub new-name-spec : {M : Type 1} → statement M
 new-name-spec =

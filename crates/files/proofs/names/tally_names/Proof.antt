@@ -1,4 +1,5 @@
 -- `tally_names` meets its contract: the slots below k are counted.
+-- Rests on: the laws in Loading/Tally and Loading/NameHashes; the contracts of slot_hash and more.
 -- Assumes nothing.
 use mathlib.Core.Path.{_≡_}
 use Prim.Native.Nat.{suc, _-_, _≤_}
@@ -38,7 +39,14 @@ loop-less : tie.Need-loop-less Inv-loop μ-loop
 loop-less c = omega arith
 
 loop-again : tie.Need-loop-again Inv-loop μ-loop
-loop-again c = (omega arith, tally-more _ _ _ _ (c .before .before .before .before .loop .inv .1) _ (c .before .before .slot-hash .ensures .0) _ (c .before .before .slot-hash .ensures .1) (c .more .ensures))
+loop-again c =
+    let after-slot-hash = c .before .before in
+    let slot-hash = after-slot-hash .slot-hash in
+    let at-loop = after-slot-hash .before .before in (
+      omega arith,
+      tally-more _ _ _ _ (at-loop .loop .inv .1) _ (slot-hash .ensures .0) _ (slot-hash .ensures .1)
+          (c .more .ensures),
+    )
 
 returns : tie.Need-returns Inv-loop μ-loop
 returns c = let e : c .before .loop .k ≡ c .before .before .before .args .end = omega arith in rw e at (c .before .loop .inv .1)

@@ -1,4 +1,5 @@
 -- `all_once` meets its contract: the parts below s stand once.
+-- Rests on: the laws in laws::Tests and laws::All.
 -- Assumes nothing.
 use mathlib.Core.Path.{_≡_, sym}
 use mathlib.Core.Bool.{true}
@@ -26,7 +27,10 @@ element-copy-out-if1 : tie.Need-element-copy-out-if1 Inv-loop μ-loop
 element-copy-out-if1 c = search needs
 
 returns : tie.Need-returns Inv-loop μ-loop
-returns c = sym (all-false _ (c .before .before .before .before .args .n) (c .before .before .before .loop .s) (omega arith) (eq-false (c .if1 .taken)))
+returns c =
+    let at-loop = c .before .before .before in
+    let start = at-loop .before in
+    sym (all-false _ (start .args .n) (at-loop .loop .s) (omega arith) (eq-false (c .if1 .taken)))
 
 add-s : tie.Need-add-s Inv-loop μ-loop
 add-s c = search needs

@@ -1,4 +1,5 @@
 -- `file_blocks` meets its contract: the last i blocks are placed.
+-- Rests on: the laws in Loading/Parts; the contracts of map_record and part_of.
 -- Assumes nothing.
 use mathlib.Core.Path.{_≡_, ap, _∙_}
 use mathlib.Core.Logic.{⊎-elim}
@@ -48,13 +49,19 @@ loop-less : tie.Need-loop-less Inv-loop μ-loop
 loop-less c = omega arith
 
 loop-again : tie.Need-loop-again Inv-loop μ-loop
-loop-again c = let q = c .before .part-of .ensures .0 ∙ ap (λ (m : MapRecord). partOf (c .before .before .before .before .before .args .f) blocks (m .«record»)) (c .before .before .map-record .ensures) in (
-  omega arith,
-  ⊎-elim
-      (λ w. rw (w .1) (from-part _ _ _ _ _ _ (omega arith) (omega arith) (omega arith) (c .before .before .before .before .loop .inv .1) _ q (w .0 .taken)))
-      (λ w. rw (w .1) (from-other _ _ _ _ _ _ (omega arith) (omega arith) (omega arith) (c .before .before .before .before .loop .inv .1) _ q (w .0 .left)))
-      (c .if1 .came),
-)
+loop-again c =
+    let after-map-record = c .before .before in
+    let at-loop = after-map-record .before .before in
+    let loop = at-loop .loop in
+    let start = at-loop .before in
+    let q = c .before .part-of .ensures .0 ∙ ap (λ (m : MapRecord). partOf (start .args .f) blocks (m .«record»))
+    (after-map-record .map-record .ensures) in (
+      omega arith,
+      ⊎-elim
+          (λ w. rw (w .1) (from-part _ _ _ _ _ _ (omega arith) (omega arith) (omega arith) (loop .inv .1) _ q (w .0 .taken)))
+          (λ w. rw (w .1) (from-other _ _ _ _ _ _ (omega arith) (omega arith) (omega arith) (loop .inv .1) _ q (w .0 .left)))
+          (c .if1 .came),
+    )
 
 returns : tie.Need-returns Inv-loop μ-loop
 returns c = let e : blocks - c .before .loop .i ≡ 0 = omega arith in from-all _ _ _ (rw e at (c .before .loop .inv .1))

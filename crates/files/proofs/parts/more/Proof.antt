@@ -1,4 +1,5 @@
 -- `more` meets its contract.
+-- Rests on: the laws in Loading/Tally.
 -- Assumes nothing.
 use Prim.Native.Nat.{_-_}
 use Rattle.files.specs.Laws.Loading.Tally.{more-none, more-some}

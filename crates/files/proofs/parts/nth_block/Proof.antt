@@ -1,4 +1,5 @@
 -- `nth_block` meets its contract.
+-- Rests on: the contracts of block_number and part_block.
 -- Assumes nothing.
 use mathlib.Core.Path.{_∙_}
 use borrow.Author.Needs.{needs}

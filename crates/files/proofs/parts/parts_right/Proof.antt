@@ -1,4 +1,5 @@
 -- `parts_right` meets its contract.
+-- Rests on: the laws in Loading/Tally and Loading/Parts; the contracts of tally_parts and all_once.
 -- Assumes nothing.
 use Rattle.sector_rules.specs.Geometry.{blocks}
 use Prim.Native.Nat.{suc}
@@ -24,7 +25,12 @@ all-once-requires : tie.Need-all-once-requires
 all-once-requires c κs = search needs
 
 returns-3 : tie.Need-returns-3
-returns-3 c = parts-once _ _ _ (c .before .before .before .before .before .if1 .left) _ (c .before .before .before .tally-parts .ensures) _ (c .before .before .if2 .left) (c .all-once .ensures)
+returns-3 c =
+    let else2 = c .before .before in
+    let after-tally-parts = else2 .before in
+    let else1 = after-tally-parts .before .before in
+    parts-once _ _ _ (else1 .if1 .left) _ (after-tally-parts .tally-parts .ensures) _ (else2 .if2 .left)
+    (c .all-once .ensures)
 
 pub parts-right-spec : {M : Type 1} → statement M
 parts-right-spec = tie.close (tie.spec returns tally-parts-requires array-read-if2 returns-2 all-once-requires returns-3)

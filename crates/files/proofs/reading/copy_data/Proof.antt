@@ -1,4 +1,6 @@
 -- `copy_data` meets its contract: the first i bytes are copied.
+-- Rests on: the laws in Loading/Parts, Loading/Loaded, Calling/Delivered and laws::Overlay; the contracts of
+-- file_blocks, nth_block, part_length and copy_part.
 -- Assumes nothing.
 use Rattle.files.specs.Laws.Loading.Parts.{from-none}
 use mathlib.Core.Path.{_≡_, refl, ap, _∙_}
@@ -17,7 +19,8 @@ use Rattle.files.proofs.reading.copy_data.Statement.{statement}
 use Rattle.files.proofs.reading.copy_data.Tie as tie
 
 abbrev Inv-loop : tie.InvT-loop
-Inv-loop image map k n out₀ row i₀ out i = (i ≤ n) × (length out ≡ length out₀) × (out ≡ overlay out₀ 0 i (λ (j : ℕ). fileByte (diskOf image) k (slotBytes + j)))
+Inv-loop image map k n out₀ row i₀ out i =
+    (i ≤ n) × (length out ≡ length out₀) × (out ≡ overlay out₀ 0 i (λ (j : ℕ). fileByte (diskOf image) k (slotBytes + j)))
 
 abbrev μ-loop : tie.MeasureT-loop
 μ-loop image map k n out₀ row i₀ out i = n - i
@@ -50,19 +53,30 @@ loop-less : tie.Need-loop-less Inv-loop μ-loop
 loop-less c = omega arith
 
 loop-again : tie.Need-loop-again Inv-loop μ-loop
-loop-again c = (
-  omega arith,
-  ap length (c .before .before .copy-part .ensures) ∙ overlay-length _ _ _ _ ∙ c .before .before .before .before .before .before .before .before .loop .inv .1,
-  c .before .before .copy-part .ensures
-      ∙ overlay-next _ _ _ _ (λ (j : ℕ). fileByte (diskOf (c .before .before .before .before .before .before .before .before .before .before .before .before .before .args .image .now)) (c .before .before .before .before .before .before .before .before .before .before .before .before .before .args .k) (slotBytes + j)) _ (c .before .before .before .before .before .before .before .before .loop .inv .2)
-      (λ j h. file-run (diskOf (c .before .before .before .before .before .before .before .before .before .before .before .before .before .args .image .now)) (c .before .before .before .before .before .before .before .before .before .before .before .before .before .args .k) (c .before .before .before .before .before .before .before .before .loop .i) j _ (c .before .before .before .before .before .nth-block .ensures ∙ part-loaded _ _ (c .before .before .before .before .before .before .before .before .before .before .before .before .before .pre .1) _ _) (omega arith)),
-)
+loop-again c =
+    let after-copy-part = c .before .before in
+    let after-nth-block = after-copy-part .before .before .before in
+    let at-loop = after-nth-block .before .before .before in
+    let after-file-blocks = at-loop .before in
+    let after-shared-slice-known = after-file-blocks .before .before .before in
+    let start = after-shared-slice-known .before in (
+      omega arith,
+      ap length (after-copy-part .copy-part .ensures) ∙ overlay-length _ _ _ _ ∙ at-loop .loop .inv .1,
+      after-copy-part .copy-part .ensures ∙ overlay-next _ _ _ _
+          (λ (j : ℕ). fileByte (diskOf (start .args .image .now)) (start .args .k) (slotBytes + j)) _ (at-loop .loop .inv .2)
+          (λ j h. file-run (diskOf (start .args .image .now)) (start .args .k) (at-loop .loop .i) j _
+          (after-nth-block .nth-block .ensures ∙ part-loaded _ _ (start .pre .1) _ _) (omega arith)),
+    )
 
 same-length : tie.Need-same-length Inv-loop μ-loop
 same-length c = search needs
 
 returns : tie.Need-returns Inv-loop μ-loop
-returns c = let e : c .before .loop .i ≡ c .before .before .before .before .before .before .args .n = omega arith in rw e at (c .before .loop .inv .2)
+returns c =
+    let after-file-blocks = c .before .before in
+    let after-shared-slice-known = after-file-blocks .before .before .before in
+    let start = after-shared-slice-known .before in
+    let e : c .before .loop .i ≡ start .args .n = omega arith in rw e at (c .before .loop .inv .2)
 
 pub copy-data-spec : {M : Type 1} → statement M
 copy-data-spec =

@@ -1,4 +1,5 @@
 -- `copy_part` meets its contract: the first i bytes are copied.
+-- Rests on: the laws in laws::Overlay; the contracts of run_length and copy_run.
 -- Assumes nothing.
 use mathlib.Core.Path.{_≡_, refl, ap, _∙_}
 use Prim.Native.Nat.{ℕ, _+_, _-_, _≤_}
@@ -47,19 +48,31 @@ loop-less : tie.Need-loop-less Inv-loop μ-loop
 loop-less c = search needs
 
 loop-again : tie.Need-loop-again Inv-loop μ-loop
-loop-again c = (
-  omega arith,
-  ap length (c .before .before .copy-run .ensures) ∙ overlay-length _ _ _ _ ∙ c .before .before .before .before .before .before .loop .inv .1,
-  c .before .before .copy-run .ensures
-      ∙ overlay-on _ _ _ _ _ (λ (j : ℕ). diskOf (c .before .before .before .before .before .before .before .before .before .args .image .now) (c .before .before .before .before .before .before .before .before .before .args .b) (c .before .before .before .before .before .before .before .before .before .args .o + j)) _ (c .before .before .before .before .before .before .loop .inv .2)
-      (λ j h. ap (diskOf (c .before .before .before .before .before .before .before .before .before .args .image .now) (c .before .before .before .before .before .before .before .before .before .args .b)) (add-assoc (c .before .before .before .before .before .before .before .before .before .args .o) (c .before .before .before .before .before .before .loop .i) j)),
-)
+loop-again c =
+    let after-copy-run = c .before .before in
+    let copy-run = after-copy-run .copy-run in
+    let after-run-length = after-copy-run .before .before in
+    let at-loop = after-run-length .before .before in
+    let loop = at-loop .loop in
+    let start = at-loop .before .before .before in
+    let b = start .args .b in
+    let image = start .args .image .now in
+    let o = start .args .o in (
+      omega arith,
+      ap length (copy-run .ensures) ∙ overlay-length _ _ _ _ ∙ loop .inv .1,
+      copy-run .ensures ∙ overlay-on _ _ _
+          _ _ (λ (j : ℕ). diskOf image b (o + j)) _ (loop .inv .2) (λ j h. ap (diskOf image b) (add-assoc o (loop .i) j)),
+    )
 
 same-length : tie.Need-same-length Inv-loop μ-loop
 same-length c = search needs
 
 returns : tie.Need-returns Inv-loop μ-loop
-returns c = let e : c .before .loop .i ≡ c .before .before .before .before .args .n = omega arith in rw e at (c .before .loop .inv .2)
+returns c =
+    let at-loop = c .before in
+    let loop = at-loop .loop in
+    let start = at-loop .before .before .before in
+    let e : loop .i ≡ start .args .n = omega arith in rw e at (loop .inv .2)
 
 pub copy-part-spec : {M : Type 1} → statement M
 copy-part-spec =

@@ -1,4 +1,5 @@
 -- `data_length` meets its contract.
+-- Rests on: the laws in Loading/Slots; the contracts of slot_place and read_entry.
 -- Assumes nothing.
 use mathlib.Core.Path.{_≡_, sym, ap, _∙_}
 use Prim.Native.Nat.{ℕ}
@@ -22,10 +23,28 @@ cast-length : tie.Need-cast-length
 cast-length c = search needs
 
 returns : tie.Need-returns
-returns c = let e : c .before .before .read-entry .result .length ≡ slotEntry (diskOf (c .before .before .before .before .before .args .image .now)) (c .before .before .before .before .before .args .k) .length = ap (λ (x : Entry). x .length) (c .before .before .read-entry .ensures ∙ ap (λ (x : ℕ). entryOf (elementAt (c .before .before .before .before .before .args .image .now) x)) (c .before .before .before .slot-place .ensures .0) ∙ sym (slot-entry-row _ _ _ (c .before .before .before .before .before .pre .0) (c .before .before .before .before .before .pre .1) (c .before .before .before .before .before .pre .2))) in (omega arith, omega arith)
+returns c =
+    let after-read-entry = c .before .before in
+    let read-entry = after-read-entry .read-entry in
+    let after-slot-place = after-read-entry .before in
+    let start = after-slot-place .before .before in
+    let image = start .args .image .now in
+    let e : read-entry .result .length ≡ slotEntry (diskOf image) (start .args .k) .length = ap (λ (x : Entry). x .length)
+    (read-entry .ensures ∙ ap (λ (x : ℕ). entryOf (elementAt image x)) (after-slot-place .slot-place .ensures .0) ∙
+    sym (slot-entry-row _ _ _ (start .pre .0) (start .pre .1) (start .pre .2))) in
+    (omega arith, omega arith)
 
 returns-2 : tie.Need-returns-2
-returns-2 c = let e : c .before .before .read-entry .result .length ≡ slotEntry (diskOf (c .before .before .before .before .before .args .image .now)) (c .before .before .before .before .before .args .k) .length = ap (λ (x : Entry). x .length) (c .before .before .read-entry .ensures ∙ ap (λ (x : ℕ). entryOf (elementAt (c .before .before .before .before .before .args .image .now) x)) (c .before .before .before .slot-place .ensures .0) ∙ sym (slot-entry-row _ _ _ (c .before .before .before .before .before .pre .0) (c .before .before .before .before .before .pre .1) (c .before .before .before .before .before .pre .2))) in (omega arith, omega arith)
+returns-2 c =
+    let after-read-entry = c .before .before in
+    let read-entry = after-read-entry .read-entry in
+    let after-slot-place = after-read-entry .before in
+    let start = after-slot-place .before .before in
+    let image = start .args .image .now in
+    let e : read-entry .result .length ≡ slotEntry (diskOf image) (start .args .k) .length = ap (λ (x : Entry). x .length)
+    (read-entry .ensures ∙ ap (λ (x : ℕ). entryOf (elementAt image x)) (after-slot-place .slot-place .ensures .0) ∙
+    sym (slot-entry-row _ _ _ (start .pre .0) (start .pre .1) (start .pre .2))) in
+    (omega arith, omega arith)
 
 pub data-length-spec : {M : Type 1} → statement M
 data-length-spec = tie.close (tie.spec slot-place-requires read-entry-requires cast-length returns returns-2)

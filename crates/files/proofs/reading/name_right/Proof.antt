@@ -1,4 +1,5 @@
 -- `name_right` meets its contract.
+-- Rests on: the code alone.
 -- Assumes nothing.
 use mathlib.Core.Path.{refl}
 use Prim.Native.Nat.{_-_}

@@ -1,4 +1,5 @@
 -- `bearer` meets its contract.
+-- Rests on: the laws in Loading/Chains.
 -- Assumes nothing.
 use borrow.Author.Needs.{needs}
 use Rattle.files.specs.Laws.Loading.Chains.{bearer-free, bearer-system, bearer-other, bearer-file, bearer-far}

@@ -1,4 +1,5 @@
 -- `bears_file` meets its contract.
+-- Rests on: the code alone.
 -- Assumes nothing.
 use Prim.Native.Nat.{_-_}
 use borrow.Author.Needs.{needs}

@@ -1,4 +1,5 @@
 -- `is_free` meets its contract.
+-- Rests on: the code alone.
 -- Assumes nothing.
 use borrow.Author.Needs.{needs}
 use Rattle.file_rules.specs.Map.{isFree}

@@ -1,4 +1,5 @@
 -- `number_of` meets its contract.
+-- Rests on: the code alone.
 -- Assumes nothing.
 use Rattle.file_rules.specs.Map.{numberOf}
 use borrow.Author.Needs.{needs}

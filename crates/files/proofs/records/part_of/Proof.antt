@@ -1,4 +1,5 @@
 -- `part_of` meets its contract.
+-- Rests on: the laws in Loading/Parts.
 -- Assumes nothing.
 use native.Mathlib.Omega.{arith}
 use Rattle.files.specs.Laws.Loading.Parts.{partOf, part-other, part-low, part-later}

@@ -1,4 +1,5 @@
 -- `record_bytes` meets its contract.
+-- Rests on: the laws in Loading/Records; the contract of number_of.
 -- Assumes nothing.
 use Rattle.files.specs.Laws.Loading.Records.{record-row}
 use borrow.Author.Needs.{needs}

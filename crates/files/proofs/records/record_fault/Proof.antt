@@ -1,4 +1,5 @@
 -- `record_fault` meets its contract.
+-- Rests on: the laws in Loading/Records.
 -- Assumes nothing.
 use borrow.Author.Needs.{needs}
 use Rattle.files.specs.Laws.Loading.Records.{fault-free, fault-system, fault-file, fault-other}

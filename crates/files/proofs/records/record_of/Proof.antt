@@ -1,4 +1,5 @@
 -- `record_of` meets its contract.
+-- Rests on: the code alone.
 -- Assumes nothing.
 use borrow.Author.Needs.{needs}
 use borrow.Author.Tests.{lt-ltb, le-ltb, ne-eqb}

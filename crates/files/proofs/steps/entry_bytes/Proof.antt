@@ -1,4 +1,6 @@
 -- `entry_bytes` meets its contract: the fields are written in the order of the definition.
+-- Rests on: the laws in Writing/Steps; the contracts of fields::put_high4, fields::put_high2 and
+-- fields::copy_into.
 -- Assumes nothing.
 use mathlib.Core.Path.{_≡_, refl}
 use lib.ListN.{length}
@@ -41,7 +43,15 @@ put-high4-requires-2 c κs = search needs
 
 returns : tie.Need-returns
 unfolding tab
-returns c = entry-row (c .before .before .before .before .before .before .before .before .before .before .before .before .before .before .args .e) (name-long (c .before .before .before .before .before .before .before .before .before .before .before .before .before .before)) _ _ _ _ _ refl (c .before .before .before .before .before .before .before .before .before .before .before .put-high4 .ensures) (c .before .before .before .before .before .before .before .before .put-high2 .ensures) (c .before .before .before .before .copy-into .ensures) (c .before .put-high42 .ensures)
+returns c =
+    let after-put-high42 = c .before in
+    let after-copy-into = after-put-high42 .before .before .before in
+    let after-row4 = after-copy-into .before .before .before in
+    let after-put-high2 = after-row4 .before in
+    let after-put-high4 = after-put-high2 .before .before .before in
+    let start = after-put-high4 .before .before .before in
+    entry-row (start .args .e) (name-long (start)) _ _ _ _ _ refl (after-put-high4 .put-high4 .ensures)
+    (after-put-high2 .put-high2 .ensures) (after-copy-into .copy-into .ensures) (after-put-high42 .put-high42 .ensures)
 
 pub entry-bytes-spec : {M : Type 1} → statement M
 entry-bytes-spec =

@@ -1,4 +1,5 @@
 -- `free_blocks` meets its contract: the blocks below b are freed.
+-- Rests on: the laws in Writing/Given and Writing/InStep; the contract of free_block.
 -- Assumes nothing.
 use mathlib.Core.Path.{_≡_, sym, _∙_}
 use Prim.Native.Nat.{_-_, _≤_}
@@ -31,7 +32,12 @@ loop-less : tie.Need-loop-less Inv-loop μ-loop
 loop-less c = omega arith
 
 loop-again : tie.Need-loop-again Inv-loop μ-loop
-loop-again c = (omega arith, freed-more _ _ _ _ _ (omega arith) (c .before .before .before .before .before .before .loop .inv .1) (c .before .before .free-block .ensures .0), c .before .before .free-block .ensures .1)
+loop-again c =
+    let after-free-block = c .before .before in
+    let free-block = after-free-block .free-block in
+    let in-loop = after-free-block .before .before .before in
+    let at-loop = in-loop .before in
+    (omega arith, freed-more _ _ _ _ _ (omega arith) (at-loop .loop .inv .1) (free-block .ensures .0), free-block .ensures .1)
 
 same-length : tie.Need-same-length Inv-loop μ-loop
 same-length c = c .before .loop .inv .2 .long ∙ sym (c .before .before .before .pre .long)

@@ -1,4 +1,6 @@
 -- `give_blocks` meets its contract: the walk has given the free blocks below b, as long as there are not enough; the records from b on are as they were.
+-- Rests on: the laws in Loading/Loaded, Writing/Steps, Writing/Given, Writing/InStep and laws::Tests; the
+-- contracts of map_record, is_free and give_block.
 -- Assumes nothing.
 use mathlib.Core.Path.{_≡_, refl, sym, ap, _∙_}
 use mathlib.Core.Logic.{⊎-elim}
@@ -19,13 +21,22 @@ use Rattle.files.proofs.steps.give_blocks.Statement.{statement}
 use Rattle.files.proofs.steps.give_blocks.Tie as tie
 
 abbrev Inv-loop : tie.InvT-loop
-Inv-loop image₀ map₀ f s n head content given₀ b₀ image map given b = (b ≤ blocks) × InStep map image × ((j : ℕ) → b ≤ j → j < blocks → loadedRecord map j ≡ recordAt (diskOf image₀) j) × Walked (diskOf image₀) f (storedRow head content) s n b given image
+Inv-loop image₀ map₀ f s n head content given₀ b₀ image map given b =
+    (b ≤ blocks) × InStep map image × ((j : ℕ) → b ≤ j → j < blocks → loadedRecord map j ≡ recordAt (diskOf image₀) j) ×
+    Walked (diskOf image₀) f (storedRow head content) s n b given image
 
 abbrev μ-loop : tie.MeasureT-loop
 μ-loop image₀ map₀ f s n head content given₀ b₀ image map given b = blocks - b
 
 loop-holds : tie.Need-loop-holds Inv-loop μ-loop
-loop-holds c = (omega arith, c .before .before .before .pre .0, λ j h l. record-loaded _ _ (c .before .before .before .pre .0 .loadedMap) j l, walked-none _ _ _ _ _ _ refl (c .before .before .before .pre .0 .long))
+loop-holds c = (
+  omega arith,
+  c .before .before .before .pre .0,
+  λ j h l. record-loaded _ _
+      (c .before .before .before .pre .0 .loadedMap) j l,
+  walked-none _ _ _ _ _ _ refl
+      (c .before .before .before .pre .0 .long),
+)
 
 map-record-requires : tie.Need-map-record-requires Inv-loop μ-loop
 map-record-requires c κs = search needs
@@ -38,7 +49,20 @@ add-give-block c = search needs
 
 give-block-requires : tie.Need-give-block-requires Inv-loop μ-loop
 unfolding isFree
-give-block-requires c κs = let h : c .before .before .before .before .before .before .before .loop .given < c .before .before .before .before .before .before .before .before .before .before .before .args .n = asked-below _ _ _ (c .before .before .if1 .taken) in let free = ap isFree (sym (ap (λ (m : MapRecord). m .«record») (c .before .before .before .before .map-record .ensures))) ∙ sym (c .before .before .before .is-free .ensures) ∙ and-right (ltb (c .before .before .before .before .before .before .before .loop .given) (c .before .before .before .before .before .before .before .before .before .before .before .args .n)) _ (c .before .before .if1 .taken) in (c .before .before .before .before .before .before .before .loop .inv .1, not-first _ _ (c .before .before .before .before .before .before .before .loop .inv .1) isFree refl _ free, omega arith, c .before .before .before .before .before .before .before .before .before .before .before .pre .1, omega arith)
+give-block-requires c κs =
+    let then1 = c .before .before in
+    let if1 = then1 .if1 in
+    let after-is-free = then1 .before in
+    let after-map-record = after-is-free .before in
+    let at-loop = after-map-record .before .before .before in
+    let loop = at-loop .loop in
+    let after-slice-known = at-loop .before .before .before in
+    let start = after-slice-known .before in
+    let n = start .args .n in
+    let h : loop .given < n = asked-below _ _ _ (if1 .taken) in
+    let free = ap isFree (sym (ap (λ (m : MapRecord). m .«record») (after-map-record .map-record .ensures))) ∙ sym
+    (after-is-free .is-free .ensures) ∙ and-right (ltb (loop .given) n) _ (if1 .taken) in
+    (loop .inv .1, not-first _ _ (loop .inv .1) isFree refl _ free, omega arith, start .pre .1, omega arith)
 
 add-given : tie.Need-add-given Inv-loop μ-loop
 add-given c = search needs
@@ -50,18 +74,28 @@ loop-less : tie.Need-loop-less Inv-loop μ-loop
 loop-less c = omega arith
 
 loop-again : tie.Need-loop-again Inv-loop μ-loop
-loop-again c = let free = c .before .is-free .ensures ∙ ap isFree (ap (λ (m : MapRecord). m .«record») (c .before .before .map-record .ensures) ∙ c .before .before .before .before .before .loop .inv .2 _ (omega arith) (omega arith)) in (
-  omega arith,
-  ⊎-elim (λ w. rw (w .6, w .7) (w .3 .ensures .2)) (λ w. rw (w .1, w .2) (c .before .before .before .before .before .loop .inv .1)) (c .if1 .came),
-  ⊎-elim (λ w. rw (w .7, w .3 .ensures .1) (rest-more _ _ _ _ (c .before .before .before .before .before .loop .inv .2))) (λ w. rw (w .2) (λ j p q. c .before .before .before .before .before .loop .inv .2 j (omega arith) q)) (c .if1 .came),
-  ⊎-elim
-      (λ w. rw (w .6, w .8) (walked-given _ _ _ _ _ _ _ _ (c .before .before .before .before .before .loop .inv .3) _ free _ (w .0 .taken) (w .3 .ensures .0)))
-      (λ w. rw (w .1, w .3) (walked-asked _ _ _ _ _ _ _ _ (c .before .before .before .before .before .loop .inv .3) _ free (w .0 .left)))
-      (c .if1 .came),
-)
+loop-again c =
+    let after-map-record = c .before .before in
+    let at-loop = after-map-record .before .before .before in
+    let loop = at-loop .loop in
+    let free = c .before .is-free .ensures ∙ ap isFree
+    (ap (λ (m : MapRecord). m .«record») (after-map-record .map-record .ensures) ∙
+    loop .inv .2 _ (omega arith) (omega arith)) in (
+      omega arith,
+      ⊎-elim (λ w. rw (w .6, w .7) (w .3 .ensures .2)) (λ w. rw (w .1, w .2) (loop .inv .1)) (c .if1 .came),
+      ⊎-elim (λ w. rw (w .7, w .3 .ensures .1) (rest-more _ _ _ _ (loop .inv .2)))
+          (λ w. rw (w .2) (λ j p q. loop .inv .2 j (omega arith) q)) (c .if1 .came),
+      ⊎-elim
+          (λ w. rw (w .6, w .8) (walked-given _ _ _ _ _ _ _ _ (loop .inv .3) _ free _ (w .0 .taken) (w .3 .ensures .0)))
+          (λ w. rw (w .1, w .3) (walked-asked _ _ _ _ _ _ _ _ (loop .inv .3) _ free (w .0 .left))) (c .if1 .came),
+    )
 
 same-length : tie.Need-same-length Inv-loop μ-loop
-same-length c = c .before .loop .inv .1 .long ∙ sym (c .before .before .before .before .before .pre .0 .long)
+same-length c =
+    let at-loop = c .before in
+    let after-slice-known = at-loop .before .before .before in
+    let start = after-slice-known .before in
+    at-loop .loop .inv .1 .long ∙ sym (start .pre .0 .long)
 
 returns : tie.Need-returns Inv-loop μ-loop
 returns c = let e : c .before .loop .b ≡ blocks = omega arith in (rw e at (c .before .loop .inv .3 .image), c .before .loop .inv .1)

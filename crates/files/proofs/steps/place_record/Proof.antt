@@ -1,4 +1,5 @@
 -- `place_record` meets its contract.
+-- Rests on: the laws in Writing/InStep; the contracts of set_record and number_of.
 -- Assumes nothing.
 use Rattle.files.specs.Laws.Writing.InStep.{step-record}
 use borrow.Author.Needs.{needs}
@@ -21,7 +22,15 @@ same-length : tie.Need-same-length
 same-length c = search needs
 
 returns : tie.Need-returns
-returns c = (c .before .before .before .set-record .ensures, rw (c .number-of .ensures), rw (c .number-of .ensures) (step-record _ _ (c .before .before .before .before .before .before .pre .0) _ _ _ (c .before .before .before .set-record .ensures) (c .before .before .before .before .before .before .pre .1) (c .before .before .before .before .before .before .pre .2) (c .before .before .before .before .before .before .pre .3)))
+returns c =
+    let after-set-record = c .before .before .before in
+    let set-record = after-set-record .set-record in
+    let start = after-set-record .before .before .before in (
+      set-record .ensures,
+      rw (c .number-of .ensures),
+      rw (c .number-of .ensures)
+          (step-record _ _ (start .pre .0) _ _ _ (set-record .ensures) (start .pre .1) (start .pre .2) (start .pre .3)),
+    )
 
 pub place-record-spec : {M : Type 1} → statement M
 place-record-spec =

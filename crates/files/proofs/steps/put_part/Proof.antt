@@ -1,4 +1,5 @@
 -- `put_part` meets its contract: the first p sectors are written.
+-- Rests on: the laws in Writing/Stored, Writing/Steps and Writing/Rows; the contract of put_sector.
 -- Assumes nothing.
 use mathlib.Core.Path.{_≡_, _∙_}
 use Prim.Native.Nat.{ℕ, _+_, _-_, _*_, _≤_}
@@ -14,7 +15,9 @@ use Rattle.files.proofs.steps.put_part.Statement.{statement}
 use Rattle.files.proofs.steps.put_part.Tie as tie
 
 abbrev Inv-loop : tie.InvT-loop
-Inv-loop image₀ b s head content p₀ image p = (p ≤ blockSectors) × (length image ≡ imageBytes) × (image ≡ imageOf (patched (diskOf image₀) b 0 (p * 512) (λ (i : ℕ). storedRow head content (s * 1536 + i))))
+Inv-loop image₀ b s head content p₀ image p =
+    (p ≤ blockSectors) × (length image ≡ imageBytes) ×
+    (image ≡ imageOf (patched (diskOf image₀) b 0 (p * 512) (λ (i : ℕ). storedRow head content (s * 1536 + i))))
 
 abbrev μ-loop : tie.MeasureT-loop
 μ-loop image₀ b s head content p₀ image p = blockSectors - p
@@ -41,7 +44,18 @@ loop-less : tie.Need-loop-less Inv-loop μ-loop
 loop-less c = search needs
 
 loop-again : tie.Need-loop-again Inv-loop μ-loop
-loop-again c = (omega arith, c .before .before .put-sector .kept .0 ∙ c .before .before .before .before .before .loop .inv .1, sector-next _ _ (c .before .before .before .before .before .before .before .before .before .args .s) (storedRow (c .before .before .before .before .before .before .before .before .before .args .head .now) (c .before .before .before .before .before .before .before .before .before .args .content .now)) (c .before .before .before .before .before .loop .p) _ _ (c .before .before .before .before .before .loop .inv .2) (c .before .before .put-sector .ensures))
+loop-again c =
+    let after-put-sector = c .before .before in
+    let put-sector = after-put-sector .put-sector in
+    let at-loop = after-put-sector .before .before .before in
+    let loop = at-loop .loop in
+    let after-slice-known = at-loop .before .before .before in
+    let start = after-slice-known .before in (
+      omega arith,
+      put-sector .kept .0 ∙ loop .inv .1,
+      sector-next _ _ (start .args .s)
+          (storedRow (start .args .head .now) (start .args .content .now)) (loop .p) _ _ (loop .inv .2) (put-sector .ensures),
+    )
 
 same-length : tie.Need-same-length Inv-loop μ-loop
 same-length c = search needs

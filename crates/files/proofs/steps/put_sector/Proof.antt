@@ -1,4 +1,5 @@
 -- `put_sector` meets its contract: a part of the data, or a row made for it.
+-- Rests on: the laws in Writing/Stored and Writing/Rows; the contracts of put_run and stored_sector.
 -- Assumes nothing.
 use mathlib.Core.Path.{_∙_}
 use Prim.Native.Nat.{_+_, _-_, _≤_}
@@ -12,11 +13,23 @@ use Rattle.files.specs.Laws.Writing.Rows.{content-row, content-past, con
 use Rattle.files.proofs.steps.put_sector.Statement.{statement}
 use Rattle.files.proofs.steps.put_sector.Tie as tie
 
-past : (c : tie.Then1) → slotBytes ≤ c .before .before .before .before .args .i
-past c = content-past (c .before .before .before .before .args .content .now) (c .before .before .before .before .args .i) (c .if1 .taken)
+past : (c : tie.Then1) →
+    let after-slice-known = c .before .before .before in
+    let args = after-slice-known .before .args in
+    slotBytes ≤ args .i
+past c =
+    let after-slice-known = c .before .before .before in
+    let start = after-slice-known .before in
+    content-past (start .args .content .now) (start .args .i) (c .if1 .taken)
 
-within : (c : tie.Then1) → c .before .before .before .before .args .i + sectorBytes - slotBytes ≤ length (c .before .before .before .before .args .content .now)
-within c = content-within (c .before .before .before .before .args .content .now) (c .before .before .before .before .args .i) (c .if1 .taken)
+within : (c : tie.Then1) →
+    let after-slice-known = c .before .before .before in
+    let args = after-slice-known .before .args in
+    args .i + sectorBytes - slotBytes ≤ length (args .content .now)
+within c =
+    let after-slice-known = c .before .before .before in
+    let start = after-slice-known .before in
+    content-within (start .args .content .now) (start .args .i) (c .if1 .taken)
 
 add-end : tie.Need-add-end
 add-end c = search needs
@@ -46,7 +59,14 @@ same-length : tie.Need-same-length
 same-length c = search needs
 
 returns : tie.Need-returns
-returns c = c .before .before .put-run .ensures ∙ patched-row _ _ _ _ _ _ (content-row (c .before .before .before .before .before .before .before .before .before .args .content .now) (c .before .before .before .before .before .before .before .before .before .args .i) (c .before .before .before .before .before .if1 .taken) (c .before .before .before .before .before .before .before .before .before .args .head .now))
+returns c =
+    let after-put-run = c .before .before in
+    let then1 = after-put-run .before .before .before in
+    let after-slice-known = then1 .before .before .before in
+    let start = after-slice-known .before in
+    after-put-run .put-run .ensures ∙
+    patched-row _ _ _ _ _ _
+    (content-row (start .args .content .now) (start .args .i) (then1 .if1 .taken) (start .args .head .now))
 
 stored-sector-requires : tie.Need-stored-sector-requires
 stored-sector-requires c κs = search needs
@@ -64,7 +84,10 @@ same-length-2 : tie.Need-same-length-2
 same-length-2 c = search needs
 
 returns-2 : tie.Need-returns-2
-returns-2 c = c .before .before .put-run2 .ensures ∙ patched-row _ _ _ _ _ _ (c .before .before .before .before .before .stored-sector .ensures)
+returns-2 c =
+    let after-put-run2 = c .before .before in
+    let after-stored-sector = after-put-run2 .before .before .before in
+    after-put-run2 .put-run2 .ensures ∙ patched-row _ _ _ _ _ _ (after-stored-sector .stored-sector .ensures)
 
 pub put-sector-spec : {M : Type 1} → statement M
 put-sector-spec =

@@ -1,4 +1,5 @@
 -- `set_end` meets its contract.
+-- Rests on: the laws in Writing/Steps; the contract of put_word2.
 -- Assumes nothing.
 use borrow.Author.Needs.{needs}
 use Rattle.files.specs.Laws.Writing.Steps.{end-written}
@@ -23,7 +24,11 @@ same-length c = search needs
 
 returns : tie.Need-returns
 unfolding setWord
-returns c = end-written _ _ _ _ (c .before .before .before .before .before .before .put-word2 .ensures) (c .before .before .put-word22 .ensures)
+returns c =
+    let after-put-word22 = c .before .before in
+    let after-image = after-put-word22 .before .before .before in
+    let after-put-word2 = after-image .before in
+    end-written _ _ _ _ (after-put-word2 .put-word2 .ensures) (after-put-word22 .put-word22 .ensures)
 
 pub set-end-spec : {M : Type 1} → statement M
 set-end-spec =

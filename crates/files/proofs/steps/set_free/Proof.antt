@@ -1,4 +1,5 @@
 -- `set_free` meets its contract.
+-- Rests on: the laws in Loading/Loaded; the contracts of count_free and put_word2.
 -- Assumes nothing.
 use mathlib.Core.Path.{_∙_}
 use Rattle.file_rules.specs.Written.{setFree, setWord}
@@ -21,7 +22,12 @@ same-length c = search needs
 
 returns : tie.Need-returns
 unfolding setFree setWord
-returns c = rw (c .before .before .before .before .count-free .ensures .0 ∙ free-loaded _ _ (c .before .before .before .before .before .before .pre .loadedMap)) at (c .before .before .put-word2 .ensures)
+returns c =
+    let after-put-word2 = c .before .before in
+    let after-count-free = after-put-word2 .before .before in
+    let start = after-count-free .before .before in
+    rw (after-count-free .count-free .ensures .0 ∙ free-loaded _ _ (start .pre .loadedMap)) at
+    (after-put-word2 .put-word2 .ensures)
 
 pub set-free-spec : {M : Type 1} → statement M
 set-free-spec =

@@ -1,4 +1,5 @@
 -- `set_record` meets its contract.
+-- Rests on: the laws in Writing/Stored; the contracts of record_bytes and put_bytes.
 -- Assumes nothing.
 use mathlib.Core.Path.{_∙_}
 use borrow.Author.Needs.{needs}
@@ -28,7 +29,12 @@ same-length c = search needs
 
 returns : tie.Need-returns
 unfolding setRecord
-returns c = c .before .before .put-bytes .ensures ∙ patched-row _ _ _ _ 3 (encode (c .before .before .before .before .before .before .before .args .r)) (c .before .before .before .before .before .record-bytes .ensures)
+returns c =
+    let after-put-bytes = c .before .before in
+    let after-record-bytes = after-put-bytes .before .before .before in
+    let start = after-record-bytes .before .before in
+    after-put-bytes .put-bytes .ensures ∙
+    patched-row _ _ _ _ 3 (encode (start .args .r)) (after-record-bytes .record-bytes .ensures)
 
 pub set-record-spec : {M : Type 1} → statement M
 set-record-spec =

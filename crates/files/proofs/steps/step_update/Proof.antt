@@ -1,4 +1,5 @@
 -- `step_update` meets its contract.
+-- Rests on: the contracts of block_word4 and put_word4.
 -- Assumes nothing.
 use borrow.Author.Needs.{needs}
 use Rattle.file_rules.specs.Written.{stepUpdate}
@@ -22,7 +23,10 @@ same-length c = search needs
 
 returns : tie.Need-returns
 unfolding stepUpdate
-returns c = rw (c .before .before .before .before .block-word4 .ensures) at (c .before .before .put-word4 .ensures)
+returns c =
+    let after-put-word4 = c .before .before in
+    let after-block-word4 = after-put-word4 .before .before in
+    rw (after-block-word4 .block-word4 .ensures) at (after-put-word4 .put-word4 .ensures)
 
 pub step-update-spec : {M : Type 1} → statement M
 step-update-spec =

@@ -1,4 +1,5 @@
 -- `stored_byte` meets its contract.
+-- Rests on: the laws in Writing/Steps; the contract of fields::byte.
 -- Assumes nothing.
 use mathlib.Core.Path.{_∙_}
 use borrow.Author.Needs.{needs}

@@ -1,4 +1,5 @@
 -- `stored_sector` meets its contract: the first k bytes are there.
+-- Rests on: the laws in Writing/Steps, Writing/Rows and laws::Tab; the contract of stored_byte.
 -- Assumes nothing.
 use mathlib.Core.Path.{_≡_, refl}
 use Prim.Native.Nat.{ℕ, _+_, _-_, _≤_, _<_}
@@ -38,7 +39,16 @@ loop-less : tie.Need-loop-less Inv-loop μ-loop
 loop-less c = search needs
 
 loop-again : tie.Need-loop-again Inv-loop μ-loop
-loop-again c = (omega arith, simp length-set (c .before .before .loop .inv .1), row-bytes-more (c .before .before .loop .row) (c .before .before .loop .k) _ (λ (j : ℕ). storedRow (c .before .before .before .before .before .args .head .now) (c .before .before .before .before .before .args .content .now) (c .before .before .before .before .before .args .i + j)) (omega arith) (c .before .before .loop .inv .2) (c .stored-byte .ensures))
+loop-again c =
+    let at-loop = c .before .before in
+    let loop = at-loop .loop in
+    let start = at-loop .before .before .before in (
+      omega arith,
+      simp length-set (loop .inv .1),
+      row-bytes-more (loop .row) (loop .k) _
+          (λ (j : ℕ). storedRow (start .args .head .now) (start .args .content .now) (start .args .i + j)) (omega arith)
+          (loop .inv .2) (c .stored-byte .ensures),
+    )
 
 returns : tie.Need-returns Inv-loop μ-loop
 returns c = eq-tab _ _ _ (c .before .loop .inv .1) (λ j h. c .before .loop .inv .2 j (omega arith))

@@ -1,4 +1,6 @@
 -- `write_entry` meets its contract.
+-- Rests on: the laws in Loading/Loaded, Writing/Given and Writing/Stored; the contracts of part_block,
+-- entry_bytes and put_bytes.
 -- Assumes nothing.
 use mathlib.Core.Path.{_∙_}
 use Rattle.file_rules.specs.Sizes.{slotBytes}
@@ -23,13 +25,23 @@ slice-aggregate-put-bytes : tie.Need-slice-aggregate-put-bytes
 slice-aggregate-put-bytes c = search needs
 
 put-bytes-requires : tie.Need-put-bytes-requires
-put-bytes-requires c κs = (c .before .before .before .before .before .pre .long, search needs)
+put-bytes-requires c κs =
+    let after-part-block = c .before .before .before in
+    let start = after-part-block .before .before in
+    (start .pre .long, search needs)
 
 same-length : tie.Need-same-length
 same-length c = search needs
 
 returns : tie.Need-returns
-returns c = slot-written _ _ _ _ _ (c .before .before .before .before .before .before .part-block .ensures .0 ∙ part-loaded _ _ (c .before .before .before .before .before .before .before .before .pre .loadedMap) _ _) (c .before .before .put-bytes .ensures ∙ patched-row _ _ _ _ slotBytes (entryByte (c .before .before .before .before .before .before .before .before .args .e)) (c .before .before .before .before .before .entry-bytes .ensures))
+returns c =
+    let after-put-bytes = c .before .before in
+    let after-entry-bytes = after-put-bytes .before .before .before in
+    let after-part-block = after-entry-bytes .before in
+    let start = after-part-block .before .before in
+    slot-written _ _ _ _ _ (after-part-block .part-block .ensures .0 ∙ part-loaded _ _ (start .pre .loadedMap) _ _)
+    (after-put-bytes .put-bytes .ensures ∙
+    patched-row _ _ _ _ slotBytes (entryByte (start .args .e)) (after-entry-bytes .entry-bytes .ensures))
 
 pub write-entry-spec : {M : Type 1} → statement M
 write-entry-spec =

@@ -1,4 +1,5 @@
 -- `zero_block` meets its contract.
+-- Rests on: the laws in Writing/Steps; the contract of zero_bytes.
 -- Assumes nothing.
 use mathlib.Core.Path.{_∙_}
 use borrow.Author.Needs.{needs}

@@ -1,4 +1,5 @@
 -- `zero_slot` meets its contract.
+-- Rests on: the laws in Loading/Loaded and Writing/Given; the contracts of part_block and zero_bytes.
 -- Assumes nothing.
 use mathlib.Core.Path.{_∙_}
 use Rattle.file_rules.specs.Written.{zeros}
@@ -22,7 +23,12 @@ same-length c = search needs
 
 returns : tie.Need-returns
 unfolding zeros
-returns c = slot-written _ _ _ _ _ (c .before .before .before .before .part-block .ensures .0 ∙ part-loaded _ _ (c .before .before .before .before .before .before .pre .loadedMap) _ _) (c .before .before .zero-bytes .ensures)
+returns c =
+    let after-zero-bytes = c .before .before in
+    let after-part-block = after-zero-bytes .before .before in
+    let start = after-part-block .before .before in
+    slot-written _ _ _ _ _ (after-part-block .part-block .ensures .0 ∙ part-loaded _ _ (start .pre .loadedMap) _ _)
+    (after-zero-bytes .zero-bytes .ensures)
 
 pub zero-slot-spec : {M : Type 1} → statement M
 zero-slot-spec =

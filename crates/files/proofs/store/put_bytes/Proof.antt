@@ -1,4 +1,5 @@
 -- `put_bytes` meets its contract: the first i bytes are written.
+-- Rests on: the laws in Writing/Stored and Writing/Rows; the contracts of run_length and put_run.
 -- Assumes nothing.
 use mathlib.Core.Path.{_≡_, _∙_}
 use Prim.Native.Nat.{ℕ, _-_, _≤_}
@@ -13,7 +14,9 @@ use Rattle.files.proofs.store.put_bytes.Statement.{statement}
 use Rattle.files.proofs.store.put_bytes.Tie as tie
 
 abbrev Inv-loop : tie.InvT-loop
-Inv-loop image₀ b o src i₀ image i = (i ≤ length src) × (length image ≡ imageBytes) × (image ≡ imageOf (patched (diskOf image₀) b o i (λ (k : ℕ). getD src k 0)))
+Inv-loop image₀ b o src i₀ image i =
+    (i ≤ length src) × (length image ≡ imageBytes) ×
+    (image ≡ imageOf (patched (diskOf image₀) b o i (λ (k : ℕ). getD src k 0)))
 
 abbrev μ-loop : tie.MeasureT-loop
 μ-loop image₀ b o src i₀ image i = length src - i
@@ -52,13 +55,27 @@ loop-less : tie.Need-loop-less Inv-loop μ-loop
 loop-less c = search needs
 
 loop-again : tie.Need-loop-again Inv-loop μ-loop
-loop-again c = (omega arith, c .before .before .put-run .kept .0 ∙ c .before .before .before .before .before .before .before .loop .inv .1, rows-part _ _ _ _ _ _ _ _ (c .before .before .before .before .before .before .before .loop .inv .2) (omega arith) (omega arith) (c .before .before .put-run .ensures))
+loop-again c =
+    let after-put-run = c .before .before in
+    let put-run = after-put-run .put-run in
+    let after-run-length = after-put-run .before .before .before in
+    let at-loop = after-run-length .before .before in
+    let loop = at-loop .loop in (
+      omega arith,
+      put-run .kept .0 ∙ loop .inv .1,
+      rows-part _ _ _ _ _ _ _ _ (loop .inv .2) (omega arith) (omega arith)
+          (put-run .ensures),
+    )
 
 same-length : tie.Need-same-length Inv-loop μ-loop
 same-length c = search needs
 
 returns : tie.Need-returns Inv-loop μ-loop
-returns c = let e : c .before .loop .i ≡ length (c .before .before .before .before .args .src .now) = omega arith in rw e at (c .before .loop .inv .2)
+returns c =
+    let at-loop = c .before in
+    let loop = at-loop .loop in
+    let start = at-loop .before .before .before in
+    let e : loop .i ≡ length (start .args .src .now) = omega arith in rw e at (loop .inv .2)
 
 pub put-bytes-spec : {M : Type 1} → statement M
 put-bytes-spec =

@@ -1,4 +1,5 @@
 -- `put_run` meets its contract.
+-- Rests on: the laws in Writing/Steps and Writing/Rows; the contracts of run_place and fields::copy_into.
 -- Assumes nothing.
 use mathlib.Core.Path.{refl, _∙_}
 use borrow.Author.Needs.{needs}
@@ -17,7 +18,13 @@ same-length : tie.Need-same-length
 same-length c = search needs
 
 returns : tie.Need-returns
-returns c = c .before .before .copy-into .ensures ∙ put-row _ _ _ _ refl ∙ row-written _ _ _ _ (c .before .before .before .before .before .before .before .pre .0) _ _ (c .before .before .before .run-place .ensures) (c .before .before .before .before .before .before .before .pre .1) (c .before .before .before .before .before .before .before .pre .2)
+returns c =
+    let after-copy-into = c .before .before in
+    let after-run-place = after-copy-into .before in
+    let after-slice-known = after-run-place .before .before .before in
+    let start = after-slice-known .before in
+    after-copy-into .copy-into .ensures ∙ put-row _ _ _ _ refl ∙
+    row-written _ _ _ _ (start .pre .0) _ _ (after-run-place .run-place .ensures) (start .pre .1) (start .pre .2)
 
 pub put-run-spec : {M : Type 1} → statement M
 put-run-spec = tie.close (tie.spec run-place-requires copy-into-requires same-length returns)

@@ -1,4 +1,5 @@
 -- `put_word4` meets its contract.
+-- Rests on: the laws in Writing/Stored and laws::Numbers; the contract of put_bytes.
 -- Assumes nothing.
 use mathlib.Core.Path.{_∙_}
 use borrow.Author.Needs.{needs}
@@ -30,7 +31,12 @@ same-length : tie.Need-same-length
 same-length c = search needs
 
 returns : tie.Need-returns
-returns c = c .before .before .put-bytes .ensures ∙ patched-row _ _ _ _ 4 (highByte 4 (c .before .before .before .before .before .before .args .v)) (high-row4 (c .before .before .before .before .before .before .args .v))
+returns c =
+    let after-put-bytes = c .before .before in
+    let after-slice-known = after-put-bytes .before .before .before in
+    let start = after-slice-known .before in
+    let v = start .args .v in
+    after-put-bytes .put-bytes .ensures ∙ patched-row _ _ _ _ 4 (highByte 4 v) (high-row4 v)
 
 pub put-word4-spec : {M : Type 1} → statement M
 put-word4-spec =

@@ -1,4 +1,5 @@
 -- `zero_bytes` meets its contract: the first i bytes are written.
+-- Rests on: the laws in Writing/Stored and Writing/Rows; the contracts of run_length and zero_run.
 -- Assumes nothing.
 use mathlib.Core.Path.{_≡_, refl, _∙_}
 use Prim.Native.Nat.{ℕ, _-_, _≤_}
@@ -43,7 +44,17 @@ loop-less : tie.Need-loop-less Inv-loop μ-loop
 loop-less c = search needs
 
 loop-again : tie.Need-loop-again Inv-loop μ-loop
-loop-again c = (omega arith, c .before .before .zero-run .kept .0 ∙ c .before .before .before .before .before .before .loop .inv .1, rows-next _ _ _ _ _ _ _ _ _ (c .before .before .before .before .before .before .loop .inv .2) (c .before .before .zero-run .ensures) (λ i h. refl))
+loop-again c =
+    let after-zero-run = c .before .before in
+    let zero-run = after-zero-run .zero-run in
+    let after-run-length = after-zero-run .before .before in
+    let at-loop = after-run-length .before .before in
+    let loop = at-loop .loop in (
+      omega arith,
+      zero-run .kept .0 ∙ loop .inv .1,
+      rows-next _ _ _ _ _ _ _ _ _ (loop .inv .2) (zero-run .ensures)
+          (λ i h. refl),
+    )
 
 same-length : tie.Need-same-length Inv-loop μ-loop
 same-length c = search needs

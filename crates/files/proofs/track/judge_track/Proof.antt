@@ -1,4 +1,6 @@
 -- `judge_track` meets its contract.
+-- Rests on: the laws in Judging/Verdict, Judging/Sound and Judging/Track; the contracts of judge_header,
+-- judge_map and judge_free.
 -- Assumes nothing.
 use mathlib.Core.Path.{sym, ap, _∙_}
 use Rattle.files.specs.Laws.Judging.Verdict.{verdictOf}
@@ -33,10 +35,25 @@ judge-free-requires : tie.Need-judge-free-requires
 judge-free-requires c κs = search needs
 
 returns-2 : tie.Need-returns-2
-returns-2 c = track-map _ (sym (c .before .before .before .before .enum-told .given .1) ∙ c .before .before .before .before .before .before .judge-header .ensures) _ (sym (c .before .r2 .given .1) ∙ c .before .before .before .judge-map .ensures ∙ ap verdictOf (refusal-loaded _ _ (c .before .before .before .before .before .before .before .before .pre .1)))
+returns-2 c =
+    let after-judge-map = c .before .before .before in
+    let after-enum-told = after-judge-map .before in
+    let after-judge-header = after-enum-told .before .before in
+    let start = after-judge-header .before .before in
+    track-map _ (sym (after-enum-told .enum-told .given .1) ∙ after-judge-header .judge-header .ensures) _
+    (sym (c .before .r2 .given .1) ∙ after-judge-map .judge-map .ensures ∙ ap verdictOf (refusal-loaded _ _ (start .pre .1)))
 
 returns-3 : tie.Need-returns-3
-returns-3 c = track-free _ (sym (c .before .before .before .before .enum-told .given .1) ∙ c .before .before .before .before .before .before .judge-header .ensures) _ (c .judge-free .ensures) (sym (c .before .enum-told2 .given .1) ∙ c .before .before .before .judge-map .ensures ∙ ap verdictOf (refusal-loaded _ _ (c .before .before .before .before .before .before .before .before .pre .1)))
+returns-3 c =
+    let after-judge-map = c .before .before .before in
+    let after-enum-told = after-judge-map .before in
+    let after-judge-header = after-enum-told .before .before in
+    let start = after-judge-header .before .before in
+    track-free _ (sym (after-enum-told .enum-told .given .1) ∙ after-judge-header .judge-header .ensures) _
+    (c .judge-free .ensures) (sym (c .before .enum-told2 .given .1) ∙ after-judge-map .judge-map .ensures ∙
+    ap verdictOf (refusal-loaded _ _ (start .pre .1)))
 
 pub judge-track-spec : {M : Type 1} → statement M
-judge-track-spec = tie.close (tie.spec judge-header-requires enum-known-r returns enum-told judge-map-requires enum-known-r-2 enum-told-2 judge-free-requires returns-2 returns-3)
+judge-track-spec =
+    tie.close (tie.spec judge-header-requires enum-known-r returns enum-told judge-map-requires enum-known-r-2 enum-told-2
+    judge-free-requires returns-2 returns-3)

@@ -11,9 +11,10 @@ use Rattle.sectors.specs.Laws.Reading.Tables.{table-good, track-within}
 use Rattle.sectors.proofs.hfe.track_part.Statement.{statement}
 use Rattle.sectors.proofs.hfe.track_part.Tie as tie
 
-within : (c : tie.After-track-unit-bytes)
-    → trackStart (c .before .before .before .args .hfe .now) (c .before .before .before .args .t) + trackUnitBytes (c .before .before .before .args .hfe .now) (c .before .before .before .args .t)
-    ≤ length (c .before .before .before .args .hfe .now)
+within : (c : tie.After-track-unit-bytes) →
+    let t = c .before .before .before .args .t in
+    let hfe = c .before .before .before .args .hfe .now in
+    trackStart hfe t + trackUnitBytes hfe t ≤ length hfe
 within c = track-within _ _ (table-good _ (c .before .before .before .pre .1) _ (c .before .before .before .pre .0))
 
 track-start-requires : tie.Need-track-start-requires

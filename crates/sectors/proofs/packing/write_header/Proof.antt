@@ -39,8 +39,8 @@ returns c =
     let after-copy-into2 = after-hfe2 .before in
     let after-slice-known2 = after-copy-into2 .before .before .before in
     let after-copy-into = after-slice-known2 .before .before in
-    after-fill .fill .ensures ∙ header-written _ _ _ (after-copy-into .copy-into .ensures)
-    (after-copy-into2 .copy-into2 .ensures)
+    after-fill .fill .ensures ∙
+    header-written _ _ _ (after-copy-into .copy-into .ensures) (after-copy-into2 .copy-into2 .ensures)
 
 pub write-header-spec : {M : Type 1} → statement M
 write-header-spec =

@@ -41,7 +41,8 @@ returns c =
     let after-write-items = after-hfe .before in
     let after-run-items = after-write-items .before .before in
     let start = after-run-items .before .before .before in
-    after-fill .fill .ensures ∙ run-written _ _ _ _ _ _ _ _ (start .pre .3) (after-run-items .run-items .ensures)
+    after-fill .fill .ensures ∙
+    run-written _ _ _ _ _ _ _ _ (start .pre .3) (after-run-items .run-items .ensures)
     (after-write-items .write-items .ensures)
 
 pub write-run-spec : {M : Type 1} → statement M

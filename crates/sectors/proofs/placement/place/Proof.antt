@@ -1,5 +1,5 @@
 -- `place` meets its contract.
--- Rests on: the laws in laws::Tests; the contract of refused.
+-- Rests on: the laws in laws::Tests; the contracts of done_with and refused.
 -- Assumes nothing.
 use mathlib.Core.Path.{ap, _∙_}
 use Prim.Native.Nat.{ℕ, _<_}
@@ -30,8 +30,8 @@ done-with-requires c κs = search needs
 
 returns : tie.Need-returns
 returns c =
-    rw (c .before .before .before .if1 .taken) (c .done-with .ensures ∙ ap (λ (m : ℕ). reply 0 m 0 0)
-    (c .before .place .ensures ∙ ap imageSector (c .before .before .running .ensures)))
+    rw (c .before .before .before .if1 .taken) (c .done-with .ensures ∙
+    ap (λ (m : ℕ). reply 0 m 0 0) (c .before .place .ensures ∙ ap imageSector (c .before .before .running .ensures)))
 
 refused-requires : tie.Need-refused-requires
 refused-requires c κs = search needs

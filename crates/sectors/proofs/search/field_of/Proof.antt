@@ -56,8 +56,9 @@ returns-2 : tie.Need-returns-2 Inv-loop μ-loop
 returns-2 c =
     let after-three-sync = c .before .before in
     let at-loop = after-three-sync .before .before in
-    c .field-at .ensures ∙ sym (at-loop .loop .inv .2 ∙ first-here _ _ _ 689 _ _ (omega arith)
-    (sym (after-three-sync .three-sync .ensures) ∙ c .before .if2 .taken))
+    c .field-at .ensures ∙
+    sym (at-loop .loop .inv .2 ∙
+    first-here _ _ _ 689 _ _ (omega arith) (sym (after-three-sync .three-sync .ensures) ∙ c .before .if2 .taken))
 
 add-k : tie.Need-add-k Inv-loop μ-loop
 add-k c = search needs

@@ -62,8 +62,7 @@ loop-again c =
       write-side .ensures ∙ overlay-next
           _ (sectorBytes * (sectors * n)) (sectorBytes * sectors) _ (unpackedByte h) _ (loop .inv .2)
           (side-byte h n _ _ (after-track-part .track-part .ensures) (after-track-side .track-side .ensures) _
-          (start .pre .3 .each) (omega arith)) ∙
-          ap (λ (j : ℕ). overlay (start .args .image .now) 0 j (unpackedByte h)) q,
+          (start .pre .3 .each) (omega arith)) ∙ ap (λ (j : ℕ). overlay (start .args .image .now) 0 j (unpackedByte h)) q,
     )
 
 same-length : tie.Need-same-length Inv-loop μ-loop
