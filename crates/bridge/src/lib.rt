@@ -1,5 +1,5 @@
-// The C interface: each function calls one of the layers and nothing more, and its contract is that
-// function's. A slice is a pointer and a length.
+// The C interface, the calls of docs/RULES.md, section 8: each function calls one of the layers and nothing more, and
+// its contract is that function's. A slice is a pointer and a length.
 ghost use mathlib.Core.Path.{_≡_};
 ghost use lib.ListN.{length};
 ghost use Rattle.sector_rules.specs.Geometry.{placeReply};
@@ -11,6 +11,7 @@ ghost use Rattle.file_rules.specs.FirstTrack.{firstTrack};
 use file_rules::FirstTrack;
 use sector_rules::Reply;
 
+// The call unpack (§8.1).
 #[no_mangle]
 pub extern "C" fn dheg_unpack(hfe: &[u8], image: &mut [u8]) -> Reply
     ensures { λ r. ⌜ (r ≡ unpackReply (now (hfe .entry)) (length (now (image .entry)))) × (now (image .exit) ≡ unpackImage (now (hfe .entry)) (now (image .entry))) ⌝ }
@@ -18,6 +19,7 @@ pub extern "C" fn dheg_unpack(hfe: &[u8], image: &mut [u8]) -> Reply
     sectors::unpack(hfe, image)
 }
 
+// The call pack (§8.2).
 #[no_mangle]
 pub extern "C" fn dheg_pack(image: &[u8], hfe: &mut [u8]) -> Reply
     ensures { λ r. ⌜ (r ≡ packReply (length (now (image .entry))) (length (now (hfe .entry)))) × (now (hfe .exit) ≡ packHfe (now (image .entry)) (now (hfe .entry))) ⌝ }
@@ -25,6 +27,7 @@ pub extern "C" fn dheg_pack(image: &[u8], hfe: &mut [u8]) -> Reply
     sectors::pack(image, hfe)
 }
 
+// The call place (§8.3).
 #[no_mangle]
 pub extern "C" fn dheg_place(block: usize, sector: usize) -> Reply
     ensures { λ r. ⌜ r ≡ placeReply block sector ⌝ }
@@ -32,6 +35,7 @@ pub extern "C" fn dheg_place(block: usize, sector: usize) -> Reply
     sectors::place(block, sector)
 }
 
+// The call format (§8.4).
 #[no_mangle]
 pub extern "C" fn dheg_format(image: &mut [u8], name: &[u8], number: u16) -> Reply
     ensures { λ r. ⌜ (r ≡ Calls.format (now (image .entry)) (argumentsOf (now (name .entry)) number) .answer) × (now (image .exit) ≡ Calls.format (now (image .entry)) (argumentsOf (now (name .entry)) number) .image) ⌝ }
@@ -39,6 +43,7 @@ pub extern "C" fn dheg_format(image: &mut [u8], name: &[u8], number: u16) -> Rep
     files::format(image, name, number)
 }
 
+// The call check (§8.5).
 #[no_mangle]
 pub extern "C" fn dheg_check(image: &[u8]) -> Reply
     ensures { λ r. ⌜ r ≡ Calls.check (now (image .entry)) ⌝ }
@@ -46,6 +51,7 @@ pub extern "C" fn dheg_check(image: &[u8]) -> Reply
     files::check(image)
 }
 
+// The call list (§8.6).
 #[no_mangle]
 pub extern "C" fn dheg_list(image: &[u8], out: &mut [u8]) -> Reply
     ensures { λ r. ⌜ (r ≡ Calls.list (now (image .entry)) (now (out .entry)) .answer) × (now (out .exit) ≡ Calls.list (now (image .entry)) (now (out .entry)) .buffer) ⌝ }
@@ -53,6 +59,7 @@ pub extern "C" fn dheg_list(image: &[u8], out: &mut [u8]) -> Reply
     files::list(image, out)
 }
 
+// The call read (§8.7).
 #[no_mangle]
 pub extern "C" fn dheg_read(image: &[u8], name: &[u8], out: &mut [u8]) -> Reply
     ensures { λ r. ⌜ (r ≡ Calls.read (now (image .entry)) (now (name .entry)) (now (out .entry)) .answer) × (now (out .exit) ≡ Calls.read (now (image .entry)) (now (name .entry)) (now (out .entry)) .buffer) ⌝ }
@@ -60,6 +67,7 @@ pub extern "C" fn dheg_read(image: &[u8], name: &[u8], out: &mut [u8]) -> Reply
     files::read(image, name, out)
 }
 
+// The call add (§8.9).
 #[no_mangle]
 pub extern "C" fn dheg_add(image: &mut [u8], name: &[u8], date: u32, data: &[u8]) -> Reply
     ensures { λ r. ⌜ (r ≡ Calls.add (now (image .entry)) (now (name .entry)) date (now («data» .entry)) .answer) × (now (image .exit) ≡ Calls.add (now (image .entry)) (now (name .entry)) date (now («data» .entry)) .image) ⌝ }
@@ -67,6 +75,7 @@ pub extern "C" fn dheg_add(image: &mut [u8], name: &[u8], date: u32, data: &[u8]
     files::add(image, name, date, data)
 }
 
+// The call remove (§8.13).
 #[no_mangle]
 pub extern "C" fn dheg_remove(image: &mut [u8], name: &[u8]) -> Reply
     ensures { λ r. ⌜ (r ≡ Calls.remove (now (image .entry)) (now (name .entry)) .answer) × (now (image .exit) ≡ Calls.remove (now (image .entry)) (now (name .entry)) .image) ⌝ }
@@ -74,6 +83,7 @@ pub extern "C" fn dheg_remove(image: &mut [u8], name: &[u8]) -> Reply
     files::remove(image, name)
 }
 
+// The call first track (§8.14).
 #[no_mangle]
 pub extern "C" fn dheg_first_track(track: &[u8]) -> FirstTrack
     ensures { λ r. ⌜ r ≡ firstTrack (now (track .entry)) ⌝ }

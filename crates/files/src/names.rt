@@ -1,4 +1,4 @@
-// Whether the name of a slot is new. Names are compared only where their hashes are equal.
+// Whether the name of a slot is new. It is compared with the lower ones only where another slot has the same hash.
 ghost use mathlib.Core.Path.{_≡_};
 ghost use mathlib.Core.Bool.{true, not, _&&_};
 ghost use Prim.Native.Nat.{ℕ, suc, _≤_, _<_};
