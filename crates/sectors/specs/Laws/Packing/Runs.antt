@@ -155,7 +155,8 @@ header-written d out next e f =
 -- ---- the image: header, table and tracks
 
 -- header, table and tracks, written in order, are the image
-pub image-written : (image d h1 h2 h3 : List ℕ) → length d ≡ hfeBytes → h1 ≡ overlay d 0 unitBytes hfeHeaderByte → h2 ≡ overlay h1 unitBytes unitBytes hfeTableByte
+pub image-written : (image d h1 h2 h3 : List ℕ) → length d ≡ hfeBytes → h1 ≡ overlay d 0 unitBytes hfeHeaderByte
+    → h2 ≡ overlay h1 unitBytes unitBytes hfeTableByte
     → h3 ≡ overlay h2 (firstUnit * unitBytes) (trackUnits * tracks * unitBytes) (tracksByte image) → h3 ≡ tab (hfeByte image) hfeBytes
 unfolding tracksByte
 image-written image d h1 h2 h3 long e1 e2 e3 =
