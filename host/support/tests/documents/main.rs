@@ -1,0 +1,7 @@
+//! Documents and comments: what they say of the tree is there, and what is
+//! there has its line.
+
+mod promises;
+mod rules;
+mod shape;
+mod sources;
