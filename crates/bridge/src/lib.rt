@@ -7,7 +7,7 @@ ghost use Rattle.sector_rules.specs.Packed.{packReply, packHfe};
 ghost use Rattle.sector_rules.specs.Unpacked.{unpackReply, unpackImage};
 ghost use Rattle.file_rules.specs.Arguments.{argumentsOf};
 ghost use Rattle.file_rules.specs.Calls as Calls;
-ghost use Rattle.file_rules.specs.FirstTrack.{firstTrack};
+ghost use Rattle.file_rules.specs.FirstTrack.{firstTrackResult};
 use file_rules::FirstTrack;
 use sector_rules::Reply;
 
@@ -86,7 +86,7 @@ pub extern "C" fn dheg_remove(image: &mut [u8], name: &[u8]) -> Reply
 // The call first track (§8.14).
 #[no_mangle]
 pub extern "C" fn dheg_first_track(track: &[u8]) -> FirstTrack
-    ensures { λ r. ⌜ r ≡ firstTrack (now (track .entry)) ⌝ }
+    ensures { λ r. ⌜ r ≡ firstTrackResult (now (track .entry)) ⌝ }
 {
     files::first_track(track)
 }

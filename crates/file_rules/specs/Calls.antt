@@ -9,7 +9,7 @@ use Rattle.laws.specs.Lists.{tab}
 use Rattle.laws.specs.Changes.{put}
 use Rattle.laws.specs.Below.{firsts}
 use Rattle.sector_rules.specs.declared.Reply.{Reply}
-use Rattle.sector_rules.specs.Replies.{reply, done, refusal}
+use Rattle.sector_rules.specs.Replies.{replyWith, done, refusal}
 pub use Rattle.sector_rules.specs.Replies.{wrongLength}
 unfoldable pub use Rattle.sector_rules.specs.Replies.{unless}
 use Rattle.sector_rules.specs.Geometry.{blocks, imageBytes}
@@ -98,8 +98,8 @@ check image = onSound image (λ (r : Reply). r) (λ (d : Disk). done)
 unfoldable pub deliver : List ℕ → List ℕ → Outcome
 deliver bytes buf =
     cond (leb (length bytes) (length buf))
-    (record { answer = reply 0 (length bytes) 0 0; buffer = put buf 0 bytes })
-    (bufferKept buf (reply 16 (length bytes) 0 0))
+    (record { answer = replyWith 0 (length bytes) 0 0; buffer = put buf 0 bytes })
+    (bufferKept buf (replyWith 16 (length bytes) 0 0))
 
 -- the 64 bytes of each held slot below n, unchanged, in the order of the slots (§8.6)
 unfoldable pub entries : Disk → ℕ → List ℕ
@@ -159,7 +159,7 @@ needed d k size = cond (opensBlock d k) (suc (blocksFor size)) (blocksFor size)
 unfoldable pub addSound : Disk → List ℕ → ℕ → List ℕ → DiskChanged
 addSound d name date content =
     cond (nameRight name)
-    (cond (ltb (findName d name) (dirEnd d)) (diskKept d (reply 13 (findName d name) 0 0))
+    (cond (ltb (findName d name) (dirEnd d)) (diskKept d (replyWith 13 (findName d name) 0 0))
     (cond (leb (needed d (vacantSlot d) (length content)) (freeCount d))
     (record { answer = done; diskAfter = addAt d (vacantSlot d) (entryFor name date (length content)) content })
     (diskKept d (refusal 15))))

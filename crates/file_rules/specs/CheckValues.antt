@@ -16,8 +16,8 @@ use Rattle.laws.specs.Numbers.{at16, bigEndian, highByte, quotientUp}
 use Rattle.laws.specs.Options.{orElse}
 use Rattle.sector_rules.specs.declared.Reply.{Reply}
 use Rattle.sector_rules.specs.Faults.{faultBelow}
-use Rattle.sector_rules.specs.Geometry.{blocks, imageBytes, sidePlace, backward, imageSector}
-use Rattle.sector_rules.specs.Replies.{reply, done}
+use Rattle.sector_rules.specs.Geometry.{blocks, imageBytes, sidePlace, backward, toImageSector}
+use Rattle.sector_rules.specs.Replies.{replyWith, done}
 use Rattle.file_rules.specs.Arguments.{FormatArguments}
 use Rattle.file_rules.specs.Calls.{ImageChanged, unless, imageRight, onSound, freshOwner, formatDisk, format, check}
 use Rattle.file_rules.specs.Check.{diskSignature, lengthRight, dimensionsFault, diskHeaderFault, recordFault, mapFault}
@@ -35,12 +35,12 @@ use Rattle.file_rules.specs.Written.{fixedByte, diskHeaderByte, diskWith
 -- what check says of an image of which one record is another, where the record of block b is at byte 96 + 3b (§7.9 §7.10)
 pub record Judged (image : List ℕ) : Type 0 where
   -- 9: the record of block 0 is of no kind, that of block 1 is the system's, and that of block 100 is of no kind
-  pub first-record : check (set image 96 0xF9) ≡ reply 9 0 0 0
-  pub system-record : check (set image 99 0xF8) ≡ reply 9 1 0 0
-  pub other-record : check (set image 396 0xFE) ≡ reply 9 100 0 0
+  pub first-record : check (set image 96 0xF9) ≡ replyWith 9 0 0 0
+  pub system-record : check (set image 99 0xF8) ≡ replyWith 9 1 0 0
+  pub other-record : check (set image 396 0xFE) ≡ replyWith 9 100 0 0
   -- 10: block 1 is the directory's second, and there is no first; block 2 is that of file 5, which has no slot
-  pub directory-part : check (set image 101 1) ≡ reply 10 0 0 0
-  pub no-slot : check (set (set (set image 102 0x00) 103 0x50) 104 0x00) ≡ reply 10 5 0 0
+  pub directory-part : check (set image 101 1) ≡ replyWith 10 0 0 0
+  pub no-slot : check (set (set (set image 102 0x00) 103 0x50) 104 0x00) ≡ replyWith 10 5 0 0
 
 -- check-values: so of every formatted disk (§7.9 §7.10)
 abbrev pub CheckValues : Type 0
@@ -75,26 +75,26 @@ set-inside d o v l w =
     }
 
 -- what check says of the image of a disk (§8.5)
-unfoldable pub verdict : Disk → Reply
-verdict d = unless (diskRefusal d) (λ (r : Reply). r) done
+unfoldable pub judgedReply : Disk → Reply
+judgedReply d = unless (diskRefusal d) (λ (r : Reply). r) done
 
-check-is : (d : Disk) → Inside d → check (imageOf d) ≡ verdict d
-unfolding check onSound imageRight verdict
-check-is d w = cond-true _ _ (eq-true (length-image d)) ∙ ap verdict (disk-image d (λ b o h. w .far b o h) (λ b o h. w .out b o h))
+check-is : (d : Disk) → Inside d → check (imageOf d) ≡ judgedReply d
+unfolding check onSound imageRight judgedReply
+check-is d w = cond-true _ _ (eq-true (length-image d)) ∙ ap judgedReply (disk-image d (λ b o h. w .far b o h) (λ b o h. w .out b o h))
 
 -- a byte of block 0's first sector, which stands at the image's beginning
 pub set-is : (d : Disk) (o v : ℕ) → imagePlace 0 o ≡ o → o < blockBytes → set (imageOf d) o v ≡ imageOf (setByte d 0 o v)
 set-is d o v e l = ap (λ (i : ℕ). set (imageOf d) i v) (sym e) ∙ image-set d 0 o v (lit< tt) l
 
 -- what check says of an image of which such a byte is another
-pub changed-is : (d : Disk) → Inside d → (o v : ℕ) → imagePlace 0 o ≡ o → o < blockBytes → check (set (imageOf d) o v) ≡ verdict (setByte d 0 o v)
+pub changed-is : (d : Disk) → Inside d → (o v : ℕ) → imagePlace 0 o ≡ o → o < blockBytes → check (set (imageOf d) o v) ≡ judgedReply (setByte d 0 o v)
 changed-is d w o v e l = ap check (set-is d o v e l) ∙ check-is (setByte d 0 o v) (set-inside d o v l w)
 
 judged-is : (args : FormatArguments) → Judged (imageOf (formatDisk args))
-unfolding verdict diskRefusal refusal8 refusal9 refusal10 refusal11 diskHeaderFault dimensionsFault lengthRight dirBytes mapFault recordAt numberAt
+unfolding judgedReply diskRefusal refusal8 refusal9 refusal10 refusal11 diskHeaderFault dimensionsFault lengthRight dirBytes mapFault recordAt numberAt
     formatDisk diskWith diskHeaderByte fixedByte patch highByte diskSignature sidePlace backward bytesAre same tab at16 bigEndian lowest count
     decode encode numberOf freshOwner recordFault isSystem isOther faultBelow unless orElse setByte upd
-    fileFault fileRight partsRight dirEnd all within isPart bears noRecordBears quotientUp held imagePlace imageSector
+    fileFault fileRight partsRight dirEnd all within isPart bears noRecordBears quotientUp held imagePlace toImageSector
 judged-is args =
     let fresh : Disk = formatDisk args in
     let inside : Inside (formatDisk args) = fresh-inside args in

@@ -9,7 +9,7 @@ use lib.Dec.{ltb}
 use lib.ListN.{getD}
 use Rattle.laws.specs.Lists.{tab}
 use Rattle.laws.specs.Changes.{upd}
-use Rattle.sector_rules.specs.Geometry.{sectorBytes, blockSectors, blocks, imageBytes, running, imageSector, runningSector}
+use Rattle.sector_rules.specs.Geometry.{sectorBytes, blockSectors, blocks, imageBytes, running, toImageSector, toRunningSector}
 use Rattle.file_rules.specs.Sizes.{blockBytes}
 
 -- a disk in block order: by block b and offset o the byte there (§1.3)
@@ -18,15 +18,15 @@ Disk = ℕ → ℕ → ℕ
 
 -- where byte o of block b is in the image (§1.3 §1.5)
 unfoldable pub imagePlace : ℕ → ℕ → ℕ
-imagePlace b o = imageSector (running b (o / sectorBytes)) * sectorBytes + o % sectorBytes
+imagePlace b o = toImageSector (running b (o / sectorBytes)) * sectorBytes + o % sectorBytes
 
 -- the block that byte i of the image belongs to (§1.6)
 unfoldable pub blockOf : ℕ → ℕ
-blockOf i = runningSector (i / sectorBytes) / blockSectors
+blockOf i = toRunningSector (i / sectorBytes) / blockSectors
 
 -- the offset of byte i of the image in its block (§1.6)
 unfoldable pub offsetOf : ℕ → ℕ
-offsetOf i = runningSector (i / sectorBytes) % blockSectors * sectorBytes + i % sectorBytes
+offsetOf i = toRunningSector (i / sectorBytes) % blockSectors * sectorBytes + i % sectorBytes
 
 -- the disk in block order that an image holds; 0 outside the blocks (§1.3)
 unfoldable pub diskOf : List ℕ → Disk

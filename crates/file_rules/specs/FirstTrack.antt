@@ -28,8 +28,8 @@ unfoldable pub counted : Disk → FirstTrack
 counted d = record { reply = done; free = at16 (d 0) 20; good = at16 (d 0) 22; held = count blocks (λ (b : ℕ). not (freeAt d b)) }
 
 -- the call first track: block 0 lies on track 0 by the placement, and these judgements read nothing but block 0 (§8.14 §7.1)
-unfoldable pub firstTrack : List ℕ → FirstTrack
-firstTrack track =
+unfoldable pub firstTrackResult : List ℕ → FirstTrack
+firstTrackResult track =
     cond (eqb (length track) firstTrackBytes)
     (unless (orElse (refusal8 (diskOf track)) (orElse (refusal9 (diskOf track)) (refusal11 (diskOf track)))) refusedTrack (counted (diskOf track)))
     (refusedTrack wrongLength)

@@ -20,7 +20,7 @@ use Rattle.sector_rules.specs.declared.Fault.{Fault}
 use Rattle.sector_rules.specs.declared.Fault.the-variants.{At, Sound}
 use Rattle.sector_rules.specs.declared.Reply.{Reply}
 use Rattle.sector_rules.specs.Faults.{refusalAt, faultBelow}
-use Rattle.sector_rules.specs.Geometry.{sectorBytes, blocks, imageBytes, running, sidePlace, backward, imageSector, runningSector}
+use Rattle.sector_rules.specs.Geometry.{sectorBytes, blocks, imageBytes, running, sidePlace, backward, toImageSector, toRunningSector}
 use Rattle.sector_rules.specs.HeaderValues.{placeNamed, oneMore, oneLess, changedAt, changedFrom, changed-length, from-length}
 use Rattle.sector_rules.specs.Replies.{done, refusal}
 use Rattle.file_rules.specs.Arguments.{FormatArguments, argumentsOf}
@@ -137,11 +137,11 @@ module _ (d g : Disk) (e : (o : ℕ) → o < 96 → d 0 o ≡ g 0 o) where
 
 -- the header stands at the image's beginning
 first-place : (o : ℕ) → o < 96 → imagePlace 0 o ≡ o
-unfolding imagePlace imageSector sidePlace
+unfolding imagePlace toImageSector sidePlace
 first-place o l =
     let a : o / 512 ≡ 0 = omega arith in
     let b : o % 512 ≡ o = omega arith in
-    ap₂ (λ (x y : ℕ). imageSector (running 0 x) * sectorBytes + y) a b ∙ zero-add o
+    ap₂ (λ (x y : ℕ). toImageSector (running 0 x) * sectorBytes + y) a b ∙ zero-add o
 
 first-byte : (image : List ℕ) (o : ℕ) → o < 96 → diskOf image 0 o ≡ getD image o 0
 unfolding diskOf
@@ -173,7 +173,7 @@ header-length = refl
 
 format-is : (old : List ℕ) → length old ≡ imageBytes
     → take 105 (format old (argumentsOf title 0x1234) .image) ≡ diskHeader ++ (0xF8 ∷ 0x00 ∷ 0x00 ∷ 0x00 ∷ 0x00 ∷ 0x00 ∷ 0xFD ∷ 0xFF ∷ 0xFF ∷ [])
-unfolding imageOf tab formatDisk diskWith diskHeaderByte fixedByte patch highByte diskSignature sidePlace backward blockOf offsetOf runningSector title
+unfolding imageOf tab formatDisk diskWith diskHeaderByte fixedByte patch highByte diskSignature sidePlace backward blockOf offsetOf toRunningSector title
     diskHeader encode numberOf freshOwner
 format-is old long =
     ap (λ (w : ImageChanged). take 105 (w .image)) (format-done old (argumentsOf title 0x1234) long (lit≤ tt))

@@ -13,7 +13,7 @@ use Rattle.laws.specs.Changes.{upd}
 use Rattle.laws.specs.Below.{count, sum, firsts, lowest}
 use Rattle.laws.specs.Options.{isSome}
 use Rattle.sector_rules.specs.Geometry.{blockSectors, blocks}
-use Rattle.sector_rules.specs.Replies.{reply, done, refusal}
+use Rattle.sector_rules.specs.Replies.{replyWith, done, refusal}
 use Rattle.sector_rules.specs.declared.Reply.{Reply}
 use Rattle.file_rules.specs.declared.Entry.{Entry}
 use Rattle.file_rules.specs.declared.Record.{Record}
@@ -166,8 +166,8 @@ acceptable name = leb 1 (length name) && leb (length name) 36
 unfoldable pub resultOf : List ℕ → List ℕ → Outcome
 resultOf bytes buf =
     cond (leb (length bytes) (length buf))
-    (record { answer = reply 0 (length bytes) 0 0; buffer = bytes ++ drop (length bytes) buf })
-    (record { answer = reply 16 (length bytes) 0 0; buffer = buf })
+    (record { answer = replyWith 0 (length bytes) 0 0; buffer = bytes ++ drop (length bytes) buf })
+    (record { answer = replyWith 16 (length bytes) 0 0; buffer = buf })
 
 -- ---- which slot
 
@@ -270,7 +270,7 @@ pub record ModelChanged : Type 0 where
 unfoldable pub modelAdd : Model → NamedFile → ModelChanged
 modelAdd m x =
     cond (acceptable (x .name))
-    (cond (ltb (slotNamed m (x .name)) (suc (m .peak))) (record { answer = reply 13 (slotNamed m (x .name)) 0 0; modelAfter = m })
+    (cond (ltb (slotNamed m (x .name)) (suc (m .peak))) (record { answer = replyWith 13 (slotNamed m (x .name)) 0 0; modelAfter = m })
     (cond (fits m x) (record { answer = done; modelAfter = fill m (slotVacant m) x }) (record { answer = refusal 15; modelAfter = m })))
     (record { answer = refusal 12; modelAfter = m })
 

@@ -7,7 +7,7 @@ ghost use Rattle.sector_rules.specs.Geometry.{blocks};
 ghost use Rattle.file_rules.specs.Disk.{diskOf};
 ghost use Rattle.file_rules.specs.Map.{numberAt, isFree, isPart};
 ghost use Rattle.file_rules.specs.Check.{recordFault};
-ghost use Rattle.files.specs.Laws.Loading.Loaded.{loadedRecord, mapRecord, MapLoaded};
+ghost use Rattle.files.specs.Laws.Loading.Loaded.{loadedRecord, recordWithBlock, MapLoaded};
 use crate::blocks::block_byte;
 use crate::records::is_free;
 use crate::records::is_part;
@@ -52,7 +52,7 @@ pub fn load_map(image: &[u8], map: &mut MapNumbers)
 // A block's record beside the block's number.
 pub fn map_record(map: &MapNumbers, block: BlockNumber) -> MapRecord
     requires { ⌜ block .0 < blocks ⌝ }
-    ensures { λ r. ⌜ r ≡ mapRecord (now (map .entry)) block ⌝ }
+    ensures { λ r. ⌜ r ≡ recordWithBlock (now (map .entry)) block ⌝ }
 {
     let b = block.0;
     let record = record_of(map[b]);

@@ -8,7 +8,7 @@ ghost use Rattle.file_rules.specs.Sizes.{recordBytes};
 ghost use Rattle.file_rules.specs.Map.{decode, numberOf, encode, isFree, bears, isPart};
 ghost use Rattle.file_rules.specs.Check.{recordFault};
 ghost use Rattle.files.specs.Laws.Loading.Parts.{partOf};
-ghost use Rattle.files.specs.Laws.Loading.Chains.{Bearer};
+ghost use Rattle.files.specs.Laws.Loading.Chains.{IsBearer};
 use crate::sizes::RECORD_BYTES;
 use file_rules::MapRecord;
 use file_rules::Record;
@@ -67,7 +67,7 @@ pub fn number_of(r: Record) -> u32
 }
 
 // The three bytes of a record, high byte first (§6.8).
-pub fn record_bytes(r: Record) -> [u8; RECORD_BYTES]
+pub fn encoded_record(r: Record) -> [u8; RECORD_BYTES]
     ensures { λ b. ⌜ b ≡ tab (encode r) recordBytes ⌝ }
 {
     let n = number_of(r);
@@ -104,7 +104,7 @@ pub fn bears_file(r: Record, f: usize) -> bool
 
 // The file that a record bears; NO_FILE where it bears none.
 pub fn bearer(r: Record) -> usize
-    ensures { λ g. ⌜ Bearer g r ⌝ }
+    ensures { λ g. ⌜ IsBearer g r ⌝ }
 {
     match r {
         Record::Free => NO_FILE,

@@ -19,9 +19,9 @@ use crate::map::count_free;
 use crate::map::map_record;
 use crate::map::part_block;
 use crate::records::bears_file;
+use crate::records::encoded_record;
 use crate::records::is_free;
 use crate::records::number_of;
-use crate::records::record_bytes;
 use crate::sizes::BLOCK_BYTES;
 use crate::sizes::BLOCK_SLOTS;
 use crate::sizes::MAP_START;
@@ -43,7 +43,7 @@ pub fn set_record(image: &mut [u8], b: usize, r: Record)
     requires { ⌜ (length (now image) ≡ imageBytes) × (b < blocks) × FitsRecord r ⌝ }
     ensures { λ _. ⌜ now (image .exit) ≡ imageOf (setRecord (diskOf (now (image .entry))) b r) ⌝ }
 {
-    let bytes = record_bytes(r);
+    let bytes = encoded_record(r);
     put_bytes(image, 0, MAP_START + RECORD_BYTES * b, &bytes);
 }
 

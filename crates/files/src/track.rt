@@ -67,7 +67,7 @@ fn judge_track(track: &[u8], map: &MapNumbers) -> Verdict
 
 // The call first track (§8.14), or 1 (§7.1).
 pub fn first_track(track: &[u8]) -> FirstTrack
-    ensures { λ r. ⌜ r ≡ Tracks.firstTrack (now (track .entry)) ⌝ }
+    ensures { λ r. ⌜ r ≡ Tracks.firstTrackResult (now (track .entry)) ⌝ }
 {
     if track.len() != TRACK_BYTES {
         return refused_track(refused(1, 2));

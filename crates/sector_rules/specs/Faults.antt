@@ -8,7 +8,7 @@ use Rattle.laws.specs.Below.{lowest}
 use Rattle.sector_rules.specs.declared.Fault.{Fault}
 use Rattle.sector_rules.specs.declared.Fault.the-variants.{At, Sound}
 use Rattle.sector_rules.specs.declared.Reply.{Reply}
-use Rattle.sector_rules.specs.Replies.{reply}
+use Rattle.sector_rules.specs.Replies.{replyWith}
 
 -- the fault of a field at offset o: none if it is right, and else this field (§7.18)
 abbrev pub wrongAt : ℕ → Bool → Fault
@@ -29,5 +29,5 @@ lowestFault p n = faultBelow n (lowest p n)
 
 -- the refusal with this number that names the place at fault, or none (§7.17 §7.18)
 abbrev pub refusalAt : ℕ → Fault → Option Reply
-refusalAt n (At o) = some (reply n o 0 0)
+refusalAt n (At o) = some (replyWith n o 0 0)
 refusalAt n Sound = none

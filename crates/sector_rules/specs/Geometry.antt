@@ -6,7 +6,7 @@ use Prim.Native.Nat.{ℕ, _+_, _-_, _*_, _/_, _%_}
 use lib.Dec.{ltb}
 use lib.ListN.{getD}
 use Rattle.sector_rules.specs.declared.Reply.{Reply}
-use Rattle.sector_rules.specs.Replies.{reply, refusal}
+use Rattle.sector_rules.specs.Replies.{replyWith, refusal}
 
 -- tracks of a disk (§1.1)
 abbrev pub tracks : ℕ
@@ -67,15 +67,15 @@ abbrev pub onTrack : ℕ → ℕ → ℕ
 onTrack t value = trackSectors * t + sectors * (value / 128) + (value % 128 + trackOffset * t) % sectors
 
 -- the image sector of a running sector (§1.5)
-unfoldable pub imageSector : ℕ → ℕ
-imageSector n = onTrack (n / trackSectors) (getD sidePlace (n % trackSectors) 0)
+unfoldable pub toImageSector : ℕ → ℕ
+toImageSector n = onTrack (n / trackSectors) (getD sidePlace (n % trackSectors) 0)
 
 -- the running sector of an image sector: places are moved back by 9 - 5 = 4 a track, and the backward table is read (§1.6)
-unfoldable pub runningSector : ℕ → ℕ
-runningSector m =
+unfoldable pub toRunningSector : ℕ → ℕ
+toRunningSector m =
     trackSectors * (m / trackSectors)
     + getD backward (sectors * (m % trackSectors / sectors) + (m % sectors + (sectors - trackOffset) * (m / trackSectors)) % sectors) 0
 
 -- the reply of place: the image sector of sector s of block b, or 12 where either is out of range (§8.3 §7.12)
 abbrev pub placeReply : ℕ → ℕ → Reply
-placeReply b s = cond (ltb b blocks && ltb s blockSectors) (reply 0 (imageSector (running b s)) 0 0) (refusal 12)
+placeReply b s = cond (ltb b blocks && ltb s blockSectors) (replyWith 0 (toImageSector (running b s)) 0 0) (refusal 12)

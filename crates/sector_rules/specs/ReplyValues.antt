@@ -16,12 +16,12 @@ use Rattle.laws.specs.Options.{orElse}
 use Rattle.sector_rules.specs.declared.Reply.{Reply}
 use Rattle.sector_rules.specs.declared.Sector.the-variants.{Missing, Repeated, NoField, Damaged}
 use Rattle.sector_rules.specs.Faults.{faultBelow, lowestFault}
-use Rattle.sector_rules.specs.Geometry.{sidePlace, imageSector, placeReply}
+use Rattle.sector_rules.specs.Geometry.{sidePlace, toImageSector, placeReply}
 use Rattle.sector_rules.specs.HeaderValues.{hfeHeader}
 use Rattle.sector_rules.specs.Hfe.{hfeSignature, formatFault, flagFault, hfeHeaderFault}
 use Rattle.sector_rules.specs.Hfe.{entryPlace, trackStart, trackLength, trackUnitBytes, trackGood, tableFault}
 use Rattle.sector_rules.specs.Packed.{packReply}
-use Rattle.sector_rules.specs.Replies.{reply, unless}
+use Rattle.sector_rules.specs.Replies.{replyWith, unless}
 use Rattle.sector_rules.specs.Unpacked.{sectorReply, unpackReply}
 
 -- an image of 1,024 bytes with the header that pack writes and a track table that begins with these bytes; the rest is 0 (§2.4)
@@ -39,12 +39,12 @@ goodEntries n = tab (λ (j : ℕ). cond (eqb (j % 4) 2) 2 0) (4 * n)
 -- by value: the lengths that 1 refuses, what 3 judges of a track table, and the numbers 4 to 7, each with its places (§7.1 §7.3 §7.4 §7.5 §7.6 §7.7)
 pub record ReplyValues : Type 0 where
   -- 0 has no places
-  pub pack-accepted : packReply 737280 2008064 ≡ reply 0 0 0 0
+  pub pack-accepted : packReply 737280 2008064 ≡ replyWith 0 0 0 0
   -- 1: an HFE image to read has 1,024 bytes or more, one to write 2,008,064, and a block image 737,280; the HFE image is judged first
-  pub unpack-short : (hfe : List ℕ) (n : ℕ) → length hfe < 1024 → unpackReply hfe n ≡ reply 1 1 0 0
-  pub unpack-length : (hfe : List ℕ) (n : ℕ) → 1024 ≤ length hfe → n ≢ 737280 → unpackReply hfe n ≡ reply 1 2 0 0
-  pub pack-hfe-length : (n m : ℕ) → m ≢ 2008064 → packReply n m ≡ reply 1 1 0 0
-  pub pack-length : (n : ℕ) → n ≢ 737280 → packReply n 2008064 ≡ reply 1 2 0 0
+  pub unpack-short : (hfe : List ℕ) (n : ℕ) → length hfe < 1024 → unpackReply hfe n ≡ replyWith 1 1 0 0
+  pub unpack-length : (hfe : List ℕ) (n : ℕ) → 1024 ≤ length hfe → n ≢ 737280 → unpackReply hfe n ≡ replyWith 1 2 0 0
+  pub pack-hfe-length : (n m : ℕ) → m ≢ 2008064 → packReply n m ≡ replyWith 1 1 0 0
+  pub pack-length : (n : ℕ) → n ≢ 737280 → packReply n 2008064 ≡ replyWith 1 2 0 0
   -- 3 names track 0 or, where its entry is good, track 1, whose entry is 0: lengths 0, 2 and 3; of two units and more; a track that ends with the image,
   -- and past it
   pub table-judged : map tableReply
@@ -56,44 +56,44 @@ pub record ReplyValues : Type 0 where
       ∷ (1 ∷ 0 ∷ 0 ∷ 2 ∷ [])
       ∷ (1 ∷ 0 ∷ 2 ∷ 2 ∷ [])
       ∷ (2 ∷ 0 ∷ 2 ∷ 0 ∷ [])
-      ∷ []) ≡ map (λ (t : ℕ). reply 3 t 0 0) (0 ∷ 1 ∷ 0 ∷ 1 ∷ 0 ∷ 1 ∷ 0 ∷ 0 ∷ [])
+      ∷ []) ≡ map (λ (t : ℕ). replyWith 3 t 0 0) (0 ∷ 1 ∷ 0 ∷ 1 ∷ 0 ∷ 1 ∷ 0 ∷ 0 ∷ [])
   -- the entry of track 0 is wholly within the image: here the table begins at byte 1,024
-  pub table-ends : (unpackReply (set hfeHeader 18 2 ++ (replicate 998 0 ++ (0 ∷ 0 ∷ 2 ∷ []))) 737280 ≡ reply 3 0 0 0)
-      × (unpackReply (set hfeHeader 18 2 ++ (replicate 998 0 ++ (0 ∷ 0 ∷ 2 ∷ 0 ∷ []))) 737280 ≡ reply 3 1 0 0)
+  pub table-ends : (unpackReply (set hfeHeader 18 2 ++ (replicate 998 0 ++ (0 ∷ 0 ∷ 2 ∷ []))) 737280 ≡ replyWith 3 0 0 0)
+      × (unpackReply (set hfeHeader 18 2 ++ (replicate 998 0 ++ (0 ∷ 0 ∷ 2 ∷ 0 ∷ []))) 737280 ≡ replyWith 3 1 0 0)
   -- the last track is judged too
-  pub last-track : tableReply (goodEntries 79) ≡ reply 3 79 0 0
+  pub last-track : tableReply (goodEntries 79) ≡ replyWith 3 79 0 0
   -- 4 to 7 with track, side and R, for the first and last sectors of sides
   pub sectors-named : map (sectorReply 1439) (Missing ∷ Repeated ∷ NoField ∷ Damaged ∷ [])
-      ≡ reply 4 79 1 9 ∷ reply 5 79 1 9 ∷ reply 6 79 1 9 ∷ reply 7 79 1 9 ∷ []
-  pub places-named : map (λ (m : ℕ). sectorReply m Missing) (0 ∷ 8 ∷ 9 ∷ 18 ∷ []) ≡ reply 4 0 0 1 ∷ reply 4 0 0 9 ∷ reply 4 0 1 1 ∷ reply 4 1 0 1 ∷ []
+      ≡ replyWith 4 79 1 9 ∷ replyWith 5 79 1 9 ∷ replyWith 6 79 1 9 ∷ replyWith 7 79 1 9 ∷ []
+  pub places-named : map (λ (m : ℕ). sectorReply m Missing) (0 ∷ 8 ∷ 9 ∷ 18 ∷ []) ≡ replyWith 4 0 0 1 ∷ replyWith 4 0 0 9 ∷ replyWith 4 0 1 1 ∷ replyWith 4 1 0 1 ∷ []
   -- 12 of the placement call: blocks are 0 to 479, sectors of a block 0 to 2
-  pub place-judged : (placeReply 479 2 ≡ reply 0 1438 0 0) × (placeReply 480 0 ≡ reply 12 0 0 0) × (placeReply 0 3 ≡ reply 12 0 0 0)
+  pub place-judged : (placeReply 479 2 ≡ replyWith 0 1438 0 0) × (placeReply 480 0 ≡ replyWith 12 0 0 0) × (placeReply 0 3 ≡ replyWith 12 0 0 0)
 
 -- ---- the proof
 
-pack-accepted-is : packReply 737280 2008064 ≡ reply 0 0 0 0
+pack-accepted-is : packReply 737280 2008064 ≡ replyWith 0 0 0 0
 unfolding packReply
 pack-accepted-is = refl
 
-unpack-short-is : (hfe : List ℕ) (n : ℕ) → length hfe < 1024 → unpackReply hfe n ≡ reply 1 1 0 0
+unpack-short-is : (hfe : List ℕ) (n : ℕ) → length hfe < 1024 → unpackReply hfe n ≡ replyWith 1 1 0 0
 unfolding unpackReply
 unpack-short-is hfe n h = cond-true _ _ (lt-true h)
 
-unpack-length-is : (hfe : List ℕ) (n : ℕ) → 1024 ≤ length hfe → n ≢ 737280 → unpackReply hfe n ≡ reply 1 2 0 0
+unpack-length-is : (hfe : List ℕ) (n : ℕ) → 1024 ≤ length hfe → n ≢ 737280 → unpackReply hfe n ≡ replyWith 1 2 0 0
 unfolding unpackReply
 unpack-length-is hfe n h w = cond-false _ _ (lt-false h) ∙ cond-false _ _ (eq-false w)
 
-pack-hfe-is : (n m : ℕ) → m ≢ 2008064 → packReply n m ≡ reply 1 1 0 0
+pack-hfe-is : (n m : ℕ) → m ≢ 2008064 → packReply n m ≡ replyWith 1 1 0 0
 unfolding packReply
 pack-hfe-is n m w = cond-false _ _ (eq-false w)
 
-pack-length-is : (n : ℕ) → n ≢ 737280 → packReply n 2008064 ≡ reply 1 2 0 0
+pack-length-is : (n : ℕ) → n ≢ 737280 → packReply n 2008064 ≡ replyWith 1 2 0 0
 unfolding packReply
 pack-length-is n w = cond-false _ _ (eq-false w)
 
 -- reply-values: all of these hold
 pub reply-values : ReplyValues
-unfolding imageSector sidePlace tableReply withTable hfeHeader unpackReply unless orElse hfeHeaderFault formatFault flagFault hfeSignature standsAt bytesAre
+unfolding toImageSector sidePlace tableReply withTable hfeHeader unpackReply unless orElse hfeHeaderFault formatFault flagFault hfeSignature standsAt bytesAre
     same tab lowFirst tableFault lowestFault faultBelow lowest trackGood entryPlace trackStart trackLength trackUnitBytes quotientUp
     goodEntries
 reply-values =

@@ -34,17 +34,17 @@ pub use Rattle.sector_rules.specs.Caught.{packed-caught, packed-burst}
 use mathlib.Core.Path.{_≡_}
 use Prim.Native.Nat.{ℕ, _+_, _*_, _/_, _%_, _<_}
 use lib.ListN.{getD}
-use Rattle.sector_rules.specs.Geometry.{sectors, trackSectors, allSectors, sidePlace, backward, imageSector, runningSector}
+use Rattle.sector_rules.specs.Geometry.{sectors, trackSectors, allSectors, sidePlace, backward, toImageSector, toRunningSector}
 use Rattle.sector_rules.specs.Laws.Base.Geometry.{forth-back, back-forth, image-lt, running-lt, running-image, image-running}
 
 -- ---- stated here
 
 -- the placement maps the 1,440 running sectors onto the 1,440 image sectors, and its inverse undoes it both ways (§1.6)
 pub record Bijective : Type 0 where
-  pub forth : (n : ℕ) → n < allSectors → imageSector n < allSectors
-  pub back : (m : ℕ) → m < allSectors → runningSector m < allSectors
-  pub forth-then-back : (n : ℕ) → n < allSectors → runningSector (imageSector n) ≡ n
-  pub back-then-forth : (m : ℕ) → m < allSectors → imageSector (runningSector m) ≡ m
+  pub forth : (n : ℕ) → n < allSectors → toImageSector n < allSectors
+  pub back : (m : ℕ) → m < allSectors → toRunningSector m < allSectors
+  pub forth-then-back : (n : ℕ) → n < allSectors → toRunningSector (toImageSector n) ≡ n
+  pub back-then-forth : (m : ℕ) → m < allSectors → toImageSector (toRunningSector m) ≡ m
 
 -- the placement is one-to-one and onto
 pub placement-bijective : Bijective

@@ -11,7 +11,7 @@ use Rattle.laws.specs.Options.{orElse}
 use Rattle.sector_rules.specs.declared.Reply.{Reply}
 use Rattle.sector_rules.specs.declared.Sector.{Sector}
 use Rattle.sector_rules.specs.declared.Sector.the-variants.{Delivered, Missing, Repeated, NoField, Damaged}
-use Rattle.sector_rules.specs.Replies.{reply, done, wrongHfe, wrongLength, unless}
+use Rattle.sector_rules.specs.Replies.{replyWith, done, wrongHfe, wrongLength, unless}
 use Rattle.sector_rules.specs.Faults.{refusalAt}
 use Rattle.sector_rules.specs.Geometry.{sectors, trackSectors, allSectors, sectorBytes, imageBytes}
 use Rattle.sector_rules.specs.Search.{sectorOf, deliveredBytes}
@@ -40,10 +40,10 @@ sectorBytesAt h m = deliveredBytes (sideStream h (trackOf m) (sideOf m)) (sector
 -- the reply for what image sector m gives: 4 no header, 5 two or more, 6 no field, 7 its CRC does not hold; with track, side and R (§7.4 §7.5 §7.6 §7.7)
 abbrev pub sectorReply : ℕ → Sector → Reply
 sectorReply m (Delivered p) = done
-sectorReply m Missing = reply 4 (trackOf m) (sideOf m) (rOf m)
-sectorReply m Repeated = reply 5 (trackOf m) (sideOf m) (rOf m)
-sectorReply m NoField = reply 6 (trackOf m) (sideOf m) (rOf m)
-sectorReply m Damaged = reply 7 (trackOf m) (sideOf m) (rOf m)
+sectorReply m Missing = replyWith 4 (trackOf m) (sideOf m) (rOf m)
+sectorReply m Repeated = replyWith 5 (trackOf m) (sideOf m) (rOf m)
+sectorReply m NoField = replyWith 6 (trackOf m) (sideOf m) (rOf m)
+sectorReply m Damaged = replyWith 7 (trackOf m) (sideOf m) (rOf m)
 
 -- whether a sector is bad: its reply is a refusal (§7.18)
 abbrev pub isBad : Sector → Bool

@@ -3,7 +3,7 @@
 use mathlib.Core.Path.{_≡_, refl}
 use mathlib.Core.List.{List, [], _∷_, map}
 use Prim.Native.Nat.{ℕ}
-use Rattle.sector_rules.specs.Geometry.{running, imageSector, sidePlace}
+use Rattle.sector_rules.specs.Geometry.{running, toImageSector, sidePlace}
 
 -- a block, a sector of it, and the image sector that it has (§1.5)
 pub record Placement : Type 0 where
@@ -33,7 +33,7 @@ placements =
 
 -- the image sectors that the definition gives for the rows (§1.5)
 unfoldable pub definedSectors : List Placement → List ℕ
-definedSectors ps = map (λ (p : Placement). imageSector (running (p .block) (p .sector))) ps
+definedSectors ps = map (λ (p : Placement). toImageSector (running (p .block) (p .sector))) ps
 
 -- the image sectors that the rows have (§1.5)
 unfoldable pub tableSectors : List Placement → List ℕ
@@ -41,5 +41,5 @@ tableSectors ps = map (λ (p : Placement). p .image) ps
 
 -- placement-values: the definition gives the image sector of each row
 pub placement-values : definedSectors placements ≡ tableSectors placements
-unfolding definedSectors tableSectors placements placedAt imageSector sidePlace
+unfolding definedSectors tableSectors placements placedAt toImageSector sidePlace
 placement-values = refl

@@ -98,7 +98,7 @@ fn write_table(hfe: &mut [u8])
 }
 
 // How many items unit u of a track has of a side.
-fn run_items(u: usize) -> usize
+fn items_of_run(u: usize) -> usize
     requires { ⌜ u < trackUnits ⌝ }
     ensures { λ n. ⌜ n ≡ min runItems (sideItems - runItems * u) ⌝ }
 {
@@ -111,7 +111,7 @@ fn write_run(image: &[u8], t: usize, s: usize, u: usize, hfe: &mut [u8], at: usi
     requires { ⌜ (length (now image) ≡ imageBytes) × (t < tracks) × (s < sides) × (u < trackUnits) × (at + runBytes ≤ length (now hfe)) ⌝ }
     ensures { λ _. ⌜ now (hfe .exit) ≡ overlay (now (hfe .entry)) at runBytes (runByte (now (image .entry)) t s u) ⌝ }
 {
-    let n = run_items(u);
+    let n = items_of_run(u);
     write_items(image, t, s, RUN_ITEMS * u, n, hfe, at);
     fields::fill(hfe, at + 2 * n, RUN - 2 * n, FILL);
 }

@@ -1,7 +1,7 @@
 // The numbers of the disk kind, each once, and the place of a block's sector in the block image.
 ghost use mathlib.Core.Path.{_≡_};
 ghost use Prim.Native.Nat.{_<_};
-ghost use Rattle.sector_rules.specs.Geometry.{running, imageSector, runningSector, placeReply};
+ghost use Rattle.sector_rules.specs.Geometry.{running, toImageSector, toRunningSector, placeReply};
 use crate::Geometry;
 use crate::replies::done_with;
 use crate::replies::refused;
@@ -88,7 +88,7 @@ impl Geometry {
     // The image sector of a running sector (§1.5).
     pub fn place(n: RunningSector) -> ImageSector
         requires { do ⌜ n .0 < (← ⟦Geometry::ALL_SECTORS⟧) ⌝ }
-        ensures { λ r. ⌜ r .0 ≡ imageSector (n .0) ⌝ }
+        ensures { λ r. ⌜ r .0 ≡ toImageSector (n .0) ⌝ }
     {
         let track = n.0 / Geometry::TRACK_SECTORS;
         let left = n.0 % Geometry::TRACK_SECTORS;
@@ -101,7 +101,7 @@ impl Geometry {
     // The running sector of an image sector (§1.6).
     pub fn running_of(m: ImageSector) -> RunningSector
         requires { do ⌜ m .0 < (← ⟦Geometry::ALL_SECTORS⟧) ⌝ }
-        ensures { λ r. ⌜ r .0 ≡ runningSector (m .0) ⌝ }
+        ensures { λ r. ⌜ r .0 ≡ toRunningSector (m .0) ⌝ }
     {
         let track = m.0 / Geometry::TRACK_SECTORS;
         let side = m.0 % Geometry::TRACK_SECTORS / Geometry::SECTORS;

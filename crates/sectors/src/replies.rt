@@ -17,7 +17,7 @@ pub fn done() -> Reply
 
 // Done, with the first place named (§7.17).
 pub fn done_with(first: usize) -> Reply
-    ensures { λ r. ⌜ r ≡ Replies.reply 0 first 0 0 ⌝ }
+    ensures { λ r. ⌜ r ≡ Replies.replyWith 0 first 0 0 ⌝ }
 {
     Reply {
         number: 0,
@@ -29,7 +29,7 @@ pub fn done_with(first: usize) -> Reply
 
 // A refusal with its number and first place (§7.17).
 pub fn refused(number: usize, first: usize) -> Reply
-    ensures { λ r. ⌜ r ≡ Replies.reply number first 0 0 ⌝ }
+    ensures { λ r. ⌜ r ≡ Replies.replyWith number first 0 0 ⌝ }
 {
     Reply {
         number,

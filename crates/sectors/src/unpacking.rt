@@ -5,7 +5,7 @@ ghost use lib.ListN.{length};
 ghost use Rattle.laws.specs.Lists.{tab};
 ghost use Rattle.sector_rules.specs.Geometry.{tracks, sides, sectors, allSectors, imageBytes};
 ghost use Rattle.sector_rules.specs.Hfe.{tableFault};
-ghost use Rattle.sector_rules.specs.Replies.{reply};
+ghost use Rattle.sector_rules.specs.Replies.{replyWith};
 ghost use Rattle.sector_rules.specs.Unpacked.{trackOf, sideOf, rOf, isBad, sectorReply, unpackedByte, unpackReply, unpackImage};
 ghost use Rattle.sector_rules.specs.Laws.Base.Unpacked.{placeOf};
 ghost use Rattle.sectors.specs.Laws.Unpacking.SectorsJudged.{Noted, SectorsJudged, AllJudged, SectorsUnpacked};
@@ -54,7 +54,7 @@ fn place_of(sector: Sector) -> usize
 // A refusal that names sector m by track, side and R (§1.2).
 fn at_sector(number: usize, m: usize) -> Reply
     requires { ⌜ m < allSectors ⌝ }
-    ensures { λ r. ⌜ r ≡ reply number (trackOf m) (sideOf m) (rOf m) ⌝ }
+    ensures { λ r. ⌜ r ≡ replyWith number (trackOf m) (sideOf m) (rOf m) ⌝ }
 {
     Reply {
         number,
@@ -102,9 +102,9 @@ fn judge_all(hfe: &[u8], places: &mut [usize]) -> Reply
     ensures { λ r. ⌜ AllJudged (now (hfe .entry)) (now (places .exit)) r ⌝ }
 {
     for n in 0..Geometry::TRACKS * Geometry::SIDES {
-        let reply = judge_side(hfe, n, places);
-        if reply.number != 0 {
-            return reply;
+        let replyWith = judge_side(hfe, n, places);
+        if replyWith.number != 0 {
+            return replyWith;
         }
     }
     done()
@@ -130,12 +130,12 @@ fn unpack_sectors(hfe: &[u8], image: &mut [u8]) -> Reply
     ensures { λ r. ⌜ SectorsUnpacked (now (hfe .entry)) (now (image .entry)) (now (image .exit)) r ⌝ }
 {
     let mut places = [0usize; Geometry::ALL_SECTORS];
-    let reply = judge_all(hfe, &mut places);
-    if reply.number != 0 {
-        return reply;
+    let replyWith = judge_all(hfe, &mut places);
+    if replyWith.number != 0 {
+        return replyWith;
     }
     write_sides(hfe, &places, image);
-    reply
+    replyWith
 }
 
 // Unpacks an HFE image to a block image (§8.1): 1, with the HFE image first (§7.1), to 7. A refusal leaves the block

@@ -14,7 +14,7 @@ use Rattle.laws.specs.Laws.Cases.{by-order, by-equal}
 use Rattle.laws.specs.Laws.Tests.{lt-true, lt-false, cond-true, cond-false, and-true, and-false-left, and-false-right}
 use Rattle.laws.specs.Laws.Tab.{tab-self, tab-length, tab-in, tab-ext}
 use Rattle.laws.specs.Laws.Changes.{upd-same, upd-other, upd₂-same, upd₂-other}
-use Rattle.sector_rules.specs.Geometry.{sectorBytes, blockSectors, allSectors, blocks, imageBytes, running, imageSector, runningSector}
+use Rattle.sector_rules.specs.Geometry.{sectorBytes, blockSectors, allSectors, blocks, imageBytes, running, toImageSector, toRunningSector}
 use Rattle.sector_rules.specs.Laws.Base.Geometry.{image-lt, running-lt, running-image, image-running}
 use Rattle.file_rules.specs.Disk.{Disk, imagePlace, blockOf, offsetOf, diskOf, imageOf, setByte}
 use Rattle.file_rules.specs.Sizes.{blockBytes}
@@ -33,11 +33,11 @@ module _ (b o : ℕ) (hb : b < blocks) (ho : o < blockBytes) where
   unfolding imagePlace
   image-place-lt = omega (arith, image-lt run run-lt)
 
-  byte-run : runningSector (imagePlace b o / sectorBytes) ≡ run
+  byte-run : toRunningSector (imagePlace b o / sectorBytes) ≡ run
   unfolding imagePlace
   byte-run =
-      let e : (imageSector run * sectorBytes + o % sectorBytes) / sectorBytes ≡ imageSector run = omega arith in
-      ap runningSector e ∙ running-image run run-lt
+      let e : (toImageSector run * sectorBytes + o % sectorBytes) / sectorBytes ≡ toImageSector run = omega arith in
+      ap toRunningSector e ∙ running-image run run-lt
 
   -- the image byte at the place of a block's byte is that block's
   pub block-byte : blockOf (imagePlace b o) ≡ b
@@ -68,10 +68,10 @@ module _ (i : ℕ) (h : i < imageBytes) where
   pub byte-is : imagePlace (blockOf i) (offsetOf i) ≡ i
   unfolding imagePlace blockOf offsetOf
   byte-is =
-      let r : ℕ = runningSector (i / sectorBytes) in
+      let r : ℕ = toRunningSector (i / sectorBytes) in
       let e₁ : running (r / blockSectors) ((r % blockSectors * sectorBytes + i % sectorBytes) / sectorBytes) ≡ r = omega arith in
       let e₂ : (r % blockSectors * sectorBytes + i % sectorBytes) % sectorBytes ≡ i % sectorBytes = omega arith in
-      ap₂ (λ (x y : ℕ). imageSector x * sectorBytes + y) e₁ e₂
+      ap₂ (λ (x y : ℕ). toImageSector x * sectorBytes + y) e₁ e₂
       ∙ ap (λ (x : ℕ). x * sectorBytes + i % sectorBytes) (image-running (i / sectorBytes) (omega arith))
       ∙ omega arith
 

@@ -12,7 +12,7 @@ use Rattle.laws.specs.Changes.{put}
 use Rattle.laws.specs.Laws.Cases.{by-test}
 use Rattle.laws.specs.Laws.Tests.{true-le, cond-true, cond-false}
 use Rattle.laws.specs.Laws.Overlay.{overlay-is}
-use Rattle.sector_rules.specs.Replies.{reply}
+use Rattle.sector_rules.specs.Replies.{replyWith}
 use Rattle.file_rules.specs.Calls.{bufferKept, deliver}
 use Rattle.file_rules.specs.Model.{resultOf}
 
@@ -46,6 +46,6 @@ module _ (bytes buf : List ℕ) where
       by-test (leb (length bytes) (length buf))
       (λ t.
       cond-true _ _ t
-      ∙ ap (λ (l : List ℕ). record { answer = reply 0 (length bytes) 0 0; buffer = l }) (put-front (true-le t))
+      ∙ ap (λ (l : List ℕ). record { answer = replyWith 0 (length bytes) 0 0; buffer = l }) (put-front (true-le t))
       ∙ sym (cond-true _ _ t))
       (λ t. cond-false _ _ t ∙ sym (cond-false _ _ t))

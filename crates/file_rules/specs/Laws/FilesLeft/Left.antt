@@ -10,7 +10,7 @@ use lib.ListN.{length}
 use Rattle.laws.specs.Lists.{same}
 use Rattle.laws.specs.Laws.Cases.{by-order, by-test}
 use Rattle.laws.specs.Laws.Tests.{lt-true, lt-false, cond-true, cond-false}
-use Rattle.sector_rules.specs.Replies.{reply, done, refusal}
+use Rattle.sector_rules.specs.Replies.{replyWith, done, refusal}
 use Rattle.sector_rules.specs.declared.Reply.{Reply}
 use Rattle.file_rules.specs.Calls.{Outcome, bufferKept}
 use Rattle.file_rules.specs.Directory.{nameEq, nameRight}
@@ -85,8 +85,8 @@ module _ (m : Inner) (v : Inv m) (fs : List NamedFile) (r : Fills (m .slots) fs)
         by-test (nameRight (x .name))
         (λ t. by-order (innerFind m (x .name)) (suc (m .peak))
         (λ h.
-        let e : innerAdd m x ≡ innerRefused m (reply 13 (innerFind m (x .name)) 0 0) = cond-true _ _ t ∙ cond-true _ _ (lt-true h) in
-        subst (Leaves (x ∷ fs)) (sym e) (stays (x ∷ fs) (reply 13 (innerFind m (x .name)) 0 0) refl))
+        let e : innerAdd m x ≡ innerRefused m (replyWith 13 (innerFind m (x .name)) 0 0) = cond-true _ _ t ∙ cond-true _ _ (lt-true h) in
+        subst (Leaves (x ∷ fs)) (sym e) (stays (x ∷ fs) (replyWith 13 (innerFind m (x .name)) 0 0) refl))
         (λ h. by-test (roomFor m x)
         (λ s.
         let e : innerAdd m x ≡ record { answer = done; modelAfter = innerAddAt m (emptySlot m) x } =

@@ -11,7 +11,7 @@ use Rattle.laws.specs.Changes.{upd}
 use Rattle.laws.specs.Below.{count, sum, firsts, lowest}
 use Rattle.laws.specs.Options.{isSome}
 use Rattle.sector_rules.specs.Geometry.{blocks}
-use Rattle.sector_rules.specs.Replies.{reply, done, refusal}
+use Rattle.sector_rules.specs.Replies.{replyWith, done, refusal}
 use Rattle.sector_rules.specs.declared.Reply.{Reply}
 use Rattle.file_rules.specs.declared.Record.{Record}
 use Rattle.file_rules.specs.declared.Record.the-variants.{File}
@@ -154,7 +154,7 @@ roomFor m x = leb (dirBlocks (peakAfter m) + (fileBlocks m + blocksFor (length (
 unfoldable pub innerAdd : Inner → NamedFile → InnerChanged
 innerAdd m x =
     cond (nameRight (x .name))
-    (cond (ltb (innerFind m (x .name)) (suc (m .peak))) (innerRefused m (reply 13 (innerFind m (x .name)) 0 0))
+    (cond (ltb (innerFind m (x .name)) (suc (m .peak))) (innerRefused m (replyWith 13 (innerFind m (x .name)) 0 0))
     (cond (roomFor m x) (record { answer = done; modelAfter = innerAddAt m (emptySlot m) x }) (innerRefused m (refusal 15))))
     (innerRefused m (refusal 12))
 

@@ -13,7 +13,7 @@ use Rattle.laws.specs.Options.{isSome}
 use Rattle.laws.specs.Laws.Cases.{by-order, by-test}
 use Rattle.laws.specs.Laws.Tests.{lt-true, lt-false, le-true, eq-true, true-le, true≢false, cond-true, cond-false}
 use Rattle.sector_rules.specs.Geometry.{blocks, imageBytes}
-use Rattle.sector_rules.specs.Replies.{reply, done, refusal}
+use Rattle.sector_rules.specs.Replies.{replyWith, done, refusal}
 use Rattle.sector_rules.specs.declared.Reply.{Reply}
 use Rattle.file_rules.specs.declared.Record.{Record}
 use Rattle.file_rules.specs.declared.Record.the-variants.{Free, System, File, Other}
@@ -155,7 +155,7 @@ module _ (m : Inner) (v : Inv m) where
       by-test (nameRight (x .name))
       (λ t. by-order (innerFind m (x .name)) (suc (m .peak))
       (λ h.
-      let e : innerAdd m x ≡ innerRefused m (reply 13 (innerFind m (x .name)) 0 0) = cond-true _ _ t ∙ cond-true _ _ (lt-true h) in (
+      let e : innerAdd m x ≡ innerRefused m (replyWith 13 (innerFind m (x .name)) 0 0) = cond-true _ _ t ∙ cond-true _ _ (lt-true h) in (
         rw (findName-is m v (x .name), dirEnd-is m v) (cond-true _ _ t ∙ cond-true _ _ (lt-true h) ∙ ap disked (sym e)),
         subst (λ (c : InnerChanged). Inv (c .modelAfter)) (sym e) v,
       ))

@@ -167,8 +167,8 @@ module _ (args : FormatArguments) (calls : List Call) where
   on-disk : diskOf img ≡ render m
   on-disk = img-disk m v
 
-  holds : Holds args calls img os fs P
-  holds =
+  history-holds : Holds args calls img os fs P
+  history-holds =
       record {
         same-outs = with-model .0;
         same-image = ap imageOf (with-model .1);
@@ -219,7 +219,7 @@ history old args calls long short =
           (filesLeft [] calls (imageOuts (formatted old args) calls)) (mostPresent [] calls (imageOuts (formatted old args) calls))) (sym e)
           (subst (λ (xs : List Outcome).
           Holds args calls (imageOf (render (innerEnd (innerFormat args) calls))) xs (filesLeft [] calls xs) (mostPresent [] calls xs)) (sym o)
-          (holds args calls)),
+          (history-holds args calls)),
     )
 
 -- after every history the check passes

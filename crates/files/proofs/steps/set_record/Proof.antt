@@ -1,5 +1,5 @@
 -- `set_record` meets its contract.
--- Rests on: the laws in Writing/Stored; the contracts of record_bytes and put_bytes.
+-- Rests on: the laws in Writing/Stored; the contracts of encoded_record and put_bytes.
 -- Assumes nothing.
 use mathlib.Core.Path.{_∙_}
 use borrow.Author.Needs.{needs}
@@ -9,8 +9,8 @@ use Rattle.file_rules.specs.Written.{setRecord}
 use Rattle.files.proofs.steps.set_record.Statement.{statement}
 use Rattle.files.proofs.steps.set_record.Tie as tie
 
-record-bytes-requires : tie.Need-record-bytes-requires
-record-bytes-requires c κs = search needs
+encoded-record-requires : tie.Need-encoded-record-requires
+encoded-record-requires c κs = search needs
 
 mul-put-bytes : tie.Need-mul-put-bytes
 mul-put-bytes c = search needs
@@ -31,16 +31,16 @@ returns : tie.Need-returns
 unfolding setRecord
 returns c =
     let after-put-bytes = c .before .before in
-    let after-record-bytes = after-put-bytes .before .before .before in
-    let start = after-record-bytes .before .before in
+    let after-encoded-record = after-put-bytes .before .before .before in
+    let start = after-encoded-record .before .before in
     after-put-bytes .put-bytes .ensures ∙
-    patched-row _ _ _ _ 3 (encode (start .args .r)) (after-record-bytes .record-bytes .ensures)
+    patched-row _ _ _ _ 3 (encode (start .args .r)) (after-encoded-record .encoded-record .ensures)
 
 pub set-record-spec : {M : Type 1} → statement M
 set-record-spec =
     tie.close
     (tie.spec
-    record-bytes-requires
+    encoded-record-requires
     mul-put-bytes
     add-put-bytes
     slice-aggregate-put-bytes

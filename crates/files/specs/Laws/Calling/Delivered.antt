@@ -17,7 +17,7 @@ use Rattle.laws.specs.Laws.Tab.{tab-length}
 use Rattle.laws.specs.Laws.Overlay.{overlay-none, overlay-cong, overlay-length, put-append, put-tab}
 use Rattle.laws.specs.Laws.Count.{count-yes, count-no}
 use Rattle.sector_rules.specs.declared.Reply.{Reply}
-use Rattle.sector_rules.specs.Replies.{reply, refusal}
+use Rattle.sector_rules.specs.Replies.{replyWith, refusal}
 use Rattle.sector_rules.specs.Geometry.{imageBytes}
 use Rattle.file_rules.specs.Sizes.{blockBytes, slotBytes, slotCount}
 use Rattle.file_rules.specs.Disk.{Disk, diskOf}
@@ -96,26 +96,26 @@ part-put image dir k long hk l t out c at e =
 -- ---- delivery
 
 module _ (bytes buf : List ℕ) (n : ℕ) (e : n ≡ length bytes) where
-  fits : n ≤ length buf → deliver bytes buf ≡ record { answer = reply 0 (length bytes) 0 0; buffer = put buf 0 bytes }
+  fits : n ≤ length buf → deliver bytes buf ≡ record { answer = replyWith 0 (length bytes) 0 0; buffer = put buf 0 bytes }
   unfolding deliver
   fits h = cond-true _ _ (le-true {a = length bytes} {b = length buf} (omega arith))
 
-  misses : length buf < n → deliver bytes buf ≡ bufferKept buf (reply 16 (length bytes) 0 0)
+  misses : length buf < n → deliver bytes buf ≡ bufferKept buf (replyWith 16 (length bytes) 0 0)
   unfolding deliver
   misses h = cond-false _ _ (le-false {a = length bytes} {b = length buf} (omega arith))
 
   -- a result that fits is done, with its length
-  pub fits-answer : n ≤ length buf → reply 0 n 0 0 ≡ deliver bytes buf .answer
-  fits-answer h = ap (λ (x : ℕ). reply 0 x 0 0) e ∙ ap (λ (o : Outcome). o .answer) (sym (fits h))
+  pub fits-answer : n ≤ length buf → replyWith 0 n 0 0 ≡ deliver bytes buf .answer
+  fits-answer h = ap (λ (x : ℕ). replyWith 0 x 0 0) e ∙ ap (λ (o : Outcome). o .answer) (sym (fits h))
 
   -- a result that fits stands at the beginning of the buffer
   pub fits-buffer : n ≤ length buf → put buf 0 bytes ≡ deliver bytes buf .buffer
   fits-buffer h = ap (λ (o : Outcome). o .buffer) (sym (fits h))
 
   -- a result that does not fit is refused with 16 and its length
-  pub misses-answer : length buf < n → reply 16 n 0 0 ≡ deliver bytes buf .answer
+  pub misses-answer : length buf < n → replyWith 16 n 0 0 ≡ deliver bytes buf .answer
   unfolding bufferKept
-  misses-answer h = ap (λ (x : ℕ). reply 16 x 0 0) e ∙ ap (λ (o : Outcome). o .answer) (sym (misses h))
+  misses-answer h = ap (λ (x : ℕ). replyWith 16 x 0 0) e ∙ ap (λ (o : Outcome). o .answer) (sym (misses h))
 
   -- a result that does not fit leaves the buffer as it was
   pub misses-buffer : length buf < n → buf ≡ deliver bytes buf .buffer

@@ -24,7 +24,7 @@ use Rattle.laws.specs.Laws.Tab.{tab-ext, getD-past}
 use Rattle.laws.specs.Laws.Changes.{patch-in, patch-above}
 use Rattle.laws.specs.Laws.Count.{count-none, count-le}
 use Rattle.sector_rules.specs.Geometry.{blocks, imageBytes}
-use Rattle.sector_rules.specs.Replies.{reply, done, refusal}
+use Rattle.sector_rules.specs.Replies.{replyWith, done, refusal}
 use Rattle.sector_rules.specs.declared.Reply.{Reply}
 use Rattle.file_rules.specs.Calls.{DiskChanged, ImageChanged, diskKept, imageKept, opensBlock, needed, addAt, addSound, removeAt, removeSound, imaged}
 use Rattle.file_rules.specs.Check.{partsRight, entryRight, fileRight, fileFault, newName, refusal8, refusal9, refusal10, refusal11, diskRefusal}
@@ -224,7 +224,7 @@ module _ (d : Disk) (name : List ℕ) (date : ℕ) (content : List ℕ) where
 
   module _ (right : nameRight name ≡ true) (f end : ℕ) (ef : f ≡ findName d name) (ee : end ≡ dirEnd d) where
     -- an add of a slot's name is refused with 13 and the slot
-    pub add-present : f < end → addSound d name date content ≡ diskKept d (reply 13 f 0 0)
+    pub add-present : f < end → addSound d name date content ≡ diskKept d (replyWith 13 f 0 0)
     unfolding addSound
     add-present h = rw (right, ← ef, ← ee, lt-true h)
 

@@ -12,7 +12,7 @@ use Rattle.laws.specs.Options.{orElse}
 use Rattle.laws.specs.Laws.Cases.{by-order}
 use Rattle.laws.specs.Laws.Tests.{lt-true, true≢false, cond-true, and-right}
 use Rattle.laws.specs.Laws.Lowest.{lowest-all}
-use Rattle.sector_rules.specs.Replies.{reply}
+use Rattle.sector_rules.specs.Replies.{replyWith}
 use Rattle.sector_rules.specs.declared.Fault.the-variants.{At, Sound}
 use Rattle.sector_rules.specs.Faults.{faultBelow, refusalAt}
 use Rattle.sector_rules.specs.Geometry.{blocks}
@@ -49,7 +49,7 @@ unfolding refusal10 faultBelow
 files-right d e =
     by-order (fileFault d) slotCount
     (λ h.
-    let q : some (reply 10 (fileFault d) 0 0) ≡ none = sym (ap (refusalAt 10) (cond-true (At (fileFault d)) Sound (lt-true h))) ∙ e in
+    let q : some (replyWith 10 (fileFault d) 0 0) ≡ none = sym (ap (refusalAt 10) (cond-true (At (fileFault d)) Sound (lt-true h))) ∙ e in
     let z : _≡_ {A = ℕ} 0 1 = cc in absurd (omega arith))
     (λ h. h)
 
@@ -82,6 +82,6 @@ first-system d e =
     let b : refusal9 d ≡ none = or-none-left (refusal9 d) (orElse (refusal10 d) (refusal11 d)) a in
     by-order (mapFault d) blocks
     (λ h.
-    let q : some (reply 9 (mapFault d) 0 0) ≡ none = sym (ap (refusalAt 9) (cond-true (At (mapFault d)) Sound (lt-true h))) ∙ b in
+    let q : some (replyWith 9 (mapFault d) 0 0) ≡ none = sym (ap (refusalAt 9) (cond-true (At (mapFault d)) Sound (lt-true h))) ∙ b in
     let z : _≡_ {A = ℕ} 0 1 = cc in absurd (omega arith))
     (λ h. system-only (recordAt d 0) (lowest-all (λ (j : ℕ). recordFault j (recordAt d j)) blocks h 0 (omega arith)))

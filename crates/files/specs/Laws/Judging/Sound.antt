@@ -19,7 +19,7 @@ use Rattle.sector_rules.specs.declared.Fault.{Fault}
 use Rattle.sector_rules.specs.declared.Fault.the-variants.{At, Sound}
 use Rattle.sector_rules.specs.Faults.{faultBelow, refusalAt}
 use Rattle.sector_rules.specs.Geometry.{blocks, imageBytes}
-use Rattle.sector_rules.specs.Replies.{reply, refusal}
+use Rattle.sector_rules.specs.Replies.{replyWith, refusal}
 use Rattle.sector_rules.specs.declared.Reply.{Reply}
 use Rattle.file_rules.specs.declared.Record.{Record}
 use Rattle.file_rules.specs.declared.Entry.{Entry}
@@ -168,7 +168,7 @@ module _ (d : Disk) where
 
 -- ---- the refusals
 
-lowest-refused : (b n k : ℕ) → b < n → Refused (reply k b 0 0) ≡ verdictOf (refusalAt k (faultBelow n b))
+lowest-refused : (b n k : ℕ) → b < n → Refused (replyWith k b 0 0) ≡ verdictOf (refusalAt k (faultBelow n b))
 unfolding verdictOf faultBelow
 lowest-refused b n k h = ap (λ (f : Fault). verdictOf (refusalAt k f)) (sym (cond-true (At b) Sound (lt-true h)))
 
@@ -178,7 +178,7 @@ lowest-passed b n k h = ap (λ (f : Fault). verdictOf (refusalAt k f)) (sym (con
 
 module _ (map : List ℕ) (b : ℕ) (e : b ≡ lowest (λ (j : ℕ). recordFault j (loadedRecord map j)) blocks) where
   -- a bad record is refusal 9 at its block
-  pub refused-map : b < blocks → Refused (reply 9 b 0 0) ≡ verdictOf (mapRefusal map)
+  pub refused-map : b < blocks → Refused (replyWith 9 b 0 0) ≡ verdictOf (mapRefusal map)
   unfolding mapRefusal
   refused-map h = rw (← e) (lowest-refused b blocks 9 h)
 
@@ -189,7 +189,7 @@ module _ (map : List ℕ) (b : ℕ) (e : b ≡ lowest (λ (j : ℕ). recordFault
 
 module _ (d : Disk) (b : ℕ) where
   -- a file at fault is refusal 10 with its number
-  pub refused-files : b ≡ fileFault d → b < slotCount → Refused (reply 10 b 0 0) ≡ verdictOf (refusal10 d)
+  pub refused-files : b ≡ fileFault d → b < slotCount → Refused (replyWith 10 b 0 0) ≡ verdictOf (refusal10 d)
   unfolding refusal10
   refused-files e h = rw (← e) (lowest-refused b slotCount 10 h)
 

@@ -25,7 +25,7 @@ use Rattle.file_rules.specs.Disk.{Disk, diskOf}
 use Rattle.file_rules.specs.Map.{freeAt, freeCount}
 use Rattle.file_rules.specs.Check.{refusal8, refusal9, refusal11}
 use Rattle.file_rules.specs.Calls.{unless, wrongLength}
-use Rattle.file_rules.specs.FirstTrack.{refusedTrack, counted, firstTrack}
+use Rattle.file_rules.specs.FirstTrack.{refusedTrack, counted, firstTrackResult}
 use Rattle.files.specs.Laws.Judging.Verdict.{verdictOf, verdict-or-some, verdict-or-none, verdict-some, verdict-none}
 
 -- those that pass a test and those that do not are all
@@ -70,23 +70,23 @@ module _ (d : Disk) where
 
 module _ (l : List ℕ) where
   -- a first track of another length is refused with 1
-  pub track-length : length l ≢ firstTrackBytes → refusedTrack wrongLength ≡ firstTrack l
-  unfolding firstTrack
+  pub track-length : length l ≢ firstTrackBytes → refusedTrack wrongLength ≡ firstTrackResult l
+  unfolding firstTrackResult
   track-length h = sym (cond-false (unless (judgedTrack (diskOf l)) refusedTrack (counted (diskOf l))) (refusedTrack wrongLength) (eq-false h))
 
   module _ (long : length l ≡ firstTrackBytes) where
-    disk-refusal-track : firstTrack l ≡ unless (judgedTrack (diskOf l)) refusedTrack (counted (diskOf l))
-    unfolding firstTrack
+    disk-refusal-track : firstTrackResult l ≡ unless (judgedTrack (diskOf l)) refusedTrack (counted (diskOf l))
+    unfolding firstTrackResult
     disk-refusal-track = cond-true (unless (judgedTrack (diskOf l)) refusedTrack (counted (diskOf l))) (refusedTrack wrongLength) (eq-true long)
 
     -- a refused judgement is the call's reply, with three zeros
-    pub track-refused : (r : Reply) → Refused r ≡ verdictOf (judgedTrack (diskOf l)) → refusedTrack r ≡ firstTrack l
+    pub track-refused : (r : Reply) → Refused r ≡ verdictOf (judgedTrack (diskOf l)) → refusedTrack r ≡ firstTrackResult l
     unfolding unless
     track-refused r e =
         sym (disk-refusal-track ∙ ap (λ (v : Option Reply). unless v refusedTrack (counted (diskOf l))) (verdict-some (judgedTrack (diskOf l)) r e))
 
     -- a judgement that passed gives the counts
-    pub track-passed : Passed ≡ verdictOf (judgedTrack (diskOf l)) → counted (diskOf l) ≡ firstTrack l
+    pub track-passed : Passed ≡ verdictOf (judgedTrack (diskOf l)) → counted (diskOf l) ≡ firstTrackResult l
     unfolding unless
     track-passed e =
         sym (disk-refusal-track ∙ ap (λ (v : Option Reply). unless v refusedTrack (counted (diskOf l))) (verdict-none (judgedTrack (diskOf l)) e))

@@ -14,9 +14,9 @@ use Rattle.laws.specs.Laws.Tab.{tab-ext}
 use Rattle.sector_rules.specs.declared.Fault.{Fault}
 use Rattle.sector_rules.specs.declared.Fault.the-variants.{At, Sound}
 use Rattle.sector_rules.specs.declared.Reply.{Reply}
-use Rattle.sector_rules.specs.Replies.{reply}
+use Rattle.sector_rules.specs.Replies.{replyWith}
 use Rattle.sector_rules.specs.Faults.{wrongAt, refusalAt}
-use Rattle.sector_rules.specs.Geometry.{sectorBytes, running, imageSector}
+use Rattle.sector_rules.specs.Geometry.{sectorBytes, running, toImageSector}
 use Rattle.sector_rules.specs.Laws.Base.Geometry.{image-first}
 use Rattle.files.specs.declared.Verdict.{Verdict}
 use Rattle.files.specs.declared.Verdict.the-variants.{Passed, Refused}
@@ -61,7 +61,7 @@ first-place : (o : ℕ) → o < sectorBytes → imagePlace 0 o ≡ o
 unfolding imagePlace
 first-place o h =
     let e : running 0 (o / sectorBytes) ≡ 0 = omega arith in
-    ap (λ (n : ℕ). imageSector n * sectorBytes + o % sectorBytes) e ∙ ap (λ (n : ℕ). n * sectorBytes + o % sectorBytes) image-first ∙ omega arith
+    ap (λ (n : ℕ). toImageSector n * sectorBytes + o % sectorBytes) e ∙ ap (λ (n : ℕ). n * sectorBytes + o % sectorBytes) image-first ∙ omega arith
 
 -- the first sector of block 0 is the image's first
 pub first-byte : (l : List ℕ) (o : ℕ) → o < sectorBytes → diskOf l 0 o ≡ getD l o 0
@@ -82,7 +82,7 @@ bytes-fault f right l o xs h k e q = e ∙ ap (wrongAt o) (q ∙ bytes-stand l o
 -- ---- refusal 8
 
 -- a header fault is refusal 8 at its field
-pub refused-header : (d : Disk) (o : ℕ) → At o ≡ diskHeaderFault d → Refused (reply 8 o 0 0) ≡ verdictOf (refusal8 d)
+pub refused-header : (d : Disk) (o : ℕ) → At o ≡ diskHeaderFault d → Refused (replyWith 8 o 0 0) ≡ verdictOf (refusal8 d)
 unfolding refusal8 verdictOf
 refused-header d o e = ap (λ (f : Fault). verdictOf (refusalAt 8 f)) e
 

@@ -26,36 +26,36 @@ use Rattle.files.specs.Laws.Loading.Tally.{Tallied, tally-skip}
 -- ---- the file that a record bears
 
 -- g is the file that a record bears, `sequences` where it bears none of those below that
-pub record Bearer (g : ℕ) (r : Record) : Type 0 where
+pub record IsBearer (g : ℕ) (r : Record) : Type 0 where
   pub low : g < suc sequences
   pub bears-it : (f : ℕ) → f < sequences → bears f r ≡ eqb g f
 
 -- a record that bears no file has no bearer
-pub bearer-none : (r : Record) → ((f : ℕ) → bears f r ≡ false) → Bearer sequences r
+pub bearer-none : (r : Record) → ((f : ℕ) → bears f r ≡ false) → IsBearer sequences r
 bearer-none r h = record { low = omega arith; bears-it = λ f l. h f ∙ sym (eq-false {a = sequences} {b = f} (λ e. omega arith)) }
 
 -- a free record bears no file
-pub bearer-free : Bearer sequences Free
+pub bearer-free : IsBearer sequences Free
 unfolding bears
 bearer-free = bearer-none Free (λ f. refl)
 
 -- the system's record bears no file
-pub bearer-system : Bearer sequences System
+pub bearer-system : IsBearer sequences System
 unfolding bears
 bearer-system = bearer-none System (λ f. refl)
 
 -- a record of no kind bears no file
-pub bearer-other : Bearer sequences Other
+pub bearer-other : IsBearer sequences Other
 unfolding bears
 bearer-other = bearer-none Other (λ f. refl)
 
 -- a file's record bears that file
-pub bearer-file : (g s : ℕ) → g < sequences → Bearer g (File g s)
+pub bearer-file : (g s : ℕ) → g < sequences → IsBearer g (File g s)
 unfolding bears
 bearer-file g s h = record { low = omega arith; bears-it = λ f l. refl }
 
 -- a record of a file number past the last bears no file
-pub bearer-far : (g s : ℕ) → sequences ≤ g → Bearer sequences (File g s)
+pub bearer-far : (g s : ℕ) → sequences ≤ g → IsBearer sequences (File g s)
 unfolding bears
 bearer-far g s h =
     record {
@@ -98,7 +98,7 @@ chain-none n m en em map =
 
 -- block b, the one below k, is put before the chain of its file g
 module _ (first next map : List ℕ) (k j b : ℕ) (d : j ≡ b) (e : b + 1 ≡ k) (l : k ≤ blocks)
-    (c : Chained first next map k) (g : ℕ) (w : Bearer g (loadedRecord map b)) where
+    (c : Chained first next map k) (g : ℕ) (w : IsBearer g (loadedRecord map b)) where
   -- block b, the next one down, is put before the chain of the file that it bears
   pub chain-more : Chained (set first g b) (set next b (getD first g 0)) map j
   chain-more =

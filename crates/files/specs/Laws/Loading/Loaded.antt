@@ -25,8 +25,8 @@ unfoldable pub loadedRecord : List ℕ → ℕ → Record
 loadedRecord map b = decode (getD map b 0)
 
 -- the same with its block number, as the map is walked
-abbrev pub mapRecord : List ℕ → BlockNumber → MapRecord
-mapRecord map b = record { block = b; «record» = loadedRecord map (b .0) }
+abbrev pub recordWithBlock : List ℕ → BlockNumber → MapRecord
+recordWithBlock map b = record { block = b; «record» = loadedRecord map (b .0) }
 
 -- a loaded map has the numbers of the disk's records
 pub record MapLoaded (map : List ℕ) (d : Disk) : Type 0 where

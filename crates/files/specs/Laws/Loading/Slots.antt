@@ -18,7 +18,7 @@ use Rattle.laws.specs.Laws.Lowest.{lowest-some, lowest-none}
 use Rattle.laws.specs.Laws.Tab.{take-tab, tab-length, tab-in, tab-ext, eq-tab, getD-past}
 use Rattle.laws.specs.Laws.Same.{eq-same, ne-same}
 use Rattle.laws.specs.Laws.Numbers.{high-row}
-use Rattle.sector_rules.specs.Geometry.{sectorBytes, blocks, imageBytes, running, imageSector}
+use Rattle.sector_rules.specs.Geometry.{sectorBytes, blocks, imageBytes, running, toImageSector}
 use Rattle.file_rules.specs.declared.Entry.{Entry}
 use Rattle.file_rules.specs.Sizes.{slotBytes, blockSlots, slotCount, nameMost}
 use Rattle.file_rules.specs.Disk.{Disk, imagePlace, diskOf}
@@ -60,7 +60,7 @@ module _ (b o i : ℕ) (h : o % sectorBytes + i < sectorBytes) where
   byte-along =
       let e : (o + i) / sectorBytes ≡ o / sectorBytes = omega arith in
       let g : (o + i) % sectorBytes ≡ o % sectorBytes + i = omega arith in
-      ap₂ (λ (x y : ℕ). imageSector (running b x) * sectorBytes + y) e g ∙ omega arith
+      ap₂ (λ (x y : ℕ). toImageSector (running b x) * sectorBytes + y) e g ∙ omega arith
 
 module _ (image dir : List ℕ) (k : ℕ) (long : length image ≡ imageBytes) (hk : k < slotCount) (l : Located dir (diskOf image)) where
   abbrev block : ℕ

@@ -5,7 +5,7 @@ use Prim.Native.Nat.{ℕ, _+_, _*_, _/_, _%_, _<_}
 use lib.ListN.{getD}
 use Rattle.laws.specs.Below.{all}
 use Rattle.laws.specs.Laws.All.{all-eq, all-lt}
-use Rattle.sector_rules.specs.Geometry.{trackSectors, sectors, allSectors, sidePlace, backward, imageSector, runningSector}
+use Rattle.sector_rules.specs.Geometry.{trackSectors, sectors, allSectors, sidePlace, backward, toImageSector, toRunningSector}
 
 -- an entry of the first table as a sector of track 0, and back by the second
 pub forth-back : (k : ℕ) → k < trackSectors → getD backward (sectors * (getD sidePlace k 0 / 128) + getD sidePlace k 0 % 128) 0 ≡ k
@@ -20,26 +20,26 @@ back-forth =
     all-eq (λ (k : ℕ). sectors * (getD sidePlace (getD backward k 0) 0 / 128) + getD sidePlace (getD backward k 0) 0 % 128) (λ (k : ℕ). k) trackSectors refl
 
 -- the image sector of a running sector is on the disk
-pub image-lt : (n : ℕ) → n < allSectors → imageSector n < allSectors
-unfolding imageSector sidePlace all
-image-lt = all-lt imageSector (λ (n : ℕ). allSectors) allSectors refl
+pub image-lt : (n : ℕ) → n < allSectors → toImageSector n < allSectors
+unfolding toImageSector sidePlace all
+image-lt = all-lt toImageSector (λ (n : ℕ). allSectors) allSectors refl
 
 -- the running sector of an image sector is on the disk
-pub running-lt : (m : ℕ) → m < allSectors → runningSector m < allSectors
-unfolding runningSector backward all
-running-lt = all-lt runningSector (λ (n : ℕ). allSectors) allSectors refl
+pub running-lt : (m : ℕ) → m < allSectors → toRunningSector m < allSectors
+unfolding toRunningSector backward all
+running-lt = all-lt toRunningSector (λ (n : ℕ). allSectors) allSectors refl
 
 -- the running sector of the image sector of a running sector is that sector
-pub running-image : (n : ℕ) → n < allSectors → runningSector (imageSector n) ≡ n
-unfolding imageSector runningSector sidePlace backward all
-running-image = all-eq (λ (n : ℕ). runningSector (imageSector n)) (λ (n : ℕ). n) allSectors refl
+pub running-image : (n : ℕ) → n < allSectors → toRunningSector (toImageSector n) ≡ n
+unfolding toImageSector toRunningSector sidePlace backward all
+running-image = all-eq (λ (n : ℕ). toRunningSector (toImageSector n)) (λ (n : ℕ). n) allSectors refl
 
 -- the image sector of the running sector of an image sector is that sector
-pub image-running : (m : ℕ) → m < allSectors → imageSector (runningSector m) ≡ m
-unfolding imageSector runningSector sidePlace backward all
-image-running = all-eq (λ (m : ℕ). imageSector (runningSector m)) (λ (m : ℕ). m) allSectors refl
+pub image-running : (m : ℕ) → m < allSectors → toImageSector (toRunningSector m) ≡ m
+unfolding toImageSector toRunningSector sidePlace backward all
+image-running = all-eq (λ (m : ℕ). toImageSector (toRunningSector m)) (λ (m : ℕ). m) allSectors refl
 
 -- the first running sector, which has the header, is the first image sector
-pub image-first : imageSector 0 ≡ 0
-unfolding imageSector sidePlace
+pub image-first : toImageSector 0 ≡ 0
+unfolding toImageSector sidePlace
 image-first = refl

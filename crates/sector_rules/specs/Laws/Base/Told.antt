@@ -22,7 +22,7 @@ use Rattle.sector_rules.specs.declared.Sector.the-variants.{Delivered, N
 use Rattle.sector_rules.specs.declared.Fault.{Fault}
 use Rattle.sector_rules.specs.declared.Fault.the-variants.{At, Sound}
 use Rattle.sector_rules.specs.declared.Reply.{Reply}
-use Rattle.sector_rules.specs.Replies.{reply, done}
+use Rattle.sector_rules.specs.Replies.{replyWith, done}
 use Rattle.sector_rules.specs.Geometry.{allSectors, imageBytes}
 use Rattle.sector_rules.specs.Hfe.{hfeHeaderFault, tableFault, sideStream}
 use Rattle.sector_rules.specs.Unpacked.{trackOf, sideOf, rOf, sectorAt, sectorReply, isBad, firstBad, sectorsReply, leastHfe, unpackReply}
@@ -216,20 +216,20 @@ module _ (h : List ℕ) where
     sectors-done : sectorsReply h .number ≡ 0
     sectors-done =
         by-order (length h) leastHfe
-        (λ l. absurd (not-zero (reply 1 1 0 0) (short-reply h n l) 0 refl))
+        (λ l. absurd (not-zero (replyWith 1 1 0 0) (short-reply h n l) 0 refl))
         (λ l. by-equal n imageBytes
         (λ q. header l q (hfeHeaderFault h) refl)
-        (λ q. absurd (not-zero (reply 1 2 0 0) (length-reply h n l q) 0 refl)))
+        (λ q. absurd (not-zero (replyWith 1 2 0 0) (length-reply h n l q) 0 refl)))
       where
         not-zero : (r : Reply) → unpackReply h n ≡ r → (k : ℕ) → r .number ≡ suc k → ⊥
         not-zero r p k q = let z : r .number ≡ 0 = ap (λ (x : Reply). x .number) (sym p) ∙ e in omega arith
 
         table : (l : leastHfe ≤ length h) (q : n ≡ imageBytes) → hfeHeaderFault h ≡ Sound → (f : Fault) → tableFault h ≡ f → sectorsReply h .number ≡ 0
-        table l q g (At t) f = absurd (not-zero (reply 3 t 0 0) (table-reply h n l q g t f) 2 refl)
+        table l q g (At t) f = absurd (not-zero (replyWith 3 t 0 0) (table-reply h n l q g t f) 2 refl)
         table l q g Sound f = ap (λ (x : Reply). x .number) (sym (sound-reply h n l q g f)) ∙ e
 
         header : (l : leastHfe ≤ length h) (q : n ≡ imageBytes) (f : Fault) → hfeHeaderFault h ≡ f → sectorsReply h .number ≡ 0
-        header l q (At o) f = absurd (not-zero (reply 2 o 0 0) (header-reply h n l q o f) 1 refl)
+        header l q (At o) f = absurd (not-zero (replyWith 2 o 0 0) (header-reply h n l q o f) 1 refl)
         header l q Sound f = table l q f (tableFault h) refl
 
     -- of an image that is accepted each sector is delivered

@@ -13,7 +13,7 @@ use Rattle.sector_rules.specs.declared.Reply.{Reply}
 use Rattle.sector_rules.specs.declared.Fault.the-variants.{At, Sound}
 use Rattle.sector_rules.specs.declared.Sector.{Sector}
 use Rattle.sector_rules.specs.declared.Sector.the-variants.{Delivered, Missing, Repeated, NoField, Damaged}
-use Rattle.sector_rules.specs.Replies.{reply, unless}
+use Rattle.sector_rules.specs.Replies.{replyWith, unless}
 use Rattle.sector_rules.specs.Faults.{refusalAt}
 use Rattle.sector_rules.specs.Geometry.{imageBytes}
 use Rattle.sector_rules.specs.Hfe.{hfeHeaderFault, tableFault}
@@ -47,13 +47,13 @@ bad-number m Damaged e = refl
 
 module _ (h : List ℕ) (n : ℕ) where
   -- an HFE image that is too short is refused with 1, 1
-  pub short-reply : length h < leastHfe → unpackReply h n ≡ reply 1 1 0 0
+  pub short-reply : length h < leastHfe → unpackReply h n ≡ replyWith 1 1 0 0
   unfolding unpackReply
   short-reply l = rw (lt-ltb (length h) leastHfe l)
 
   module _ (l : leastHfe ≤ length h) where
     -- a block image of another length is refused with 1, 2
-    pub length-reply : (n ≡ imageBytes → ⊥) → unpackReply h n ≡ reply 1 2 0 0
+    pub length-reply : (n ≡ imageBytes → ⊥) → unpackReply h n ≡ replyWith 1 2 0 0
     unfolding unpackReply
     length-reply e = rw (le-ltb (length h) leastHfe l, ne-eqb n imageBytes e)
 
@@ -63,13 +63,13 @@ module _ (h : List ℕ) (n : ℕ) where
       later-reply = rw (le-ltb (length h) leastHfe l, eq-eqb n imageBytes e)
 
       -- an HFE image with a wrong header is refused with 2 and the offset
-      pub header-reply : (o : ℕ) → hfeHeaderFault h ≡ At o → unpackReply h n ≡ reply 2 o 0 0
+      pub header-reply : (o : ℕ) → hfeHeaderFault h ≡ At o → unpackReply h n ≡ replyWith 2 o 0 0
       unfolding unless orElse
       header-reply o f = later-reply ∙ rw f
 
       module _ (f : hfeHeaderFault h ≡ Sound) where
         -- an HFE image with a wrong table entry is refused with 3 and the track
-        pub table-reply : (t : ℕ) → tableFault h ≡ At t → unpackReply h n ≡ reply 3 t 0 0
+        pub table-reply : (t : ℕ) → tableFault h ≡ At t → unpackReply h n ≡ replyWith 3 t 0 0
         unfolding unless orElse
         table-reply t g = later-reply ∙ rw (f, g)
 

@@ -6,7 +6,7 @@ use native.Mathlib.Omega.{arith}
 use native.Mathlib.Nat.{mod-lt}
 use lib.Dec.{lit<}
 use borrow.Author.Needs.{needs}
-use Rattle.sector_rules.specs.Geometry.{imageSector, sidePlace}
+use Rattle.sector_rules.specs.Geometry.{toImageSector, sidePlace}
 use Rattle.sectors.specs.Laws.Reading.Tables.{side-place-bound}
 use Rattle.sectors.proofs.Geometry.place.Statement.{statement}
 use Rattle.sectors.proofs.Geometry.place.Tie as tie
@@ -40,7 +40,7 @@ unfolding sidePlace
 add-t14 c = omega (arith, side-place-bound (c .before .before .args .n .0 % 18) (mod-lt _ (lit< tt)))
 
 returns : tie.Need-returns
-unfolding imageSector sidePlace
+unfolding toImageSector sidePlace
 returns c = search needs
 
 pub place-spec : {M : Type 1} → statement M

@@ -4,7 +4,7 @@
 use Prim.Native.Nat.{_+_, _-_, _*_, _/_, _%_}
 use native.Mathlib.Omega.{arith}
 use borrow.Author.Needs.{needs}
-use Rattle.sector_rules.specs.Geometry.{sectors, trackSectors, trackOffset, runningSector, backward}
+use Rattle.sector_rules.specs.Geometry.{sectors, trackSectors, trackOffset, toRunningSector, backward}
 use Rattle.sectors.specs.Laws.Reading.Tables.{backward-bound}
 use Rattle.sectors.proofs.Geometry.running_of.Statement.{statement}
 use Rattle.sectors.proofs.Geometry.running_of.Tie as tie
@@ -55,7 +55,7 @@ add-t7 c =
     )
 
 returns : tie.Need-returns
-unfolding runningSector backward
+unfolding toRunningSector backward
 returns c = search needs
 
 pub running-of-spec : {M : Type 1} → statement M

@@ -1,5 +1,5 @@
 -- `write_run` meets its contract: items, and FF after the last one.
--- Rests on: the laws in Packing/Runs; the contracts of run_items, write_items and fields::fill.
+-- Rests on: the laws in Packing/Runs; the contracts of items_of_run, write_items and fields::fill.
 -- Assumes nothing.
 use mathlib.Core.Path.{_∙_}
 use Rattle.sectors.specs.Laws.Packing.Runs.{run-written}
@@ -7,8 +7,8 @@ use borrow.Author.Needs.{needs}
 use Rattle.sectors.proofs.packing.write_run.Statement.{statement}
 use Rattle.sectors.proofs.packing.write_run.Tie as tie
 
-run-items-requires : tie.Need-run-items-requires
-run-items-requires c κs = search needs
+items-of-run-requires : tie.Need-items-of-run-requires
+items-of-run-requires c κs = search needs
 
 mul-write-items : tie.Need-mul-write-items
 mul-write-items c = search needs
@@ -39,17 +39,17 @@ returns c =
     let after-fill = c .before .before in
     let after-hfe = after-fill .before .before .before in
     let after-write-items = after-hfe .before in
-    let after-run-items = after-write-items .before .before in
-    let start = after-run-items .before .before .before in
+    let after-items-of-run = after-write-items .before .before in
+    let start = after-items-of-run .before .before .before in
     after-fill .fill .ensures ∙
-    run-written _ _ _ _ _ _ _ _ (start .pre .3) (after-run-items .run-items .ensures)
+    run-written _ _ _ _ _ _ _ _ (start .pre .3) (after-items-of-run .items-of-run .ensures)
     (after-write-items .write-items .ensures)
 
 pub write-run-spec : {M : Type 1} → statement M
 write-run-spec =
     tie.close
     (tie.spec
-    run-items-requires
+    items-of-run-requires
     mul-write-items
     write-items-requires
     mul-fill

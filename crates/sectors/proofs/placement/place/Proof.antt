@@ -8,8 +8,8 @@ use lib.Dec.{ltb}
 use borrow.Author.Needs.{needs}
 use borrow.Author.Tests.{ltb-true}
 use Rattle.laws.specs.Laws.Tests.{and-left, and-right}
-use Rattle.sector_rules.specs.Geometry.{imageSector}
-use Rattle.sector_rules.specs.Replies.{reply}
+use Rattle.sector_rules.specs.Geometry.{toImageSector}
+use Rattle.sector_rules.specs.Replies.{replyWith}
 use Rattle.sectors.proofs.placement.place.Statement.{statement}
 use Rattle.sectors.proofs.placement.place.Tie as tie
 
@@ -31,7 +31,7 @@ done-with-requires c κs = search needs
 returns : tie.Need-returns
 returns c =
     rw (c .before .before .before .if1 .taken) (c .done-with .ensures ∙
-    ap (λ (m : ℕ). reply 0 m 0 0) (c .before .place .ensures ∙ ap imageSector (c .before .before .running .ensures)))
+    ap (λ (m : ℕ). replyWith 0 m 0 0) (c .before .place .ensures ∙ ap toImageSector (c .before .before .running .ensures)))
 
 refused-requires : tie.Need-refused-requires
 refused-requires c κs = search needs

@@ -12,7 +12,7 @@ use Rattle.laws.specs.Laws.Tab.{window-in, window-length, window-part}
 use Rattle.cells.specs.Crc.{crcStart, crcFrom, crc}
 use Rattle.cells.specs.Laws.Crc.{crcFrom-append}
 use Rattle.cells.specs.declared.Item.the-variants.{Plain, Index}
-use Rattle.sector_rules.specs.Replies.{reply}
+use Rattle.sector_rules.specs.Replies.{replyWith}
 use Rattle.sector_rules.specs.Geometry.{tracks, sectorBytes, imageBytes}
 use Rattle.sector_rules.specs.Hfe.{hfeSignature}
 use Rattle.sector_rules.specs.Search.{dataMark}
@@ -133,11 +133,11 @@ module _ (j : ℕ) where
 -- refusals
 module _ (n m : ℕ) where
   -- an HFE image of another length is refused with 1, 1
-  pub pack-hfe : (m ≡ hfeBytes → ⊥) → packReply n m ≡ reply 1 1 0 0
+  pub pack-hfe : (m ≡ hfeBytes → ⊥) → packReply n m ≡ replyWith 1 1 0 0
   unfolding packReply
   pack-hfe e = rw (ne-eqb m hfeBytes e)
 
   -- a block image of another length is refused with 1, 2
-  pub pack-image : m ≡ hfeBytes → (n ≡ imageBytes → ⊥) → packReply n m ≡ reply 1 2 0 0
+  pub pack-image : m ≡ hfeBytes → (n ≡ imageBytes → ⊥) → packReply n m ≡ replyWith 1 2 0 0
   unfolding packReply
   pack-image e f = rw (eq-eqb m hfeBytes e, ne-eqb n imageBytes f)
