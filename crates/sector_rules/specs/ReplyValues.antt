@@ -65,9 +65,11 @@ pub record ReplyValues : Type 0 where
   -- 4 to 7 with track, side and R, for the first and last sectors of sides
   pub sectors-named : map (sectorReply 1439) (Missing ∷ Repeated ∷ NoField ∷ Damaged ∷ [])
       ≡ replyWith 4 79 1 9 ∷ replyWith 5 79 1 9 ∷ replyWith 6 79 1 9 ∷ replyWith 7 79 1 9 ∷ []
-  pub places-named : map (λ (m : ℕ). sectorReply m Missing) (0 ∷ 8 ∷ 9 ∷ 18 ∷ []) ≡ replyWith 4 0 0 1 ∷ replyWith 4 0 0 9 ∷ replyWith 4 0 1 1 ∷ replyWith 4 1 0 1 ∷ []
+  pub places-named : map (λ (m : ℕ). sectorReply m Missing) (0 ∷ 8 ∷ 9 ∷ 18 ∷ [])
+      ≡ replyWith 4 0 0 1 ∷ replyWith 4 0 0 9 ∷ replyWith 4 0 1 1 ∷ replyWith 4 1 0 1 ∷ []
   -- 12 of the placement call: blocks are 0 to 479, sectors of a block 0 to 2
-  pub place-judged : (placeReply 479 2 ≡ replyWith 0 1438 0 0) × (placeReply 480 0 ≡ replyWith 12 0 0 0) × (placeReply 0 3 ≡ replyWith 12 0 0 0)
+  pub place-judged : (placeReply 479 2 .number ≡ 0) × (placeReply 0 2 ≡ replyWith 0 6 0 0)
+      × (placeReply 480 0 ≡ replyWith 12 0 0 0) × (placeReply 0 3 ≡ replyWith 12 0 0 0)
 
 -- ---- the proof
 
@@ -108,5 +110,5 @@ reply-values =
       last-track = refl;
       sectors-named = refl;
       places-named = refl;
-      place-judged = (refl, refl, refl);
+      place-judged = (refl, refl, refl, refl);
     }
