@@ -1,39 +1,20 @@
 -- check-values: the places that 9 and 10 name (§7.9, §7.10), by value: what the check says of a formatted disk of which one record of the map is another.
--- Rests on the laws of the disk in block order (Laws.Base.Disk).
+-- Assumes nothing: these are definitions. The proof is `check-values` in Laws/Values/CheckValues.antt.
 use mathlib.Core.List.{List}
-use mathlib.Core.Path.{_≡_, refl, sym, ap, _∙_, subst}
+use mathlib.Core.Path.{_≡_, _∙_}
 use Prim.Native.Nat.{ℕ, _≤_, _<_}
-use native.Mathlib.Omega.{arith}
-use lib.Dec.{ltb, lit<}
 use lib.ListN.{length, set}
-use Rattle.laws.specs.Below.{lowest, count, all}
-use Rattle.laws.specs.Changes.{upd, patch}
-use Rattle.laws.specs.Laws.Changes.{upd-other, upd₂-same, upd₂-other}
-use Rattle.laws.specs.Laws.Cases.{by-equal}
-use Rattle.laws.specs.Laws.Tests.{eq-true, lt-false, cond-true, cond-false, and-false-left, and-false-right}
-use Rattle.laws.specs.Lists.{same, bytesAre, tab}
-use Rattle.laws.specs.Numbers.{at16, bigEndian, highByte, quotientUp}
-use Rattle.laws.specs.Options.{orElse}
-use Rattle.sector_rules.specs.declared.Reply.{Reply}
-use Rattle.sector_rules.specs.Faults.{faultBelow}
-use Rattle.sector_rules.specs.Geometry.{blocks, imageBytes, sidePlace, backward, toImageSector}
-use Rattle.sector_rules.specs.Replies.{replyWith, done}
+use Rattle.sector_rules.specs.Geometry.{imageBytes}
+use Rattle.sector_rules.specs.Replies.{replyWith}
 use Rattle.file_rules.specs.Arguments.{FormatArguments}
-use Rattle.file_rules.specs.Calls.{ImageChanged, unless, imageRight, onSound, freshOwner, formatDisk, format, check}
-use Rattle.file_rules.specs.Check.{diskSignature, lengthRight, dimensionsFault, diskHeaderFault, recordFault, mapFault}
-use Rattle.file_rules.specs.Check.{partsRight, noRecordBears, fileRight, fileFault, refusal8, refusal9, refusal10, refusal11, diskRefusal}
-use Rattle.file_rules.specs.Directory.{held, dirBytes, dirEnd}
-use Rattle.file_rules.specs.Disk.{Disk, imagePlace, imageOf, setByte}
-use Rattle.file_rules.specs.Laws.Base.Disk.{length-image, disk-image, image-set}
-use Rattle.file_rules.specs.Laws.OnImages.Run.{format-done}
-use Rattle.file_rules.specs.Map.{decode, encode, numberOf, numberAt, recordAt, isSystem, isOther, bears, isPart, within}
-use Rattle.file_rules.specs.Sizes.{blockBytes, titleMost}
-use Rattle.file_rules.specs.Written.{fixedByte, diskHeaderByte, diskWith}
+use Rattle.file_rules.specs.Calls.{format, check}
+use Rattle.file_rules.specs.Disk.{Disk}
+use Rattle.file_rules.specs.Sizes.{titleMost}
 
 -- ---- what is promised
 
 -- what check says of an image of which one record is another, where the record of block b is at byte 96 + 3b (§7.9 §7.10)
-pub record Judged (image : List ℕ) : Type 0 where
+pub record RecordsJudged (image : List ℕ) : Type 0 where
   -- 9: the record of block 0 is of no kind, that of block 1 is the system's, and that of block 100 is of no kind
   pub first-record : check (set image 96 0xF9) ≡ replyWith 9 0 0 0
   pub system-record : check (set image 99 0xF8) ≡ replyWith 9 1 0 0
@@ -44,73 +25,4 @@ pub record Judged (image : List ℕ) : Type 0 where
 
 -- check-values: so of every formatted disk (§7.9 §7.10)
 abbrev pub CheckValues : Type 0
-CheckValues = (old : List ℕ) (args : FormatArguments) → length old ≡ imageBytes → length (args .title) ≤ titleMost → Judged (format old args .image)
-
--- ---- the proof
-
--- a disk has nothing outside its blocks (§1.3)
-pub record Inside (d : Disk) : Type 0 where
-  pub far : (b o : ℕ) → blocks ≤ b → d b o ≡ 0
-  pub out : (b o : ℕ) → blockBytes ≤ o → d b o ≡ 0
-
--- a fresh disk has nothing outside its blocks
-pub fresh-inside : (args : FormatArguments) → Inside (formatDisk args)
-unfolding formatDisk diskWith
-fresh-inside args =
-    record {
-      far = λ b o h. cond-false _ _ (and-false-left (ltb o blockBytes) (lt-false h));
-      out = λ b o h. cond-false _ _ (and-false-right (ltb b blocks) (lt-false h));
-    }
-
--- a disk of which a byte of block 0 is another has nothing outside its blocks
-pub set-inside : (d : Disk) (o v : ℕ) → o < blockBytes → Inside d → Inside (setByte d 0 o v)
-unfolding setByte
-set-inside d o v l w =
-    record {
-      far = λ b p h. upd₂-other d 0 (upd (d 0) o v) b p (λ e. absurd (omega arith)) ∙ w .far b p h;
-      out = λ b p h.
-          by-equal b 0
-          (λ e. upd₂-same d 0 (upd (d 0) o v) b p e ∙ upd-other (d 0) o v p (λ e. absurd (omega arith)) ∙ w .out 0 p h)
-          (λ e. upd₂-other d 0 (upd (d 0) o v) b p e ∙ w .out b p h);
-    }
-
--- what check says of the image of a disk (§8.5)
-unfoldable pub judgedReply : Disk → Reply
-judgedReply d = unless (diskRefusal d) (λ (r : Reply). r) done
-
-check-is : (d : Disk) → Inside d → check (imageOf d) ≡ judgedReply d
-unfolding check onSound imageRight judgedReply
-check-is d w = cond-true _ _ (eq-true (length-image d)) ∙ ap judgedReply (disk-image d (λ b o h. w .far b o h) (λ b o h. w .out b o h))
-
--- a byte of block 0's first sector, which stands at the image's beginning
-pub set-is : (d : Disk) (o v : ℕ) → imagePlace 0 o ≡ o → o < blockBytes → set (imageOf d) o v ≡ imageOf (setByte d 0 o v)
-set-is d o v e l = ap (λ (i : ℕ). set (imageOf d) i v) (sym e) ∙ image-set d 0 o v (lit< tt) l
-
--- what check says of an image of which such a byte is another
-pub changed-is : (d : Disk) → Inside d → (o v : ℕ) → imagePlace 0 o ≡ o → o < blockBytes → check (set (imageOf d) o v) ≡ judgedReply (setByte d 0 o v)
-changed-is d w o v e l = ap check (set-is d o v e l) ∙ check-is (setByte d 0 o v) (set-inside d o v l w)
-
-judged-is : (args : FormatArguments) → Judged (imageOf (formatDisk args))
-unfolding judgedReply diskRefusal refusal8 refusal9 refusal10 refusal11 diskHeaderFault dimensionsFault lengthRight dirBytes mapFault recordAt numberAt
-    formatDisk diskWith diskHeaderByte fixedByte patch highByte diskSignature sidePlace backward bytesAre same tab at16 bigEndian lowest count
-    decode encode numberOf freshOwner recordFault isSystem isOther faultBelow unless orElse setByte upd
-    fileFault fileRight partsRight dirEnd all within isPart bears noRecordBears quotientUp held imagePlace toImageSector
-judged-is args =
-    let fresh : Disk = formatDisk args in
-    let inside : Inside (formatDisk args) = fresh-inside args in
-    let d₁ : Disk = setByte (formatDisk args) 0 102 0x00 in
-    let d₂ : Disk = setByte (setByte (formatDisk args) 0 102 0x00) 0 103 0x50 in
-    record {
-      first-record = changed-is fresh inside 96 0xF9 refl (lit< tt);
-      system-record = changed-is fresh inside 99 0xF8 refl (lit< tt);
-      other-record = changed-is fresh inside 396 0xFE refl (lit< tt);
-      directory-part = changed-is fresh inside 101 1 refl (lit< tt);
-      no-slot =
-          ap (λ (l : List ℕ). check (set (set l 103 0x50) 104 0x00)) (set-is fresh 102 0x00 refl (lit< tt))
-          ∙ ap (λ (l : List ℕ). check (set l 104 0x00)) (set-is d₁ 103 0x50 refl (lit< tt))
-          ∙ changed-is d₂ (set-inside d₁ 103 0x50 (lit< tt) (set-inside fresh 102 0x00 (lit< tt) inside)) 104 0x00 refl (lit< tt);
-    }
-
--- check-values: these hold of every formatted disk
-pub check-values : CheckValues
-check-values old args long short = subst Judged (sym (ap (λ (w : ImageChanged). w .image) (format-done old args long short))) (judged-is args)
+CheckValues = (old : List ℕ) (args : FormatArguments) → length old ≡ imageBytes → length (args .title) ≤ titleMost → RecordsJudged (format old args .image)

@@ -1,38 +1,18 @@
--- disk-header-values: the 96 header bytes of a formatted disk (§6.1 to §6.7), and what the check says of an image in whose header one byte is another (§7.8).
+-- disk-header-values: the 96 header bytes of a formatted disk (§6.1 to §6.7), and what the check says of an image in whose header one byte is one more
+-- or one less (§7.8).
 -- Computed, so that each number of the header and each offset that 8 names is stated twice: in the definitions by rule, here by value.
--- Rests on the placement: the header stands at the image's beginning.
-use mathlib.Core.Bool.{Bool, true, false, cond}
+-- Assumes nothing: these are definitions. The proof is `disk-header-values` in Laws/Values/HeaderValues.antt.
 use mathlib.Core.List.{List, [], _∷_, _++_}
-use mathlib.Core.Option.{none, some}
-use mathlib.Core.Path.{_≡_, refl, ap, ap₂, _∙_}
+use mathlib.Core.Path.{_≡_, _∙_}
 use Prim.Native.Nat.{ℕ, _+_, _-_, _*_, _/_, _%_, _≤_, _<_}
-use native.Mathlib.Nat.{zero-add}
-use native.Mathlib.Omega.{arith}
-use lib.Dec.{lit<, lit≤}
-use lib.ListN.{length, getD, set, take, replicate, length-append, List·getD-append}
-use Rattle.laws.specs.Laws.Tests.{eq-true, le-false, lt-true, cond-true, cond-false, and-true}
-use Rattle.laws.specs.Laws.Tab.{tab-ext, take-tab}
-use Rattle.laws.specs.Lists.{same, bytesAre, tab}
-use Rattle.laws.specs.Numbers.{at16, bigEndian, highByte}
-use Rattle.laws.specs.Changes.{patch}
-use Rattle.laws.specs.Options.{orElse}
+use lib.ListN.{length, set, take, replicate}
+use Rattle.laws.specs.Lists.{tab}
 use Rattle.sector_rules.specs.declared.Fault.{Fault}
-use Rattle.sector_rules.specs.declared.Fault.the-variants.{At, Sound}
-use Rattle.sector_rules.specs.declared.Reply.{Reply}
-use Rattle.sector_rules.specs.Faults.{refusalAt, faultBelow}
-use Rattle.sector_rules.specs.Geometry.{sectorBytes, blocks, imageBytes, running, sidePlace, backward, toImageSector, toRunningSector}
-use Rattle.sector_rules.specs.HeaderValues.{placeNamed, oneMore, oneLess, changedAt, changedFrom, changed-length, from-length}
+use Rattle.sector_rules.specs.Geometry.{blocks, imageBytes}
+use Rattle.sector_rules.specs.HeaderValues.{placeNamed, oneMore, oneLess, changedAt, changedFrom}
 use Rattle.sector_rules.specs.Replies.{done, refusal}
 use Rattle.file_rules.specs.Arguments.{FormatArguments, argumentsOf}
-use Rattle.file_rules.specs.Calls.{ImageChanged, imageKept, unless, imageRight, onSound, freshOwner, formatDisk, format, check}
-use Rattle.file_rules.specs.Check.{diskSignature, lengthRight, dimensionsFault, diskHeaderFault}
-use Rattle.file_rules.specs.Check.{mapFault, fileFault, freeRight, refusal8, refusal9, refusal10, refusal11, diskRefusal}
-use Rattle.file_rules.specs.Directory.{dirBytes}
-use Rattle.file_rules.specs.Disk.{Disk, imagePlace, blockOf, offsetOf, diskOf, imageOf}
-use Rattle.file_rules.specs.Laws.OnImages.Run.{format-done}
-use Rattle.file_rules.specs.Map.{numberOf, encode}
-use Rattle.file_rules.specs.Sizes.{blockBytes, slotCount}
-use Rattle.file_rules.specs.Written.{fixedByte, diskHeaderByte, diskWith}
+use Rattle.file_rules.specs.Calls.{format, check}
 
 -- a disk's name of nine bytes (§6.2)
 unfoldable pub title : List ℕ
@@ -50,152 +30,36 @@ diskHeader =
     ∷ 0xFF ∷ 0xFF ∷ 0xFF ∷ 0xFF ∷ 0xFF ∷ 0xFF ∷ 0xFF ∷ 0xFF ∷ 0xFF ∷ 0xFF ∷ 0xFF ∷ 0xFF ∷ 0xFF ∷ 0xFF ∷ 0xFF ∷ 0xFF ∷ []
 
 -- what check names with 8 in an image that begins with these bytes, or 96 (§7.8)
-unfoldable pub named : List ℕ → List ℕ → ℕ
-named start rest = placeNamed 8 96 (check (start ++ rest))
+unfoldable pub fieldNamed : List ℕ → List ℕ → ℕ
+fieldNamed start rest = placeNamed 8 96 (check (start ++ rest))
 
 -- ---- what is promised
 
--- by value: the header that format writes, what 8 names where bytes of it are others, and the names that 12 refuses (§6.7 §7.8 §7.12 §8.4)
+-- by value: the header that format writes, what 8 names where bytes of it are one more or one less, and the names that 12 refuses (§6.7 §7.8 §7.12 §8.4)
 pub record DiskHeaderValues : Type 0 where
   -- what format writes: the header, and then the records of blocks 0, 1 and 2: the system's, file 0 with sequence 0, free
   pub format-header : (old : List ℕ) → length old ≡ imageBytes
       → take 105 (format old (argumentsOf title 0x1234) .image) ≡ diskHeader ++ (0xF8 ∷ 0x00 ∷ 0x00 ∷ 0x00 ∷ 0x00 ∷ 0x00 ∷ 0xFD ∷ 0xFF ∷ 0xFF ∷ [])
   -- the check of an image that begins with the header, one byte of which is one more: the offset that 8 names, or 96. It accepts the lengths of a directory
   -- with 256 blocks more or one more (34, 35), and with five slots (36), and judges neither 4 to 21 nor 76 to 95
-  pub one-more : (rest : List ℕ) → 96 + length rest ≡ imageBytes → tab (λ (o : ℕ). named (changedAt oneMore diskHeader o) rest) 96
+  pub one-more : (rest : List ℕ) → 96 + length rest ≡ imageBytes → tab (λ (o : ℕ). fieldNamed (changedAt oneMore diskHeader o) rest) 96
       ≡ replicate 4 0 ++ (replicate 18 96 ++ ((22 ∷ 22 ∷ 24 ∷ 24 ∷ 26 ∷ 26 ∷ 28 ∷ 28 ∷ 30 ∷ 30 ∷ 32 ∷ 32 ∷ 96 ∷ 96 ∷ 96 ∷ 34 ∷ 38 ∷ 38 ∷ [])
       ++ (replicate 18 40 ++ (replicate 18 58 ++ replicate 20 96))))
   -- one less
-  pub one-less : (rest : List ℕ) → 96 + length rest ≡ imageBytes → tab (λ (o : ℕ). named (changedAt oneLess diskHeader o) rest) 96
+  pub one-less : (rest : List ℕ) → 96 + length rest ≡ imageBytes → tab (λ (o : ℕ). fieldNamed (changedAt oneLess diskHeader o) rest) 96
       ≡ replicate 4 0 ++ (replicate 18 96 ++ ((22 ∷ 22 ∷ 24 ∷ 24 ∷ 26 ∷ 26 ∷ 28 ∷ 28 ∷ 30 ∷ 30 ∷ 32 ∷ 32 ∷ 96 ∷ 96 ∷ 34 ∷ 34 ∷ 38 ∷ 38 ∷ [])
       ++ (replicate 18 40 ++ (replicate 18 58 ++ replicate 20 96))))
   -- each byte from o on one less: the lowest wrong field is named
-  pub all-less : (rest : List ℕ) → 96 + length rest ≡ imageBytes → tab (λ (o : ℕ). named (changedFrom oneLess diskHeader o) rest) 96
+  pub all-less : (rest : List ℕ) → 96 + length rest ≡ imageBytes → tab (λ (o : ℕ). fieldNamed (changedFrom oneLess diskHeader o) rest) 96
       ≡ replicate 4 0 ++ (replicate 18 22 ++ ((22 ∷ 22 ∷ 24 ∷ 24 ∷ 26 ∷ 26 ∷ 28 ∷ 28 ∷ 30 ∷ 30 ∷ 32 ∷ 32 ∷ 34 ∷ 34 ∷ 34 ∷ 34 ∷ 38 ∷ 38 ∷ [])
       ++ (replicate 18 40 ++ (replicate 18 58 ++ replicate 20 96))))
   -- accepted are the header as it is, and with a directory of 23 slots, or of one block; refused is one of no slot, and one of 24 or 25 slots as bytes over
   pub accepted : (rest : List ℕ) → 96 + length rest ≡ imageBytes
-      → (named diskHeader rest ≡ 96) × (named (set (set diskHeader 36 0x05) 37 0xC0) rest ≡ 96) × (named (set (set diskHeader 35 1) 37 0) rest ≡ 96)
+      → (fieldNamed diskHeader rest ≡ 96) × (fieldNamed (set (set diskHeader 36 0x05) 37 0xC0) rest ≡ 96)
+      × (fieldNamed (set (set diskHeader 35 1) 37 0) rest ≡ 96)
   pub length-refused : (rest : List ℕ) → 96 + length rest ≡ imageBytes
-      → (named (set diskHeader 37 0) rest ≡ 34) × (named (set (set diskHeader 36 0x06) 37 0) rest ≡ 34) × (named (set diskHeader 36 0x06) rest ≡ 34)
+      → (fieldNamed (set diskHeader 37 0) rest ≡ 34) × (fieldNamed (set (set diskHeader 36 0x06) 37 0) rest ≡ 34)
+      × (fieldNamed (set diskHeader 36 0x06) rest ≡ 34)
   -- a disk's name has ten bytes at most
   pub title-accepted : (old : List ℕ) (args : FormatArguments) → length old ≡ imageBytes → length (args .title) ≤ 10 → format old args .answer ≡ done
   pub title-refused : (old : List ℕ) (args : FormatArguments) → length old ≡ imageBytes → 11 ≤ length (args .title) → format old args .answer ≡ refusal 12
-
--- ---- the proof: 8 names what the header's judgement finds
-
-abbrev faultPlace : Fault → ℕ
-faultPlace (At o) = o
-faultPlace Sound = 96
-
-by-fault : (f g h : Fault) (b : Bool)
-    → placeNamed 8 96 (unless (orElse (refusalAt 8 f) (orElse (refusalAt 9 g) (orElse (refusalAt 10 h) (cond b none (some (refusal 11)))))) (λ (r : Reply). r)
-    done) ≡ faultPlace f
-unfolding placeNamed unless orElse
-by-fault (At o) g h b = refl
-by-fault Sound (At o) h b = refl
-by-fault Sound Sound (At o) b = refl
-by-fault Sound Sound Sound true = refl
-by-fault Sound Sound Sound false = refl
-
-named-is : (image : List ℕ) → length image ≡ imageBytes → placeNamed 8 96 (check image) ≡ faultPlace (diskHeaderFault (diskOf image))
-unfolding check onSound imageRight diskRefusal refusal8 refusal9 refusal10 refusal11
-named-is image long =
-    ap (placeNamed 8 96) (cond-true _ _ (eq-true long))
-    ∙ by-fault (diskHeaderFault (diskOf image)) (faultBelow blocks (mapFault (diskOf image))) (faultBelow slotCount (fileFault (diskOf image)))
-    (freeRight (diskOf image))
-
--- two disks with the same 96 bytes are judged alike
-module _ (d g : Disk) (e : (o : ℕ) → o < 96 → d 0 o ≡ g 0 o) where
-  bytes-alike : (o : ℕ) (t : List ℕ) → o + length t ≤ 96 → bytesAre (d 0) o t ≡ bytesAre (g 0) o t
-  unfolding bytesAre
-  bytes-alike o t l =
-      ap (λ (x : List ℕ). same x t) (tab-ext (λ (i : ℕ). d 0 (o + i)) (λ (i : ℕ). g 0 (o + i)) (length t) (λ k h. e (o + k) (omega arith)))
-
-  word-alike : (o : ℕ) → o + 1 < 96 → at16 (d 0) o ≡ at16 (g 0) o
-  unfolding at16 bigEndian
-  word-alike o l = ap₂ (λ (x y : ℕ). (0 * 256 + x) * 256 + y) (e (o + 0) (omega arith)) (e (o + 1) (omega arith))
-
-  length-alike : dirBytes d ≡ dirBytes g
-  unfolding dirBytes
-  length-alike = rw (word-alike 34 (lit< tt), word-alike 36 (lit< tt))
-
-  signature-alike : bytesAre (d 0) 0 diskSignature ≡ bytesAre (g 0) 0 diskSignature
-  unfolding diskSignature
-  signature-alike = bytes-alike 0 diskSignature (lit≤ tt)
-
-  tables-alike : (bytesAre (d 0) 40 sidePlace ≡ bytesAre (g 0) 40 sidePlace) × (bytesAre (d 0) 58 backward ≡ bytesAre (g 0) 58 backward)
-  unfolding sidePlace backward
-  tables-alike = (bytes-alike 40 sidePlace (lit≤ tt), bytes-alike 58 backward (lit≤ tt))
-
-  judged-alike : diskHeaderFault d ≡ diskHeaderFault g
-  unfolding diskHeaderFault dimensionsFault lengthRight
-  judged-alike =
-      rw (signature-alike, word-alike 22 (lit< tt), word-alike 24 (lit< tt), word-alike 26 (lit< tt), word-alike 28 (lit< tt))
-      (rw (word-alike 30 (lit< tt), word-alike 32 (lit< tt), word-alike 36 (lit< tt), word-alike 38 (lit< tt), length-alike)
-      (rw (tables-alike .0, tables-alike .1)))
-
--- the header stands at the image's beginning
-first-place : (o : ℕ) → o < 96 → imagePlace 0 o ≡ o
-unfolding imagePlace toImageSector sidePlace
-first-place o l =
-    let a : o / 512 ≡ 0 = omega arith in
-    let b : o % 512 ≡ o = omega arith in
-    ap₂ (λ (x y : ℕ). toImageSector (running 0 x) * sectorBytes + y) a b ∙ zero-add o
-
-first-byte : (image : List ℕ) (o : ℕ) → o < 96 → diskOf image 0 o ≡ getD image o 0
-unfolding diskOf
-first-byte image o l =
-    cond-true _ _ (and-true (lt-true {a = 0} {b = blocks} (lit< tt)) (lt-true {a = o} {b = blockBytes} (omega arith)))
-    ∙ ap (λ (i : ℕ). getD image i 0) (first-place o l)
-
--- a disk that has these bytes in each block
-abbrev alone : List ℕ → Disk
-alone start b o = getD start o 0
-
-module _ (rest : List ℕ) (long : 96 + length rest ≡ imageBytes) where
-  begins : (start : List ℕ) → length start ≡ 96 → named start rest ≡ faultPlace (diskHeaderFault (alone start))
-  unfolding named
-  begins start n =
-      named-is (start ++ rest) (length-append start rest ∙ rw n long)
-      ∙ ap faultPlace (judged-alike (diskOf (start ++ rest)) (alone start)
-      (λ o l. first-byte (start ++ rest) o l ∙ List·getD-append start rest 0 o (omega arith)))
-
-  rows : (start : ℕ → List ℕ) → ((o : ℕ) → o < 96 → length (start o) ≡ 96)
-      → tab (λ (o : ℕ). named (start o) rest) 96 ≡ tab (λ (o : ℕ). faultPlace (diskHeaderFault (alone (start o)))) 96
-  rows start n = tab-ext _ _ 96 (λ o l. begins (start o) (n o l))
-
-header-length : length diskHeader ≡ 96
-unfolding diskHeader
-header-length = refl
-
--- ---- the proof: format
-
-format-is : (old : List ℕ) → length old ≡ imageBytes
-    → take 105 (format old (argumentsOf title 0x1234) .image) ≡ diskHeader ++ (0xF8 ∷ 0x00 ∷ 0x00 ∷ 0x00 ∷ 0x00 ∷ 0x00 ∷ 0xFD ∷ 0xFF ∷ 0xFF ∷ [])
-unfolding imageOf tab formatDisk diskWith diskHeaderByte fixedByte patch highByte diskSignature sidePlace backward blockOf offsetOf toRunningSector title
-    diskHeader encode numberOf freshOwner
-format-is old long =
-    ap (λ (w : ImageChanged). take 105 (w .image)) (format-done old (argumentsOf title 0x1234) long (lit≤ tt))
-    ∙ take-tab (λ (i : ℕ). formatDisk (argumentsOf title 0x1234) (blockOf i) (offsetOf i)) 105 imageBytes (lit≤ tt)
-    ∙ refl
-
-refused-is : (old : List ℕ) (args : FormatArguments) → length old ≡ imageBytes → 11 ≤ length (args .title) → format old args .answer ≡ refusal 12
-unfolding format imageRight imageKept
-refused-is old args long h = ap (λ (w : ImageChanged). w .answer) (cond-true _ _ (eq-true long) ∙ cond-false _ _ (le-false h))
-
--- disk-header-values: all of these hold
-pub disk-header-values : DiskHeaderValues
-unfolding tab diskHeaderFault dimensionsFault lengthRight dirBytes at16 bigEndian bytesAre same diskSignature sidePlace backward diskHeader
-    changedAt changedFrom oneMore oneLess
-disk-header-values =
-    record {
-      format-header = format-is;
-      one-more = λ rest long. rows rest long (changedAt oneMore diskHeader) (λ o l. changed-length oneMore diskHeader o) ∙ refl;
-      one-less = λ rest long. rows rest long (changedAt oneLess diskHeader) (λ o l. changed-length oneLess diskHeader o) ∙ refl;
-      all-less = λ rest long. rows rest long (changedFrom oneLess diskHeader) (λ o l. from-length oneLess diskHeader o l) ∙ refl;
-      accepted = λ rest long. (begins rest long _ refl, begins rest long _ refl, begins rest long _ refl);
-      length-refused = λ rest long. (begins rest long _ refl, begins rest long _ refl, begins rest long _ refl);
-      title-accepted = λ old args long h. ap (λ (w : ImageChanged). w .answer) (format-done old args long h);
-      title-refused = refused-is;
-    }

@@ -47,7 +47,7 @@ pub record Holds (args : FormatArguments) (calls : List Call)
   pub same-outs : outs ≡ modelOuts (modelFormat args) calls
   pub same-image : image ≡ imageOf (modelDisk (modelEnd (modelFormat args) calls))
   pub whole : length image ≡ imageBytes
-  -- the files present are those that the accepted calls leave, with their bytes: a read of any name of 1 to 36 bytes gives theirs or 14,
+  -- the files present are those that the accepted calls leave, with their bytes: a read of any name of 1 to 36 bytes gives theirs, or 16 or 14,
   -- each has its entry in a slot, and each held slot has the entry of one
   pub read-gives : (name buf : List ℕ) → 1 ≤ length name → length name ≤ 36 → read image name buf ≡ dataFound (fileNamed name files) buf
   pub has-slot : (x : NamedFile) → IsPresent x files → (k : ℕ) × (0 < k) × (k < dirEnd (diskOf image)) × HasEntry (diskOf image) k x

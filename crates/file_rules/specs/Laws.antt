@@ -5,3 +5,4 @@ pub mod OnImages
 pub mod InModel
 pub mod FilesLeft
 pub mod Theorem
+pub mod Values

@@ -9,12 +9,13 @@ pub use Rattle.file_rules.specs.Laws.Theorem.History.{history}
 pub use Rattle.file_rules.specs.Laws.Theorem.History.{history-check}
 -- every-byte: byte i of an image is the byte of its disk at a block and offset, so that history, which speaks of these, speaks of every byte. History.antt
 pub use Rattle.file_rules.specs.Laws.Theorem.History.{every-byte}
--- disk-header-values: the header of a formatted disk as a row of bytes, and for each byte of it what 8 names where that byte is another. HeaderValues.antt
-pub use Rattle.file_rules.specs.HeaderValues.{disk-header-values}
+-- disk-header-values: the header of a formatted disk as a row of bytes, and for each byte of it what 8 names where it is one more or one less.
+-- HeaderValues.antt
+pub use Rattle.file_rules.specs.Laws.Values.HeaderValues.{disk-header-values}
 -- check-values: the places that 9 and 10 name, of formatted disks with one record of the map changed. CheckValues.antt
-pub use Rattle.file_rules.specs.CheckValues.{check-values}
--- first-track-values: judging the first track alone is judging the image that it begins; what it gives of a formatted disk. TrackValues.antt
-pub use Rattle.file_rules.specs.TrackValues.{first-track-values}
+pub use Rattle.file_rules.specs.Laws.Values.CheckValues.{check-values}
+-- first-track-values: judging the first track is judging the image that it begins by 8, 9 and 11; what it gives of a formatted disk. TrackValues.antt
+pub use Rattle.file_rules.specs.Laws.Values.TrackValues.{first-track-values}
 -- values-to-check: eleven placements, and a file's map record; record-values: a map record of each kind by its bytes, read and written; entry-values: a
 -- directory entry so. Values.antt
 pub use Rattle.file_rules.specs.Values.{values-to-check, record-values, entry-values}

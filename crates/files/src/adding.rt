@@ -76,7 +76,7 @@ fn end_after(image: &mut [u8], k: usize, end: usize)
 }
 
 // A file is added in slot k: the directory's block, the file's blocks, the slot, then the header; nothing else (§8.12).
-// After it the image is the model's (§9.5).
+// In a history the image is then the model's (§9.5).
 fn add_at(image: &mut [u8], map: &mut MapNumbers, k: usize, e: Entry, content: &[u8])
     requires { ⌜ InStep (now map) (now image) × (k < sequences) × (length (now content) ≤ imageBytes) ⌝ }
     ensures { λ _. ⌜ now (image .exit) ≡ imageOf (addAt (diskOf (now (image .entry))) k e (now (content .entry))) ⌝ }

@@ -24,8 +24,8 @@ use sectors::Geometry;
 use sectors::done;
 use sectors::refused;
 
-// The file of slot k is removed: blocks, slot and header are written; the directory keeps its length (§8.13). After it
-// the image is the model's (§9.5).
+// The file of slot k is removed: blocks, slot and header are written; the directory keeps its length (§8.13). In a
+// history the image is then the model's (§9.5).
 fn remove_at(image: &mut [u8], map: &mut MapNumbers, k: usize)
     requires { ⌜ InStep (now map) (now image) ⌝ }
     ensures { λ _. ⌜ now (image .exit) ≡ imageOf (removeAt (diskOf (now (image .entry))) k) ⌝ }

@@ -4,3 +4,4 @@ pub mod Base
 pub mod Trip
 pub mod Damage
 pub mod Burst
+pub mod Values

@@ -1,27 +1,20 @@
 -- reply-values: the lengths that 1 refuses and its places (§7.1), what 3 judges of a track table (§2.5, §7.3), the numbers 4 to 7 with their places, and
 -- 12 of the placement call (§8.3), by value.
--- Rests on computation alone.
+-- Assumes nothing: these are definitions. The proof is `reply-values` in Laws/Values/ReplyValues.antt.
 use mathlib.Core.Bool.{cond}
 use mathlib.Core.List.{List, [], _∷_, _++_, map}
 use mathlib.Core.Logic.{_≢_}
-use mathlib.Core.Path.{_≡_, refl, _∙_}
+use mathlib.Core.Path.{_≡_, _∙_}
 use Prim.Native.Nat.{ℕ, _+_, _-_, _*_, _%_, _≤_, _<_}
 use lib.Dec.{eqb}
 use lib.ListN.{length, set, replicate}
-use Rattle.laws.specs.Below.{lowest}
-use Rattle.laws.specs.Laws.Tests.{eq-false, lt-true, lt-false, cond-true, cond-false}
-use Rattle.laws.specs.Lists.{same, bytesAre, standsAt, tab}
-use Rattle.laws.specs.Numbers.{quotientUp, lowFirst}
-use Rattle.laws.specs.Options.{orElse}
+use Rattle.laws.specs.Lists.{tab}
 use Rattle.sector_rules.specs.declared.Reply.{Reply}
 use Rattle.sector_rules.specs.declared.Sector.the-variants.{Missing, Repeated, NoField, Damaged}
-use Rattle.sector_rules.specs.Faults.{faultBelow, lowestFault}
-use Rattle.sector_rules.specs.Geometry.{sidePlace, toImageSector, placeReply}
+use Rattle.sector_rules.specs.Geometry.{placeReply}
 use Rattle.sector_rules.specs.HeaderValues.{hfeHeader}
-use Rattle.sector_rules.specs.Hfe.{hfeSignature, formatFault, flagFault, hfeHeaderFault}
-use Rattle.sector_rules.specs.Hfe.{entryPlace, trackStart, trackLength, trackUnitBytes, trackGood, tableFault}
 use Rattle.sector_rules.specs.Packed.{packReply}
-use Rattle.sector_rules.specs.Replies.{replyWith, unless}
+use Rattle.sector_rules.specs.Replies.{replyWith}
 use Rattle.sector_rules.specs.Unpacked.{sectorReply, unpackReply}
 
 -- an image of 1,024 bytes with the header that pack writes and a track table that begins with these bytes; the rest is 0 (§2.4)
@@ -36,9 +29,10 @@ tableReply bytes = unpackReply (withTable bytes) 737280
 unfoldable pub goodEntries : ℕ → List ℕ
 goodEntries n = tab (λ (j : ℕ). cond (eqb (j % 4) 2) 2 0) (4 * n)
 
--- by value: the lengths that 1 refuses, what 3 judges of a track table, and the numbers 4 to 7, each with its places (§7.1 §7.3 §7.4 §7.5 §7.6 §7.7)
+-- by value: the lengths that 1 refuses, what 3 judges of a track table, and the numbers 4 to 7, each with its places (§7.1 §7.3 §7.4 §7.5 §7.6 §7.7);
+-- the limits of the placement call, and what done names (§7.12 §7.17)
 pub record ReplyValues : Type 0 where
-  -- 0 has no places
+  -- pack, done, names no place
   pub pack-accepted : packReply 737280 2008064 ≡ replyWith 0 0 0 0
   -- 1: an HFE image to read has 1,024 bytes or more, one to write 2,008,064, and a block image 737,280; the HFE image is judged first
   pub unpack-short : (hfe : List ℕ) (n : ℕ) → length hfe < 1024 → unpackReply hfe n ≡ replyWith 1 1 0 0
@@ -70,45 +64,3 @@ pub record ReplyValues : Type 0 where
   -- 12 of the placement call: blocks are 0 to 479, sectors of a block 0 to 2
   pub place-judged : (placeReply 479 2 .number ≡ 0) × (placeReply 0 2 ≡ replyWith 0 6 0 0)
       × (placeReply 480 0 ≡ replyWith 12 0 0 0) × (placeReply 0 3 ≡ replyWith 12 0 0 0)
-
--- ---- the proof
-
-pack-accepted-is : packReply 737280 2008064 ≡ replyWith 0 0 0 0
-unfolding packReply
-pack-accepted-is = refl
-
-unpack-short-is : (hfe : List ℕ) (n : ℕ) → length hfe < 1024 → unpackReply hfe n ≡ replyWith 1 1 0 0
-unfolding unpackReply
-unpack-short-is hfe n h = cond-true _ _ (lt-true h)
-
-unpack-length-is : (hfe : List ℕ) (n : ℕ) → 1024 ≤ length hfe → n ≢ 737280 → unpackReply hfe n ≡ replyWith 1 2 0 0
-unfolding unpackReply
-unpack-length-is hfe n h w = cond-false _ _ (lt-false h) ∙ cond-false _ _ (eq-false w)
-
-pack-hfe-is : (n m : ℕ) → m ≢ 2008064 → packReply n m ≡ replyWith 1 1 0 0
-unfolding packReply
-pack-hfe-is n m w = cond-false _ _ (eq-false w)
-
-pack-length-is : (n : ℕ) → n ≢ 737280 → packReply n 2008064 ≡ replyWith 1 2 0 0
-unfolding packReply
-pack-length-is n w = cond-false _ _ (eq-false w)
-
--- reply-values: all of these hold
-pub reply-values : ReplyValues
-unfolding toImageSector sidePlace tableReply withTable hfeHeader unpackReply unless orElse hfeHeaderFault formatFault flagFault hfeSignature standsAt bytesAre
-    same tab lowFirst tableFault lowestFault faultBelow lowest trackGood entryPlace trackStart trackLength trackUnitBytes quotientUp
-    goodEntries
-reply-values =
-    record {
-      pack-accepted = pack-accepted-is;
-      unpack-short = unpack-short-is;
-      unpack-length = unpack-length-is;
-      pack-hfe-length = pack-hfe-is;
-      pack-length = pack-length-is;
-      table-judged = refl;
-      table-ends = (refl, refl);
-      last-track = refl;
-      sectors-named = refl;
-      places-named = refl;
-      place-judged = (refl, refl, refl, refl);
-    }

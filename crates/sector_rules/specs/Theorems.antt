@@ -7,12 +7,12 @@ pub use Rattle.sector_rules.specs.Values.{placement-values}
 
 -- round-trip: for every block image of 737,280 bytes, what pack gives is accepted by unpack, which gives the same bytes back (RoundTrip.antt)
 pub use Rattle.sector_rules.specs.Laws.Trip.RoundTrip.{round-trip}
--- hfe-header-values: the packed HFE header as a row of bytes, and for each byte of it what 2 names where that byte is another
-pub use Rattle.sector_rules.specs.HeaderValues.{hfe-header-values}
--- written-values: the bytes and marks that pack writes beside headers and data, the track table and the unused bytes, by value
-pub use Rattle.sector_rules.specs.WrittenValues.{written-values}
+-- hfe-header-values: the packed HFE header as a row of bytes, and for its first 26 bytes what 2 names where one of them is one more or one less
+pub use Rattle.sector_rules.specs.Laws.Values.HeaderValues.{hfe-header-values}
+-- written-values: the items of a written side beside headers and data, the track table and the unused bytes of a packed image, by value
+pub use Rattle.sector_rules.specs.Laws.Values.WrittenValues.{written-values}
 -- reply-values: the lengths that 1 refuses, what 3 judges of a track table, the numbers 4 to 7, each with its places; the limits of the placement call
-pub use Rattle.sector_rules.specs.ReplyValues.{reply-values}
+pub use Rattle.sector_rules.specs.Laws.Values.ReplyValues.{reply-values}
 -- ---- damage (Caught.antt)
 
 -- crc-counted: the test of a header's or field's CRC is, on its data bits, the test that one-in-65536 counts; field-longest: a data field has as many of them

@@ -1,23 +1,16 @@
--- written-values: the bytes and marks that pack writes beside headers and data (§5.1, §5.2, §5.3, §5.5), by value: a side's beginning and end, the parts of a
--- sector, the track table, and the bytes that no track uses. The data between them are round-trip's.
--- Rests on the laws of the written image (Laws.Base.Packed).
+-- written-values: by value, the items of a written side beside headers and data (§5.1, §5.2): its beginning and end, the parts of a sector; and, of a packed
+-- image, the track table (§5.3) and the bytes that no track uses (§5.5).
+-- Assumes nothing: these are definitions. The proof is `written-values` in Laws/Values/WrittenValues.antt.
 use mathlib.Core.List.{List, [], _∷_, _++_}
-use mathlib.Core.Path.{_≡_, refl, ap, _∙_}
+use mathlib.Core.Path.{_≡_, _∙_}
 use Prim.Native.Nat.{ℕ, _+_, _-_, _≤_}
-use native.Mathlib.Omega.{arith}
 use lib.ListN.{length, replicate}
-use Rattle.laws.specs.Laws.Tab.{tab-in, tab-ext}
-use Rattle.laws.specs.Lists.{tab, elementAt, window}
-use Rattle.laws.specs.Numbers.{highByte, lowByte}
-use Rattle.cells.specs.Crc.{crcBit, crcBits, crcFrom, crc}
-use Rattle.cells.specs.Mfm.{bitOf}
+use Rattle.laws.specs.Lists.{tab, window}
 use Rattle.cells.specs.declared.Item.{Item}
 use Rattle.cells.specs.declared.Item.the-variants.{Plain, Sync, Index}
 use Rattle.sector_rules.specs.Geometry.{imageBytes}
-use Rattle.sector_rules.specs.Laws.Base.Packed.{pack-done, hfe-after}
 use Rattle.sector_rules.specs.Packed.{fieldStart, fieldItems, leadItems, sideItems, hfeBytes}
-use Rattle.sector_rules.specs.Packed.{span, fieldCrc, withCrc, sectorItem, sideItem, hfeTableByte, hfeTrackByte, hfeByte, packHfe}
-use Rattle.sector_rules.specs.Replies.{done}
+use Rattle.sector_rules.specs.Packed.{sideItem, packHfe}
 
 -- an item as a number: a byte, or a mark, which is 100 (hex) more than its byte (§3.5)
 abbrev pub itemNumber : Item → ℕ
@@ -31,7 +24,7 @@ sideRow t s d q n = tab (λ (k : ℕ). itemNumber (sideItem t s d (q + k))) n
 
 -- ---- what is promised
 
--- by value: what pack writes beside headers and data (§5.1 §5.2 §5.3 §5.5)
+-- by value: items of a written side, the track table and the unused bytes of a packed image (§5.1 §5.2 §5.3 §5.5)
 pub record WrittenValues : Type 0 where
   -- a side begins with 146 bytes and marks before its first sector
   pub side-begins : (t s : ℕ) (d : ℕ → List ℕ)
@@ -53,26 +46,3 @@ pub record WrittenValues : Type 0 where
   -- the last unit of track 0 has 212 bytes of each side, then 44 that are unused
   pub ends-unused : (image hfe : List ℕ) → length image ≡ imageBytes → length hfe ≡ hfeBytes
       → (window (packHfe image hfe) 25812 44 ≡ replicate 44 0xFF) × (window (packHfe image hfe) 26068 44 ≡ replicate 44 0xFF)
-
--- ---- the proof
-
--- a part of a packed image, by the rule for each of its bytes
-part-is : (image hfe : List ℕ) → length image ≡ imageBytes → length hfe ≡ hfeBytes → (i n : ℕ) → i + n ≤ hfeBytes
-    → window (packHfe image hfe) i n ≡ tab (λ (k : ℕ). hfeByte image (i + k)) n
-unfolding window elementAt
-part-is image hfe li lh i n l =
-    ap (λ (h : List ℕ). window h i n) (hfe-after image hfe done (pack-done (length image) (length hfe) lh li))
-    ∙ tab-ext _ _ n (λ k h. tab-in (hfeByte image) hfeBytes (i + k) (omega arith))
-
--- written-values: all of these hold
-pub written-values : WrittenValues
-unfolding tab sideRow sideItem sectorItem span withCrc fieldCrc crc crcFrom crcBits crcBit bitOf highByte lowByte hfeByte hfeTableByte hfeTrackByte
-written-values =
-    record {
-      side-begins = λ t s d. refl;
-      sector-begins = λ d. refl;
-      sector-ends = λ d. refl;
-      side-ends = λ t s d. refl;
-      table-written = λ image hfe li lh. (part-is image hfe li lh 512 8 (omega arith), part-is image hfe li lh 828 196 (omega arith));
-      ends-unused = λ image hfe li lh. (part-is image hfe li lh 25812 44 (omega arith), part-is image hfe li lh 26068 44 (omega arith));
-    }

@@ -17,8 +17,8 @@ use cells::Side;
 use sector_rules::Fault;
 use sector_rules::Sector;
 
-// What the nine sectors of a side give, each judged alone, R from 1 (§4.6). On a side with damage anywhere, without a
-// new run, a sector gives its recorded bytes or none (§10.4).
+// What the nine sectors of a side give, each judged alone, R from 1 (§4.6). On a side whose runs were recorded apart,
+// with damage anywhere but no new run, a sector gives its recorded bytes or none (§10.4).
 pub fn side_sectors(part: &[u8], side: Side, track: u8, head: u8) -> [Sector; Geometry::SECTORS]
     ensures { λ r. ⌜ SideGives r (stream (now (part .entry)) side) track head ⌝ }
 {

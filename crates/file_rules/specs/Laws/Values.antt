@@ -1,0 +1,4 @@
+-- Statements by value: their proofs.
+pub mod HeaderValues
+pub mod CheckValues
+pub mod TrackValues

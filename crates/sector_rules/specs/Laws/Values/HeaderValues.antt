@@ -1,0 +1,122 @@
+-- The HFE header by value: the proof of hfe-header-values (HeaderValues.antt).
+-- Rests on: the laws of the packed image (Base/Packed); all else is computed.
+use mathlib.Core.Bool.{true}
+use mathlib.Core.List.{List, _∷_, _++_, map}
+use mathlib.Core.Path.{_≡_, refl, ap, _∙_}
+use Prim.Native.Nat.{ℕ, _+_, _-_, _%_, _≤_, _<_}
+use native.Mathlib.Omega.{arith}
+use lib.Dec.{leb, ltb, lit<}
+use lib.ListN.{length, getD, take, drop, replicate, length-append, length-set, length-take, length-drop, length-map, List·getD-append}
+use Rattle.laws.specs.Laws.Cases.{by-test}
+use Rattle.laws.specs.Laws.Tab.{take-tab, tab-ext}
+use Rattle.laws.specs.Laws.Tests.{le-true, lt-false, cond-true, cond-false}
+use Rattle.laws.specs.Lists.{same, bytesAre, standsAt, tab}
+use Rattle.laws.specs.Numbers.{lowFirst, lowByte}
+use Rattle.laws.specs.Options.{orElse}
+use Rattle.sector_rules.specs.declared.Fault.{Fault}
+use Rattle.sector_rules.specs.declared.Fault.the-variants.{At, Sound}
+use Rattle.sector_rules.specs.declared.Reply.{Reply}
+use Rattle.sector_rules.specs.declared.Sector.{Sector}
+use Rattle.sector_rules.specs.declared.Sector.the-variants.{Delivered, Missing, Repeated, NoField, Damaged}
+use Rattle.sector_rules.specs.Faults.{refusalAt}
+use Rattle.sector_rules.specs.Geometry.{allSectors, imageBytes}
+use Rattle.sector_rules.specs.Hfe.{hfeSignature, formatFault, flagFault, hfeHeaderFault, tableFault}
+use Rattle.sector_rules.specs.Laws.Base.Packed.{hfe-header, pack-done, hfe-after}
+use Rattle.sector_rules.specs.Packed.{hfeBytes, hfeHeaderRest, hfeHeaderByte, hfeByte, packHfe}
+use Rattle.sector_rules.specs.Replies.{done, unless}
+use Rattle.sector_rules.specs.Unpacked.{sectorAt, sectorReply, firstBad, sectorsReply, unpackReply}
+use Rattle.sector_rules.specs.HeaderValues.{hfeHeader, placeNamed, fieldNamed, oneMore, oneLess, changedAt, changedFrom, HfeHeaderValues}
+
+-- a header of which one byte is changed is as long as before
+pub changed-length : (g : ℕ → ℕ) (start : List ℕ) (o : ℕ) → length (changedAt g start o) ≡ length start
+unfolding changedAt
+changed-length g start o = length-set start o _
+
+-- a header of which each byte from o on is changed is as long as before
+pub from-length : (g : ℕ → ℕ) (start : List ℕ) (o : ℕ) → o < length start → length (changedFrom g start o) ≡ length start
+unfolding changedFrom
+from-length g start o l =
+    length-append (take o start) (map g (drop o start)) ∙ rw (length-map (drop o start) g, length-take, length-drop) (omega arith)
+
+abbrev faultPlace : Fault → ℕ
+faultPlace (At o) = o
+faultPlace Sound = 26
+
+module _ (h : List ℕ) where
+  by-sector : (m : ℕ) (x : Sector) → placeNamed 2 26 (sectorReply m x) ≡ 26
+  unfolding placeNamed
+  by-sector m (Delivered p) = refl
+  by-sector m Missing = refl
+  by-sector m Repeated = refl
+  by-sector m NoField = refl
+  by-sector m Damaged = refl
+
+  by-sectors : placeNamed 2 26 (sectorsReply h) ≡ 26
+  unfolding sectorsReply placeNamed
+  by-sectors =
+      by-test (ltb (firstBad h) allSectors)
+      (λ t. ap (placeNamed 2 26) (cond-true _ _ t) ∙ by-sector (firstBad h) (sectorAt h (firstBad h)))
+      (λ t. ap (placeNamed 2 26) (cond-false _ _ t))
+
+  by-fault : (f g : Fault) → placeNamed 2 26 (unless (orElse (refusalAt 2 f) (refusalAt 3 g)) (λ (r : Reply). r) (sectorsReply h)) ≡ faultPlace f
+  unfolding placeNamed unless orElse
+  by-fault (At o) g = refl
+  by-fault Sound (At t) = refl
+  by-fault Sound Sound = by-sectors
+
+  -- 2 names the lowest wrong field of the header
+  named-is : 1024 ≤ length h → placeNamed 2 26 (unpackReply h imageBytes) ≡ faultPlace (hfeHeaderFault h)
+  unfolding unpackReply
+  named-is long = ap (placeNamed 2 26) (cond-false _ _ (lt-false long)) ∙ by-fault (hfeHeaderFault h) (tableFault h)
+
+-- two images with the same 26 bytes are judged alike
+module _ (g h : List ℕ) (lg : 26 ≤ length g) (lh : 26 ≤ length h) (e : (k : ℕ) → k < 26 → getD g k 0 ≡ getD h k 0) where
+  stands-alike : standsAt g 0 hfeSignature ≡ standsAt h 0 hfeSignature
+  unfolding standsAt bytesAre hfeSignature
+  stands-alike =
+      let lt : leb 8 (length g) ≡ true = le-true {a = 8} {b = length g} (omega arith) in
+      let lu : leb 8 (length h) ≡ true = le-true {a = 8} {b = length h} (omega arith) in
+      rw (lt, lu, tab-ext (λ (i : ℕ). getD g (0 + i) 0) (λ (i : ℕ). getD h (0 + i) 0) 8 (λ k l. e (0 + k) (omega arith)))
+
+  judged-alike : hfeHeaderFault g ≡ hfeHeaderFault h
+  unfolding hfeHeaderFault formatFault flagFault lowFirst
+  judged-alike =
+      rw (stands-alike, e 8 (lit< tt), e 9 (lit< tt), e 10 (lit< tt), e 11 (lit< tt), e 12 (lit< tt), e 13 (lit< tt))
+      (rw (e 18 (lit< tt), e 19 (lit< tt), e 22 (lit< tt), e 23 (lit< tt), e 24 (lit< tt), e 25 (lit< tt)))
+
+module _ (rest : List ℕ) (long : 998 ≤ length rest) where
+  begins : (start : List ℕ) → length start ≡ 26 → fieldNamed start rest ≡ faultPlace (hfeHeaderFault start)
+  unfolding fieldNamed
+  begins start n =
+      let l : length (start ++ rest) ≡ 26 + length rest = rw (length-append start rest, n) in
+      named-is (start ++ rest) (omega arith)
+      ∙ ap faultPlace (judged-alike (start ++ rest) start (omega arith) (omega arith) (λ k h. List·getD-append start rest 0 k (omega arith)))
+
+  rows : (start : ℕ → List ℕ) → ((o : ℕ) → o < 26 → length (start o) ≡ 26)
+      → tab (λ (o : ℕ). fieldNamed (start o) rest) 26 ≡ tab (λ (o : ℕ). faultPlace (hfeHeaderFault (start o))) 26
+  rows start n = tab-ext _ _ 26 (λ o l. begins (start o) (n o l))
+
+packed-is : (image hfe : List ℕ) → length image ≡ imageBytes → length hfe ≡ hfeBytes → take 512 (packHfe image hfe) ≡ hfeHeader ++ replicate 486 0xFF
+unfolding tab hfeHeaderByte hfeHeaderRest hfeSignature lowByte hfeHeader
+packed-is image hfe li lh =
+    ap (take 512) (hfe-after image hfe done (pack-done (length image) (length hfe) lh li))
+    ∙ take-tab (hfeByte image) 512 hfeBytes (omega arith)
+    ∙ tab-ext (hfeByte image) hfeHeaderByte 512 (hfe-header image)
+    ∙ refl
+
+header-length : length hfeHeader ≡ 26
+unfolding hfeHeader
+header-length = refl
+
+-- hfe-header-values: all of these hold
+pub hfe-header-values : HfeHeaderValues
+unfolding tab hfeHeaderFault formatFault flagFault hfeSignature hfeHeader changedAt changedFrom oneMore oneLess lowFirst standsAt bytesAre same
+hfe-header-values =
+    record {
+      packed-header = packed-is;
+      one-more = λ rest long. rows rest long (changedAt oneMore hfeHeader) (λ o l. changed-length oneMore hfeHeader o) ∙ refl;
+      one-less = λ rest long. rows rest long (changedAt oneLess hfeHeader) (λ o l. changed-length oneLess hfeHeader o) ∙ refl;
+      all-less = λ rest long. rows rest long (changedFrom oneLess hfeHeader) (λ o l. from-length oneLess hfeHeader o l) ∙ refl;
+      accepted = λ rest long. (begins rest long _ refl, begins rest long _ refl, begins rest long _ refl, begins rest long _ refl);
+      flag-refused = λ rest long. (begins rest long _ refl, begins rest long _ refl);
+    }
