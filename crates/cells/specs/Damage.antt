@@ -17,7 +17,7 @@ use Rattle.cells.specs.Crc.{crcBit, crcFollows}
 unfoldable pub rowBit : List ℕ → ℕ → ℕ
 rowBit xs i = bitOf (getD xs (i / 8) 0) (i % 8)
 
--- data bit i of a list of cells: each data bit is a clock cell, then a data cell (§10.1)
+-- bit i of a list of cells: the second cell of its pair (§10.1)
 unfoldable pub dataBit : List ℕ → ℕ → ℕ
 dataBit c i = getD c (2 * i + 1) 0
 

@@ -17,6 +17,6 @@ unfoldable pub before : ℕ → ℕ → ℕ → ℕ
 before p x zero = p
 before p x (suc k) = bitOf x k
 
--- cell j of the byte x that follows the bit p: each data bit is a clock cell, then a data cell (§3.3 §3.4)
+-- cell j of the byte x that follows the bit p: for each bit its clock cell and after it the bit (§3.3 §3.4)
 unfoldable pub mfmCell : ℕ → ℕ → ℕ → ℕ
 mfmCell p x j = cond (eqb (j % 2) 0) (clock (before p x (j / 2)) (bitOf x (j / 2))) (bitOf x (j / 2))

@@ -1,4 +1,4 @@
--- The model (docs/RULES.md, section 9). It is given the arguments of the format and of the calls, and never an image.
+-- The model (docs/RULES.md, section 9). What the caller gives to format and calls is all that it knows; it never sees an image.
 -- It shares with the calls the sizes, what an Outcome is, and the layout: header, entry, record and file bytes (diskHeaderByte, entryFor, entryByte,
 -- diskWith, storedByte, part), isFree of a record, blocksFor as the number of blocks of a file (§6.17), and equality of names. The decisions are its own.
 -- Assumes nothing: these are definitions.
@@ -144,7 +144,7 @@ modelRecord slots dir peak b = cond (eqb b 0) System (orRecord 0 (position b 0 d
 unfoldable pub modelHeader : Model → ℕ → ℕ
 modelHeader m = diskHeaderByte (m .arguments) (m .updates) (freeWord (m .peak) (blocksPresent m)) (suc (m .peak))
 
--- the disk of the model's image: header and map, entries in their slots, files in their blocks (§9.5)
+-- the disk of the model's image: header and map, each slot's entry, each file at its blocks (§9.5)
 unfoldable pub modelDisk : Model → Disk
 modelDisk m =
     diskWith (modelHeader m) (modelRecord (m .slots) (m .dir) (m .peak))

@@ -149,7 +149,7 @@ hfeTableByte j =
     (cond (ltb (j % 4) 2) (lowByte (firstUnit + trackUnits * (j / 4)) (j % 4)) (lowByte writtenLength (j % 4 - 2)))
     fillByte
 
--- byte o of the units of track t: 256 bytes of side 0, then 256 of side 1; past a side's end it is FF (§2.6 §5.5)
+-- byte o of the units of track t, in each unit first the half of side 0 and then that of side 1; past a side's end it is FF (§2.6 §5.5)
 unfoldable pub hfeTrackByte : List ℕ → ℕ → ℕ → ℕ
 hfeTrackByte image t o =
     cond (ltb (256 * (o / unitBytes) + o % 256) sideBytes)

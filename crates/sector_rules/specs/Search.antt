@@ -43,7 +43,7 @@ headerCells = 160
 abbrev pub fieldCells : ℕ
 fieldCells = 16 * (4 + sectorBytes + 2)
 
--- a header stands at the list's beginning: a run, FE, four bytes and a CRC that holds, all before the end (§4.1)
+-- a header stands at the list's beginning: a run, FE, four bytes and their CRC, which holds; all of it is within the list (§4.1)
 unfoldable pub isHeader : List ℕ → Bool
 isHeader f = leb headerCells (length f) && threeSync f && eqb (dataByte f 48) headerMark && crcHolds f 8
 
@@ -69,7 +69,7 @@ unfoldable pub placesBelow : (ℕ → Bool) → ℕ → List ℕ
 placesBelow p zero = []
 placesBelow p (suc n) = cond (p n) (placesBelow p n ++ (n ∷ [])) (placesBelow p n)
 
--- the search's answer: where it is, that there is none, or that there are two or more (§4.3)
+-- what the search answers: no header, one with its place, or several (§4.3)
 unfoldable pub foundOf : List ℕ → Found
 foundOf [] = Nothing
 foundOf (i ∷ []) = One i
@@ -84,7 +84,7 @@ unfoldable pub first : {A : Type 0} → (ℕ → Bool) → (ℕ → A) → A →
 first p f none zero i = none
 first p f none (suc n) i = cond (p i) (f i) (first p f none n (suc i))
 
--- the data field may begin at most this many cells after the end of the header's CRC (§4.4)
+-- how many cells after its header a data field may begin at the most (§4.4)
 abbrev pub gapCells : ℕ
 gapCells = 688
 

@@ -116,7 +116,7 @@ fn write_run(image: &[u8], t: usize, s: usize, u: usize, hfe: &mut [u8], at: usi
     fields::fill(hfe, at + 2 * n, RUN - 2 * n, FILL);
 }
 
-// Writes the units of all tracks: 256 bytes of side 0, then 256 of side 1 (§2.6).
+// Writes the units of all tracks, in each the half of side 0 and then that of side 1 (§2.6).
 fn write_tracks(image: &[u8], hfe: &mut [u8])
     requires { ⌜ (length (now image) ≡ imageBytes) × (length (now hfe) ≡ hfeBytes) ⌝ }
     ensures { λ _. ⌜ now (hfe .exit) ≡ overlay (now (hfe .entry)) (firstUnit * unitBytes) (trackUnits * tracks * unitBytes) (tracksByte (now (image .entry))) ⌝ }

@@ -51,7 +51,7 @@ fn with_file(image: &[u8], name: &[u8], date: u32, data: &[u8]) -> Result<Volume
     Ok(volume)
 }
 
-/// The lowest vacant slot below the directory's end, else the end. Slot 0 is
+/// The slot that an add takes: the lowest vacant one, or the one at the end. Slot 0 is
 /// never vacant.
 fn slot_for_new_file(volume: &Volume) -> usize {
     let vacant = (1..volume.slots.len()).find(|&slot| !is_held(slot, &volume.slots[slot]));

@@ -134,7 +134,7 @@ growOwner m peak =
 unfoldable pub peakAfter : Inner → ℕ
 peakAfter m = max (m .peak) (suc (presentCount m))
 
--- slot k is filled; the file's blocks are the lowest free, in sequence
+-- slot k is filled; its file takes the lowest free blocks, by sequence
 unfoldable pub innerAddAt : Inner → ℕ → NamedFile → Inner
 innerAddAt m k x =
     let owner₁ : ℕ → Record = growOwner m (peakAfter m) in
