@@ -30,8 +30,8 @@ diskHeader =
     ∷ 0xFF ∷ 0xFF ∷ 0xFF ∷ 0xFF ∷ 0xFF ∷ 0xFF ∷ 0xFF ∷ 0xFF ∷ 0xFF ∷ 0xFF ∷ 0xFF ∷ 0xFF ∷ 0xFF ∷ 0xFF ∷ 0xFF ∷ 0xFF ∷ []
 
 -- what check names with 8 in an image that begins with these bytes, or 96 (§7.8)
-unfoldable pub fieldNamed : List ℕ → List ℕ → ℕ
-fieldNamed start rest = placeNamed 8 96 (check (start ++ rest))
+unfoldable pub diskFieldNamed : List ℕ → List ℕ → ℕ
+diskFieldNamed start rest = placeNamed 8 96 (check (start ++ rest))
 
 -- ---- what is promised
 
@@ -42,24 +42,24 @@ pub record DiskHeaderValues : Type 0 where
       → take 105 (format old (argumentsOf title 0x1234) .image) ≡ diskHeader ++ (0xF8 ∷ 0x00 ∷ 0x00 ∷ 0x00 ∷ 0x00 ∷ 0x00 ∷ 0xFD ∷ 0xFF ∷ 0xFF ∷ [])
   -- the check of an image that begins with the header, one byte of which is one more: the offset that 8 names, or 96. It accepts the lengths of a directory
   -- with 256 blocks more or one more (34, 35), and with five slots (36), and judges neither 4 to 21 nor 76 to 95
-  pub one-more : (rest : List ℕ) → 96 + length rest ≡ imageBytes → tab (λ (o : ℕ). fieldNamed (changedAt oneMore diskHeader o) rest) 96
+  pub one-more : (rest : List ℕ) → 96 + length rest ≡ imageBytes → tab (λ (o : ℕ). diskFieldNamed (changedAt oneMore diskHeader o) rest) 96
       ≡ replicate 4 0 ++ (replicate 18 96 ++ ((22 ∷ 22 ∷ 24 ∷ 24 ∷ 26 ∷ 26 ∷ 28 ∷ 28 ∷ 30 ∷ 30 ∷ 32 ∷ 32 ∷ 96 ∷ 96 ∷ 96 ∷ 34 ∷ 38 ∷ 38 ∷ [])
       ++ (replicate 18 40 ++ (replicate 18 58 ++ replicate 20 96))))
   -- one less
-  pub one-less : (rest : List ℕ) → 96 + length rest ≡ imageBytes → tab (λ (o : ℕ). fieldNamed (changedAt oneLess diskHeader o) rest) 96
+  pub one-less : (rest : List ℕ) → 96 + length rest ≡ imageBytes → tab (λ (o : ℕ). diskFieldNamed (changedAt oneLess diskHeader o) rest) 96
       ≡ replicate 4 0 ++ (replicate 18 96 ++ ((22 ∷ 22 ∷ 24 ∷ 24 ∷ 26 ∷ 26 ∷ 28 ∷ 28 ∷ 30 ∷ 30 ∷ 32 ∷ 32 ∷ 96 ∷ 96 ∷ 34 ∷ 34 ∷ 38 ∷ 38 ∷ [])
       ++ (replicate 18 40 ++ (replicate 18 58 ++ replicate 20 96))))
   -- each byte from o on one less: the lowest wrong field is named
-  pub all-less : (rest : List ℕ) → 96 + length rest ≡ imageBytes → tab (λ (o : ℕ). fieldNamed (changedFrom oneLess diskHeader o) rest) 96
+  pub all-less : (rest : List ℕ) → 96 + length rest ≡ imageBytes → tab (λ (o : ℕ). diskFieldNamed (changedFrom oneLess diskHeader o) rest) 96
       ≡ replicate 4 0 ++ (replicate 18 22 ++ ((22 ∷ 22 ∷ 24 ∷ 24 ∷ 26 ∷ 26 ∷ 28 ∷ 28 ∷ 30 ∷ 30 ∷ 32 ∷ 32 ∷ 34 ∷ 34 ∷ 34 ∷ 34 ∷ 38 ∷ 38 ∷ [])
       ++ (replicate 18 40 ++ (replicate 18 58 ++ replicate 20 96))))
   -- accepted are the header as it is, and with a directory of 23 slots, or of one block; refused is one of no slot, and one of 24 or 25 slots as bytes over
   pub accepted : (rest : List ℕ) → 96 + length rest ≡ imageBytes
-      → (fieldNamed diskHeader rest ≡ 96) × (fieldNamed (set (set diskHeader 36 0x05) 37 0xC0) rest ≡ 96)
-      × (fieldNamed (set (set diskHeader 35 1) 37 0) rest ≡ 96)
+      → (diskFieldNamed diskHeader rest ≡ 96) × (diskFieldNamed (set (set diskHeader 36 0x05) 37 0xC0) rest ≡ 96)
+      × (diskFieldNamed (set (set diskHeader 35 1) 37 0) rest ≡ 96)
   pub length-refused : (rest : List ℕ) → 96 + length rest ≡ imageBytes
-      → (fieldNamed (set diskHeader 37 0) rest ≡ 34) × (fieldNamed (set (set diskHeader 36 0x06) 37 0) rest ≡ 34)
-      × (fieldNamed (set diskHeader 36 0x06) rest ≡ 34)
+      → (diskFieldNamed (set diskHeader 37 0) rest ≡ 34) × (diskFieldNamed (set (set diskHeader 36 0x06) 37 0) rest ≡ 34)
+      × (diskFieldNamed (set diskHeader 36 0x06) rest ≡ 34)
   -- a disk's name has ten bytes at most
   pub title-accepted : (old : List ℕ) (args : FormatArguments) → length old ≡ imageBytes → length (args .title) ≤ 10 → format old args .answer ≡ done
   pub title-refused : (old : List ℕ) (args : FormatArguments) → length old ≡ imageBytes → 11 ≤ length (args .title) → format old args .answer ≡ refusal 12

@@ -30,8 +30,8 @@ unfoldable pub placeNamed : ℕ → ℕ → Reply → ℕ
 placeNamed number other r = cond (eqb (r .number) number) (r .first) other
 
 -- what unpacking names with 2 in an image that begins with these bytes, or 26 (§7.2)
-unfoldable pub fieldNamed : List ℕ → List ℕ → ℕ
-fieldNamed start rest = placeNamed 2 26 (unpackReply (start ++ rest) imageBytes)
+unfoldable pub hfeFieldNamed : List ℕ → List ℕ → ℕ
+hfeFieldNamed start rest = placeNamed 2 26 (unpackReply (start ++ rest) imageBytes)
 
 -- a byte one more; 00 follows FF (§7.2 §7.8)
 unfoldable pub oneMore : ℕ → ℕ
@@ -58,17 +58,17 @@ pub record HfeHeaderValues : Type 0 where
       → take 512 (packHfe image hfe) ≡ hfeHeader ++ replicate 486 0xFF
   -- unpacking an image of 1,024 bytes or more that begins with the header, one byte of which is one more: the offset that 2 names, or 26.
   -- More than 80 tracks (9) and any table offset but 0 (18) are accepted; 23 and 25 are judged where the byte before them is 00
-  pub one-more : (rest : List ℕ) → 998 ≤ length rest → tab (λ (o : ℕ). fieldNamed (changedAt oneMore hfeHeader o) rest) 26
+  pub one-more : (rest : List ℕ) → 998 ≤ length rest → tab (λ (o : ℕ). hfeFieldNamed (changedAt oneMore hfeHeader o) rest) 26
       ≡ 0 ∷ 0 ∷ 0 ∷ 0 ∷ 0 ∷ 0 ∷ 0 ∷ 0 ∷ 8 ∷ 26 ∷ 10 ∷ 11 ∷ 12 ∷ 12 ∷ 26 ∷ 26 ∷ 26 ∷ 26 ∷ 26 ∷ 26 ∷ 26 ∷ 26 ∷ 23 ∷ 26 ∷ 25 ∷ 26 ∷ []
   -- one less: 79 tracks are refused, a table offset of 0, and flags other than FF and 00
-  pub one-less : (rest : List ℕ) → 998 ≤ length rest → tab (λ (o : ℕ). fieldNamed (changedAt oneLess hfeHeader o) rest) 26
+  pub one-less : (rest : List ℕ) → 998 ≤ length rest → tab (λ (o : ℕ). hfeFieldNamed (changedAt oneLess hfeHeader o) rest) 26
       ≡ 0 ∷ 0 ∷ 0 ∷ 0 ∷ 0 ∷ 0 ∷ 0 ∷ 0 ∷ 8 ∷ 9 ∷ 10 ∷ 11 ∷ 12 ∷ 12 ∷ 26 ∷ 26 ∷ 26 ∷ 26 ∷ 18 ∷ 26 ∷ 26 ∷ 26 ∷ 22 ∷ 26 ∷ 24 ∷ 26 ∷ []
   -- each byte from o on one less: the lowest wrong field is named
-  pub all-less : (rest : List ℕ) → 998 ≤ length rest → tab (λ (o : ℕ). fieldNamed (changedFrom oneLess hfeHeader o) rest) 26
+  pub all-less : (rest : List ℕ) → 998 ≤ length rest → tab (λ (o : ℕ). hfeFieldNamed (changedFrom oneLess hfeHeader o) rest) 26
       ≡ 0 ∷ 0 ∷ 0 ∷ 0 ∷ 0 ∷ 0 ∷ 0 ∷ 0 ∷ 8 ∷ 9 ∷ 10 ∷ 11 ∷ 12 ∷ 12 ∷ 22 ∷ 22 ∷ 22 ∷ 22 ∷ 22 ∷ 22 ∷ 22 ∷ 22 ∷ 22 ∷ 24 ∷ 24 ∷ 26 ∷ []
   -- accepted are the header as it is, with 255 tracks, and with each flag 00 and the byte after it 0; where that byte is 1 it is named
   pub accepted : (rest : List ℕ) → 998 ≤ length rest
-      → (fieldNamed hfeHeader rest ≡ 26) × (fieldNamed (set hfeHeader 9 255) rest ≡ 26)
-      × (fieldNamed (set (set hfeHeader 22 0) 23 0) rest ≡ 26) × (fieldNamed (set (set hfeHeader 24 0) 25 0) rest ≡ 26)
+      → (hfeFieldNamed hfeHeader rest ≡ 26) × (hfeFieldNamed (set hfeHeader 9 255) rest ≡ 26)
+      × (hfeFieldNamed (set (set hfeHeader 22 0) 23 0) rest ≡ 26) × (hfeFieldNamed (set (set hfeHeader 24 0) 25 0) rest ≡ 26)
   pub flag-refused : (rest : List ℕ) → 998 ≤ length rest
-      → (fieldNamed (set (set hfeHeader 22 0) 23 1) rest ≡ 23) × (fieldNamed (set (set hfeHeader 24 0) 25 1) rest ≡ 25)
+      → (hfeFieldNamed (set (set hfeHeader 22 0) 23 1) rest ≡ 23) × (hfeFieldNamed (set (set hfeHeader 24 0) 25 1) rest ≡ 25)

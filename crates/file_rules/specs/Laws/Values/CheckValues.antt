@@ -37,18 +37,18 @@ pub record NothingOutside (d : Disk) : Type 0 where
   pub out : (b o : ℕ) → blockBytes ≤ o → d b o ≡ 0
 
 -- a fresh disk has nothing outside its blocks
-pub fresh-inside : (args : FormatArguments) → NothingOutside (formatDisk args)
+pub fresh-nothing-outside : (args : FormatArguments) → NothingOutside (formatDisk args)
 unfolding formatDisk diskWith
-fresh-inside args =
+fresh-nothing-outside args =
     record {
       far = λ b o h. cond-false _ _ (and-false-left (ltb o blockBytes) (lt-false h));
       out = λ b o h. cond-false _ _ (and-false-right (ltb b blocks) (lt-false h));
     }
 
 -- a disk of which a byte of block 0 is another has nothing outside its blocks
-pub set-inside : (d : Disk) (o v : ℕ) → o < blockBytes → NothingOutside d → NothingOutside (setByte d 0 o v)
+pub set-nothing-outside : (d : Disk) (o v : ℕ) → o < blockBytes → NothingOutside d → NothingOutside (setByte d 0 o v)
 unfolding setByte
-set-inside d o v l w =
+set-nothing-outside d o v l w =
     record {
       far = λ b p h. upd₂-other d 0 (upd (d 0) o v) b p (λ e. absurd (omega arith)) ∙ w .far b p h;
       out = λ b p h.
@@ -71,7 +71,7 @@ set-is d o v e l = ap (λ (i : ℕ). set (imageOf d) i v) (sym e) ∙ image-set 
 
 -- what check says of an image of which such a byte is another
 pub changed-is : (d : Disk) → NothingOutside d → (o v : ℕ) → imagePlace 0 o ≡ o → o < blockBytes → check (set (imageOf d) o v) ≡ judgedReply (setByte d 0 o v)
-changed-is d w o v e l = ap check (set-is d o v e l) ∙ check-is (setByte d 0 o v) (set-inside d o v l w)
+changed-is d w o v e l = ap check (set-is d o v e l) ∙ check-is (setByte d 0 o v) (set-nothing-outside d o v l w)
 
 judged-is : (args : FormatArguments) → RecordsJudged (imageOf (formatDisk args))
 unfolding judgedReply diskRefusal refusal8 refusal9 refusal10 refusal11 diskHeaderFault dimensionsFault lengthRight dirBytes mapFault recordAt numberAt
@@ -80,7 +80,7 @@ unfolding judgedReply diskRefusal refusal8 refusal9 refusal10 refusal11 diskHead
     fileFault fileRight partsRight dirEnd all within isPart bears noRecordBears quotientUp held imagePlace toImageSector
 judged-is args =
     let fresh : Disk = formatDisk args in
-    let inside : NothingOutside (formatDisk args) = fresh-inside args in
+    let inside : NothingOutside (formatDisk args) = fresh-nothing-outside args in
     let d₁ : Disk = setByte (formatDisk args) 0 102 0x00 in
     let d₂ : Disk = setByte (setByte (formatDisk args) 0 102 0x00) 0 103 0x50 in
     record {
@@ -91,7 +91,7 @@ judged-is args =
       no-slot =
           ap (λ (l : List ℕ). check (set (set l 103 0x50) 104 0x00)) (set-is fresh 102 0x00 refl (lit< tt))
           ∙ ap (λ (l : List ℕ). check (set l 104 0x00)) (set-is d₁ 103 0x50 refl (lit< tt))
-          ∙ changed-is d₂ (set-inside d₁ 103 0x50 (lit< tt) (set-inside fresh 102 0x00 (lit< tt) inside)) 104 0x00 refl (lit< tt);
+          ∙ changed-is d₂ (set-nothing-outside d₁ 103 0x50 (lit< tt) (set-nothing-outside fresh 102 0x00 (lit< tt) inside)) 104 0x00 refl (lit< tt);
     }
 
 -- check-values: these hold of every formatted disk

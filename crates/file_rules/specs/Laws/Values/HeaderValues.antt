@@ -21,7 +21,7 @@ use Rattle.sector_rules.specs.declared.Reply.{Reply}
 use Rattle.sector_rules.specs.Faults.{refusalAt, faultBelow}
 use Rattle.sector_rules.specs.Geometry.{sectorBytes, blocks, imageBytes, running, sidePlace, backward, toImageSector, toRunningSector}
 use Rattle.sector_rules.specs.HeaderValues.{placeNamed, oneMore, oneLess, changedAt, changedFrom}
-use Rattle.sector_rules.specs.Laws.Values.HeaderValues.{changed-length, from-length}
+use Rattle.sector_rules.specs.Laws.Values.HeaderValues.{changed-length, changed-from-length}
 use Rattle.sector_rules.specs.Replies.{done, refusal}
 use Rattle.file_rules.specs.Arguments.{FormatArguments, argumentsOf}
 use Rattle.file_rules.specs.Calls.{ImageChanged, imageKept, unless, imageRight, onSound, freshOwner, formatDisk, format, check}
@@ -33,7 +33,7 @@ use Rattle.file_rules.specs.Laws.OnImages.Run.{format-done}
 use Rattle.file_rules.specs.Map.{numberOf, encode}
 use Rattle.file_rules.specs.Sizes.{blockBytes, slotCount}
 use Rattle.file_rules.specs.Written.{fixedByte, diskHeaderByte, diskWith}
-use Rattle.file_rules.specs.HeaderValues.{title, diskHeader, fieldNamed, DiskHeaderValues}
+use Rattle.file_rules.specs.HeaderValues.{title, diskHeader, diskFieldNamed, DiskHeaderValues}
 
 abbrev faultPlace : Fault → ℕ
 faultPlace (At o) = o
@@ -105,15 +105,15 @@ abbrev alone : List ℕ → Disk
 alone start b o = getD start o 0
 
 module _ (rest : List ℕ) (long : 96 + length rest ≡ imageBytes) where
-  begins : (start : List ℕ) → length start ≡ 96 → fieldNamed start rest ≡ faultPlace (diskHeaderFault (alone start))
-  unfolding fieldNamed
+  begins : (start : List ℕ) → length start ≡ 96 → diskFieldNamed start rest ≡ faultPlace (diskHeaderFault (alone start))
+  unfolding diskFieldNamed
   begins start n =
       named-is (start ++ rest) (length-append start rest ∙ rw n long)
       ∙ ap faultPlace (judged-alike (diskOf (start ++ rest)) (alone start)
       (λ o l. first-byte (start ++ rest) o l ∙ List·getD-append start rest 0 o (omega arith)))
 
   rows : (start : ℕ → List ℕ) → ((o : ℕ) → o < 96 → length (start o) ≡ 96)
-      → tab (λ (o : ℕ). fieldNamed (start o) rest) 96 ≡ tab (λ (o : ℕ). faultPlace (diskHeaderFault (alone (start o)))) 96
+      → tab (λ (o : ℕ). diskFieldNamed (start o) rest) 96 ≡ tab (λ (o : ℕ). faultPlace (diskHeaderFault (alone (start o)))) 96
   rows start n = tab-ext _ _ 96 (λ o l. begins (start o) (n o l))
 
 header-length : length diskHeader ≡ 96
@@ -144,7 +144,7 @@ disk-header-values =
       format-header = format-is;
       one-more = λ rest long. rows rest long (changedAt oneMore diskHeader) (λ o l. changed-length oneMore diskHeader o) ∙ refl;
       one-less = λ rest long. rows rest long (changedAt oneLess diskHeader) (λ o l. changed-length oneLess diskHeader o) ∙ refl;
-      all-less = λ rest long. rows rest long (changedFrom oneLess diskHeader) (λ o l. from-length oneLess diskHeader o l) ∙ refl;
+      all-less = λ rest long. rows rest long (changedFrom oneLess diskHeader) (λ o l. changed-from-length oneLess diskHeader o l) ∙ refl;
       accepted = λ rest long. (begins rest long _ refl, begins rest long _ refl, begins rest long _ refl);
       length-refused = λ rest long. (begins rest long _ refl, begins rest long _ refl, begins rest long _ refl);
       title-accepted = λ old args long h. ap (λ (w : ImageChanged). w .answer) (format-done old args long h);

@@ -24,7 +24,7 @@ use Rattle.file_rules.specs.Arguments.{FormatArguments}
 use Rattle.file_rules.specs.Calls.{ImageChanged, unless, freshOwner, formatDisk}
 use Rattle.file_rules.specs.Check.{diskSignature, lengthRight, dimensionsFault, diskHeaderFault, recordFault, mapFault, freeRight}
 use Rattle.file_rules.specs.Check.{refusal8, refusal9, refusal11}
-use Rattle.file_rules.specs.Laws.Values.CheckValues.{NothingOutside, fresh-inside, set-inside, set-is}
+use Rattle.file_rules.specs.Laws.Values.CheckValues.{NothingOutside, fresh-nothing-outside, set-nothing-outside, set-is}
 use Rattle.file_rules.specs.Directory.{dirBytes}
 use Rattle.file_rules.specs.Disk.{Disk, imagePlace, diskOf, imageOf, setByte}
 use Rattle.file_rules.specs.FirstTrack.{counted, firstTrackResult}
@@ -94,11 +94,11 @@ first-track-values =
       track-length = length-is;
       formatted-track = λ old args long short.
           ap (λ (w : ImageChanged). firstTrackResult (take 9216 (w .image))) (format-done old args long short)
-          ∙ image-is (formatDisk args) (fresh-inside args)
+          ∙ image-is (formatDisk args) (fresh-nothing-outside args)
           ∙ formatted-is args .0;
       word-refused = λ old args long short.
           ap (λ (w : ImageChanged). firstTrackResult (take 9216 (set (w .image) 21 0x9B))) (format-done old args long short)
           ∙ ap (λ (l : List ℕ). firstTrackResult (take 9216 l)) (set-is (formatDisk args) 21 0x9B (formatted-is args .2) (lit< tt))
-          ∙ image-is (setByte (formatDisk args) 0 21 0x9B) (set-inside (formatDisk args) 21 0x9B (lit< tt) (fresh-inside args))
+          ∙ image-is (setByte (formatDisk args) 0 21 0x9B) (set-nothing-outside (formatDisk args) 21 0x9B (lit< tt) (fresh-nothing-outside args))
           ∙ formatted-is args .1;
     }

@@ -25,7 +25,7 @@ use Rattle.sector_rules.specs.Laws.Base.Packed.{hfe-header, pack-done, h
 use Rattle.sector_rules.specs.Packed.{hfeBytes, hfeHeaderRest, hfeHeaderByte, hfeByte, packHfe}
 use Rattle.sector_rules.specs.Replies.{done, unless}
 use Rattle.sector_rules.specs.Unpacked.{sectorAt, sectorReply, firstBad, sectorsReply, unpackReply}
-use Rattle.sector_rules.specs.HeaderValues.{hfeHeader, placeNamed, fieldNamed, oneMore, oneLess, changedAt, changedFrom, HfeHeaderValues}
+use Rattle.sector_rules.specs.HeaderValues.{hfeHeader, placeNamed, hfeFieldNamed, oneMore, oneLess, changedAt, changedFrom, HfeHeaderValues}
 
 -- a header of which one byte is changed is as long as before
 pub changed-length : (g : ℕ → ℕ) (start : List ℕ) (o : ℕ) → length (changedAt g start o) ≡ length start
@@ -33,9 +33,9 @@ unfolding changedAt
 changed-length g start o = length-set start o _
 
 -- a header of which each byte from o on is changed is as long as before
-pub from-length : (g : ℕ → ℕ) (start : List ℕ) (o : ℕ) → o < length start → length (changedFrom g start o) ≡ length start
+pub changed-from-length : (g : ℕ → ℕ) (start : List ℕ) (o : ℕ) → o < length start → length (changedFrom g start o) ≡ length start
 unfolding changedFrom
-from-length g start o l =
+changed-from-length g start o l =
     length-append (take o start) (map g (drop o start)) ∙ rw (length-map (drop o start) g, length-take, length-drop) (omega arith)
 
 abbrev faultPlace : Fault → ℕ
@@ -85,15 +85,15 @@ module _ (g h : List ℕ) (lg : 26 ≤ length g) (lh : 26 ≤ length h) (e : (k 
       (rw (e 18 (lit< tt), e 19 (lit< tt), e 22 (lit< tt), e 23 (lit< tt), e 24 (lit< tt), e 25 (lit< tt)))
 
 module _ (rest : List ℕ) (long : 998 ≤ length rest) where
-  begins : (start : List ℕ) → length start ≡ 26 → fieldNamed start rest ≡ faultPlace (hfeHeaderFault start)
-  unfolding fieldNamed
+  begins : (start : List ℕ) → length start ≡ 26 → hfeFieldNamed start rest ≡ faultPlace (hfeHeaderFault start)
+  unfolding hfeFieldNamed
   begins start n =
       let l : length (start ++ rest) ≡ 26 + length rest = rw (length-append start rest, n) in
       named-is (start ++ rest) (omega arith)
       ∙ ap faultPlace (judged-alike (start ++ rest) start (omega arith) (omega arith) (λ k h. List·getD-append start rest 0 k (omega arith)))
 
   rows : (start : ℕ → List ℕ) → ((o : ℕ) → o < 26 → length (start o) ≡ 26)
-      → tab (λ (o : ℕ). fieldNamed (start o) rest) 26 ≡ tab (λ (o : ℕ). faultPlace (hfeHeaderFault (start o))) 26
+      → tab (λ (o : ℕ). hfeFieldNamed (start o) rest) 26 ≡ tab (λ (o : ℕ). faultPlace (hfeHeaderFault (start o))) 26
   rows start n = tab-ext _ _ 26 (λ o l. begins (start o) (n o l))
 
 packed-is : (image hfe : List ℕ) → length image ≡ imageBytes → length hfe ≡ hfeBytes → take 512 (packHfe image hfe) ≡ hfeHeader ++ replicate 486 0xFF
@@ -116,7 +116,7 @@ hfe-header-values =
       packed-header = packed-is;
       one-more = λ rest long. rows rest long (changedAt oneMore hfeHeader) (λ o l. changed-length oneMore hfeHeader o) ∙ refl;
       one-less = λ rest long. rows rest long (changedAt oneLess hfeHeader) (λ o l. changed-length oneLess hfeHeader o) ∙ refl;
-      all-less = λ rest long. rows rest long (changedFrom oneLess hfeHeader) (λ o l. from-length oneLess hfeHeader o l) ∙ refl;
+      all-less = λ rest long. rows rest long (changedFrom oneLess hfeHeader) (λ o l. changed-from-length oneLess hfeHeader o l) ∙ refl;
       accepted = λ rest long. (begins rest long _ refl, begins rest long _ refl, begins rest long _ refl, begins rest long _ refl);
       flag-refused = λ rest long. (begins rest long _ refl, begins rest long _ refl);
     }
