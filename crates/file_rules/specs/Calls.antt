@@ -59,7 +59,7 @@ imageRight image = eqb (length image) imageBytes
 
 -- ---- the calls that judge a disk first
 
--- 1, then 8 to 11, refused in the way of the call; what the call does on a sound disk comes after (§8.5)
+-- 1 (§7.1), then 8 to 11, refused in the way of the call; what the call does on a sound disk comes after (§8.5)
 unfoldable pub onSound : {A : Type 0} → List ℕ → (Reply → A) → (Disk → A) → A
 onSound image refuse act = cond (imageRight image) (unless (diskRefusal (diskOf image)) refuse (act (diskOf image))) (refuse wrongLength)
 
@@ -79,7 +79,7 @@ freshHeader args = diskHeaderByte args 0 (freeSectors (blocks - 2)) 1
 unfoldable pub formatDisk : FormatArguments → Disk
 formatDisk args = diskWith (freshHeader args) freshOwner (λ (r : Record) (o : ℕ). 0)
 
--- the call format: 1, 12, or the image of a fresh disk (§8.4 §7.12)
+-- the call format: 1, 12, or the image of a fresh disk (§8.4 §7.1 §7.12)
 unfoldable pub format : List ℕ → FormatArguments → ImageChanged
 format image args =
     cond (imageRight image)
@@ -106,7 +106,7 @@ unfoldable pub entries : Disk → ℕ → List ℕ
 entries d zero = []
 entries d (suc n) = entries d n ++ cond (held d n) (tab (slotByte d n) slotBytes) []
 
--- the call list on a sound disk: 16, or the entries (§8.6)
+-- the call list on a sound disk: 16, or the entries (§8.6 §7.16)
 unfoldable pub listSound : Disk → List ℕ → Outcome
 listSound d buf = deliver (entries d (dirEnd d)) buf
 
@@ -143,8 +143,8 @@ growDir d k = cond (opensBlock d k) (giveBlocks d 0 zeros (k / blockSlots) (firs
 unfoldable pub endAfter : ℕ → ℕ → Disk → Disk
 endAfter k end d = cond (eqb k end) (setEnd d (suc k)) d
 
--- the disk after an add: a new block of the directory, then the file's blocks, the lowest free; slot, length of the directory, free word, update count
--- (§8.11 §8.12)
+-- the disk after an add: a new block of the directory (§8.10); then the file's blocks, the lowest free, in ascending order, with sequences from 0 (§8.11);
+-- slot, length of the directory, free word and update count; no other byte (§8.12)
 unfoldable pub addAt : Disk → ℕ → Entry → List ℕ → Disk
 addAt d k e content =
     let d₁ : Disk = growDir d k in

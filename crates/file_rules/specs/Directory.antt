@@ -78,6 +78,6 @@ dirEnd d = dirBytes d / slotBytes
 unfoldable pub findName : Disk → List ℕ → ℕ
 findName d name = lowest (λ (k : ℕ). held d k && nameEq (slotName d k) name) (dirEnd d)
 
--- the lowest vacant slot from 1 on, or the directory's end (§8.9)
+-- the lowest vacant slot from 1 on, since slot 0 is not taken, or the directory's end (§6.12 §8.9)
 unfoldable pub vacantSlot : Disk → ℕ
 vacantSlot d = lowest (λ (k : ℕ). ltb 0 k && not (held d k)) (dirEnd d)

@@ -109,7 +109,7 @@ freeAt d b = isFree (recordAt d b)
 unfoldable pub freeCount : Disk → ℕ
 freeCount d = count blocks (freeAt d)
 
--- the block whose record is sequence s of file f, the lowest if there are several (§6.10)
+-- the block whose record is sequence s of file f, the lowest if there are several (§6.10); a disk with several is refused with 10 (§7.20)
 unfoldable pub partBlock : Disk → ℕ → ℕ → ℕ
 partBlock d f s = lowest (λ (b : ℕ). isPart f s (recordAt d b)) blocks
 

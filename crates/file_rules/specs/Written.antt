@@ -20,8 +20,8 @@ use Rattle.file_rules.specs.Check.{diskSignature}
 
 -- ---- the header
 
--- byte o of the header but for update count, free word and length of the directory: the disk's name filled with spaces, its number, and what is fixed
--- (§6.1 §6.2 §6.5 §6.7)
+-- byte o of the header but for update count, free word and length of the directory: the letters (§6.1), the disk's name filled with spaces, its number and
+-- the bytes FF (§6.2), the sizes (§6.5), the track offset and the two tables (§6.7)
 unfoldable pub fixedByte : FormatArguments → ℕ → ℕ
 fixedByte args =
     let f₀ : ℕ → ℕ = patch (λ (o : ℕ). 0xFF) 0 4 (λ (i : ℕ). getD diskSignature i 0) in
@@ -102,7 +102,7 @@ setEnd d k = setWord (setWord d 34 (wholeBlocks k)) 36 (bytesOver k)
 unfoldable pub stepUpdate : Disk → Disk
 stepUpdate d = upd d 0 (patch (d 0) 16 4 (highByte 4 (at32 (d 0) 16 + 1)))
 
--- the disk, with these blocks given to file f, from sequence s on, and in them the bytes c of the file (§8.11)
+-- the disk, with these blocks given to file f in this order, from sequence s on, and in them the bytes c of the file (§8.11)
 unfoldable pub giveBlocks : Disk → ℕ → (ℕ → ℕ) → ℕ → List ℕ → Disk
 giveBlocks d f c s [] = d
 giveBlocks d f c s (b ∷ bs) = giveBlocks (setRecord (setBlock d b (part c s)) b (File f s)) f c (suc s) bs

@@ -19,8 +19,8 @@ pub struct MapRecord {
 // The most bytes of a file's name (§6.15).
 pub const NAME_MOST: usize = 36;
 
-// A directory entry: the length counts the file's first 64 bytes, and the name is the first `namelen` of the 36 bytes
-// (§6.13).
+// A directory entry (§6.13): the length counts the file's first 64 bytes, and the name is the first `namelen` of the 36
+// bytes.
 #[repr(C)]
 pub struct Entry {
     pub name: [u8; NAME_MOST],

@@ -75,8 +75,9 @@ fn end_after(image: &mut [u8], k: usize, end: usize)
     set_end(image, k + 1);
 }
 
-// A file is added in slot k: the directory's block, the file's blocks, the slot, then the header; nothing else (§8.12).
-// In a history the image is then the model's (§9.5).
+// A file is added in slot k: a new block of the directory (§8.10); then the file's blocks, the lowest free, in ascending
+// order, with sequences from 0 (§8.11); the slot and the header; nothing else (§8.12). In a history the image is then
+// the model's (§9.5).
 fn add_at(image: &mut [u8], map: &mut MapNumbers, k: usize, e: Entry, content: &[u8])
     requires { ⌜ InStep (now map) (now image) × (k < sequences) × (length (now content) ≤ imageBytes) ⌝ }
     ensures { λ _. ⌜ now (image .exit) ≡ imageOf (addAt (diskOf (now (image .entry))) k e (now (content .entry))) ⌝ }
@@ -112,8 +113,8 @@ fn opens_block(image: &[u8], k: usize) -> bool
     (k == dir_end(image)) & (k % BLOCK_SLOTS == 0)
 }
 
-// Whether there are blocks enough for a file of so many bytes in slot k (§7.15 §9.7). More bytes than the disk has
-// never fit; that is asked first, since 64 more than the size could wrap.
+// Whether there are blocks enough for a file of so many bytes in slot k (§7.15 §9.7), a new block of the directory
+// counted (§8.10). More bytes than the disk has never fit; that is asked first, since 64 more than the size could wrap.
 fn has_room(image: &[u8], map: &MapNumbers, k: usize, size: usize) -> bool
     requires { ⌜ MapLoaded (now map) (diskOf (now image)) ⌝ }
     ensures { λ r. ⌜ r ≡ leb (needed (diskOf (now (image .entry))) k size) (freeCount (diskOf (now (image .entry)))) ⌝ }
@@ -158,8 +159,8 @@ fn add_sound(
     done()
 }
 
-// The call add (§8.9). A refusal leaves the image as it was (§7.19). In a history the next call is on this image
-// (§9.1).
+// The call add (§8.9), or 1 (§7.1) or 8 to 11 (§8.5); by it a slot of the model is filled (§9.4). A refusal leaves the
+// image as it was (§7.19). In a history the next call is on this image (§9.1).
 pub fn add(image: &mut [u8], name: &[u8], date: u32, content: &[u8]) -> Reply
     ensures { λ r. ⌜ (r ≡ Calls.add (now (image .entry)) (now (name .entry)) date (now (content .entry)) .answer) × (now (image .exit) ≡ Calls.add (now (image .entry)) (now (name .entry)) date (now (content .entry)) .image) ⌝ }
 {

@@ -28,8 +28,8 @@ pub fn byte_place(b: usize, o: usize) -> usize
     at.0 * Geometry::SECTOR_BYTES + o % Geometry::SECTOR_BYTES
 }
 
-// Where offset o of block b stands in the image; its end, where there is no such block. Up to the sector's
-// end the bytes of the block follow each other there (§1.3).
+// Where offset o of block b stands in the image (`imagePlace`); its end, where there is no such block. Up to the
+// sector's end the bytes of the block follow each other there (§1.3).
 pub fn run_place(b: usize, o: usize) -> usize
     requires { ⌜ o < blockBytes ⌝ }
     ensures { λ r. ⌜ r ≡ runPlace b o ⌝ }
@@ -49,7 +49,7 @@ pub fn run_length(o: usize, n: usize) -> usize
     if room < n { room } else { n }
 }
 
-// Byte o of block b, 0 where there is none.
+// Byte o of block b, 0 where there is none (§1.3).
 pub fn block_byte(image: &[u8], b: usize, o: usize) -> u8
     ensures { λ r. ⌜ r ≡ diskOf (now (image .entry)) b o ⌝ }
 {

@@ -134,7 +134,7 @@ fn file_fault(image: &[u8], map: &MapNumbers) -> usize
     SLOT_COUNT
 }
 
-// Refusal 9: the map (§7.9).
+// Refusal 9: the map (§7.9). Of a loaded map this is `refusal9`.
 pub fn judge_map(map: &MapNumbers) -> Verdict
     ensures { λ r. ⌜ r ≡ verdictOf (mapRefusal (now (map .entry))) ⌝ }
 {
@@ -187,7 +187,7 @@ pub fn judge(image: &[u8], map: &MapNumbers) -> Verdict
     }
 }
 
-// The call check (§8.5): done, or the first refusal of 1 and 8 to 11. After a history it is done (§9.5).
+// The call check (§8.5): done, or the first refusal of 1 (§7.1) and 8 to 11. After a history it is done (§9.5).
 pub fn check(image: &[u8]) -> Reply
     ensures { λ r. ⌜ r ≡ Calls.check (now (image .entry)) ⌝ }
 {

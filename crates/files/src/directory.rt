@@ -22,7 +22,8 @@ use crate::sizes::SLOT_BYTES;
 use file_rules::Entry;
 use sectors::Geometry;
 
-// Where slot k is in the image; its end, where the slot has no block. A slot lies in one sector (§6.11).
+// Where slot k is in the image, so where the bytes `slotByte` stand; its end, where the slot has no block. A slot lies
+// in one sector (§6.11).
 pub fn slot_place(dir: &BlockRow, k: usize) -> usize
     requires { ⌜ k < slotCount ⌝ }
     ensures { λ r. ⌜ (r ≡ slotPlace (now (dir .entry)) k) × (r ≤ imageBytes) ⌝ }
@@ -34,7 +35,7 @@ pub fn slot_place(dir: &BlockRow, k: usize) -> usize
     Geometry::IMAGE_BYTES
 }
 
-// Whether the 64 bytes at a place are all zero (§6.12).
+// Whether the 64 bytes at a place are all zero, so that a slot there is vacant (§6.12).
 fn vacant_at(image: &[u8], at: usize) -> bool
     ensures { λ r. ⌜ r ≡ all (λ (i : ℕ). eqb (elementAt (now (image .entry)) at i) 0) slotBytes ⌝ }
 {
@@ -136,7 +137,7 @@ pub fn find_name(image: &[u8], dir: &BlockRow, name: &[u8]) -> usize
     end
 }
 
-// The lowest vacant slot, or the directory's end (§8.9).
+// The lowest vacant slot from 1 on, since slot 0 is not taken (§6.12), or the directory's end (§8.9).
 pub fn vacant_slot(image: &[u8], dir: &BlockRow) -> usize
     requires { ⌜ (length (now image) ≡ imageBytes) × (dirEnd (diskOf (now image)) ≤ slotCount) × Located (now dir) (diskOf (now image)) ⌝ }
     ensures { λ r. ⌜ r ≡ vacantSlot (diskOf (now (image .entry))) ⌝ }

@@ -26,7 +26,7 @@ use sectors::refused;
 // What fills a disk's name to ten bytes (§6.2).
 const SPACE: u8 = 32;
 
-// The letters (§6.1), the name filled with spaces, and the number (§6.2).
+// The letters (§6.1), the name filled with spaces, and the number (§6.2), as in `fixedByte`.
 fn put_title(head: &mut [u8], name: &[u8], number: u16)
     requires { ⌜ length (now name) ≤ titleMost ⌝ }
     ensures { λ _. ⌜ now (head .exit) ≡ titled (now (head .entry)) (argumentsOf (now (name .entry)) number) ⌝ }
@@ -37,7 +37,7 @@ fn put_title(head: &mut [u8], name: &[u8], number: u16)
     fields::put_high2(head, 14, number);
 }
 
-// The sizes of the disk kind (§6.5), and its track offset (§6.7).
+// The sizes of the disk kind (§6.5), and its track offset (§6.7), as in `fixedByte`.
 fn put_dimensions(head: &mut [u8])
     ensures { λ _. ⌜ now (head .exit) ≡ sized (now (head .entry)) ⌝ }
 {
@@ -50,7 +50,8 @@ fn put_dimensions(head: &mut [u8])
     fields::put_high2(head, 38, Geometry::TRACK_OFFSET as u16);
 }
 
-// The two tables (§6.7), no update yet, all sectors free but those of two blocks, and a directory of one slot (§8.4).
+// The two tables (§6.7), no update yet, all sectors free but those of two blocks, and a directory of one slot (§8.4), as
+// in `freshHeader`.
 fn put_start(head: &mut [u8])
     ensures { λ _. ⌜ now (head .exit) ≡ started (now (head .entry)) ⌝ }
 {
@@ -91,7 +92,7 @@ fn fresh_record(b: usize) -> Record
     Record::Free
 }
 
-// The map of a fresh disk (§8.4).
+// The map of a fresh disk (§8.4): `setRecord` of `freshOwner` for each block.
 fn write_map(image: &mut [u8])
     requires { ⌜ length (now image) ≡ imageBytes ⌝ }
     ensures { λ _. ⌜ now (image .exit) ≡ imageOf (withRecords (diskOf (now (image .entry))) freshOwner blocks) ⌝ }

@@ -54,7 +54,7 @@ fn copy_slot(image: &[u8], at: usize, out: &mut [u8], c: usize)
     }
 }
 
-// Writes slot k at c if it is held, and says where the next one goes.
+// Writes slot k at c if it is held (§8.6), and says where the next one goes: one step of `entries`.
 fn list_slot(image: &[u8], dir: &BlockRow, k: usize, out: &mut [u8], c: usize) -> usize
     requires { ⌜ (length (now image) ≡ imageBytes) × (k < slotCount) × Located (now dir) (diskOf (now image)) × (c + length (slotPart (diskOf (now image)) k) ≤ length (now out)) ⌝ }
     ensures { λ r. ⌜ (r ≡ c + length (slotPart (diskOf (now (image .entry))) k)) × (now (out .exit) ≡ put (now (out .entry)) c (slotPart (diskOf (now (image .entry))) k)) ⌝ }
@@ -77,7 +77,7 @@ fn list_slots(image: &[u8], dir: &BlockRow, end: usize, out: &mut [u8])
     }
 }
 
-// Lists a sound disk (§8.6), or 16 with the bytes needed (§7.16).
+// Lists a sound disk (§8.6) to the beginning of the buffer (§8.8), or 16 with the bytes needed (§7.16).
 fn list_sound(image: &[u8], map: &MapNumbers, out: &mut [u8]) -> Reply
     requires { ⌜ (length (now image) ≡ imageBytes) × (dirEnd (diskOf (now image)) ≤ slotCount) × MapLoaded (now map) (diskOf (now image)) ⌝ }
     ensures { λ r. ⌜ (r ≡ listSound (diskOf (now (image .entry))) (now (out .entry)) .answer) × (now (out .exit) ≡ listSound (diskOf (now (image .entry))) (now (out .entry)) .buffer) ⌝ }
@@ -93,8 +93,8 @@ fn list_sound(image: &[u8], map: &MapNumbers, out: &mut [u8]) -> Reply
     done_with(needed)
 }
 
-// The call list (§8.6): the held entries, 64 bytes each, as the model answers it (§9.3). A refusal leaves the buffer as
-// it was (§7.19).
+// The call list (§8.6), or 1 (§7.1) or 8 to 11 (§8.5): the held entries, 64 bytes each, as the model answers it (§9.3).
+// A refusal leaves the buffer as it was (§7.19).
 pub fn list(image: &[u8], out: &mut [u8]) -> Reply
     ensures { λ r. ⌜ (r ≡ Calls.list (now (image .entry)) (now (out .entry)) .answer) × (now (out .exit) ≡ Calls.list (now (image .entry)) (now (out .entry)) .buffer) ⌝ }
 {

@@ -59,7 +59,7 @@ pub fn map_record(map: &MapNumbers, block: BlockNumber) -> MapRecord
     MapRecord { block, record }
 }
 
-// The lowest block whose record is wrong, or the number of blocks (§7.9).
+// The lowest block whose record is wrong, or the number of blocks (§7.9): `mapFault`.
 pub fn map_fault(map: &MapNumbers) -> usize
     ensures { λ r. ⌜ (r ≡ lowest (λ (b : ℕ). recordFault b (loadedRecord (now (map .entry)) b)) blocks) × (r ≤ blocks) ⌝ }
 {
@@ -71,7 +71,7 @@ pub fn map_fault(map: &MapNumbers) -> usize
     Geometry::BLOCKS
 }
 
-// How many records are free (§6.4).
+// How many records are free (§6.4): `freeCount`.
 pub fn count_free(map: &MapNumbers) -> usize
     ensures { λ r. ⌜ (r ≡ count blocks (λ (b : ℕ). isFree (loadedRecord (now (map .entry)) b))) × (r ≤ blocks) ⌝ }
 {
@@ -86,8 +86,8 @@ pub fn count_free(map: &MapNumbers) -> usize
     n
 }
 
-// The block that is sequence s of file f, the lowest if there are several (§6.10); the number of blocks if there is
-// none.
+// The block that is sequence s of file f, the lowest if there are several (§6.10), the number of blocks if there is none:
+// `partBlock`.
 pub fn part_block(map: &MapNumbers, f: usize, s: usize) -> usize
     ensures { λ r. ⌜ (r ≡ lowest (λ (b : ℕ). isPart f s (loadedRecord (now (map .entry)) b)) blocks) × (r ≤ blocks) ⌝ }
 {

@@ -68,7 +68,7 @@ pub fn tally_names(image: &[u8], dir: &BlockRow, end: usize, names: &mut NameTal
     }
 }
 
-// Whether no slot below k is held and has this name (§7.21).
+// Whether no slot below k is held and has this name (§7.21): `newName`, for the name of slot k.
 fn new_name(image: &[u8], dir: &BlockRow, k: usize, name: &[u8]) -> bool
     requires { ⌜ (length (now image) ≡ imageBytes) × (k < slotCount) × Located (now dir) (diskOf (now image)) ⌝ }
     ensures { λ r. ⌜ r ≡ all (λ (j : ℕ). not (held (diskOf (now (image .entry))) j && nameEq (slotName (diskOf (now (image .entry))) j) (now (name .entry)))) k ⌝ }

@@ -55,7 +55,7 @@ fn tally_parts(
     }
 }
 
-// Whether each of the first n parts stands once (§7.20).
+// Whether each of the first n parts stands once (§7.20): the second half of `partsRight`.
 fn all_once(tally: &PartTally, n: usize) -> bool
     requires { ⌜ n ≤ blocks ⌝ }
     ensures { λ r. ⌜ r ≡ all (λ (s : ℕ). eqb (getD (now (tally .entry)) s 0) 1) n ⌝ }
@@ -68,8 +68,8 @@ fn all_once(tally: &PartTally, n: usize) -> bool
     true
 }
 
-// Whether the records of file f have the sequences 0 to n - 1, each once, and no other (§7.20). More of them than
-// blocks cannot be.
+// Whether the records of file f have the sequences 0 to n - 1, each once, and no other (§7.20): `partsRight`. More of
+// them than blocks cannot be.
 pub fn parts_right(
     map: &MapNumbers,
     first: &FirstBlocks,
@@ -91,8 +91,8 @@ pub fn parts_right(
     all_once(&tally, n)
 }
 
-// The blocks of file f in sequence, put into a row that has none. From the last block down, so that the lowest of
-// several stays (§6.10).
+// The blocks of file f in sequence (`partBlock`), put into a row that has none. From the last block down, so that the
+// lowest of several stays (§6.10).
 pub fn file_blocks(map: &MapNumbers, f: usize, row: &mut BlockRow)
     requires { ⌜ PartsFrom (now row) (now map) f blocks ⌝ }
     ensures { λ _. ⌜ PartsAt (now (row .exit)) (now (map .entry)) f ⌝ }
@@ -108,7 +108,8 @@ pub fn file_blocks(map: &MapNumbers, f: usize, row: &mut BlockRow)
     }
 }
 
-// The block that is sequence s of file f, from its blocks; a sequence that no row has is looked for in the map.
+// The block that is sequence s of file f (`partBlock`), from its blocks (§6.10); a sequence that no row has is looked for
+// in the map.
 pub fn nth_block(map: &MapNumbers, row: &BlockRow, f: usize, s: usize) -> usize
     requires { ⌜ PartsAt (now row) (now map) f ⌝ }
     ensures { λ r. ⌜ r ≡ lowest (λ (b : ℕ). isPart f s (loadedRecord (now (map .entry)) b)) blocks ⌝ }

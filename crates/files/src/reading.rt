@@ -92,7 +92,8 @@ fn part_length(o: usize, n: usize) -> usize
     if room < n { room } else { n }
 }
 
-// Copies n bytes of the file in slot k, those after its first 64 (§6.16), to the buffer, block by block (§8.7).
+// Copies n bytes of the file in slot k, those after its first 64 (§6.16), to the buffer, block by block (§8.7): byte i
+// of the file is in the block with sequence i / 1,536 (§6.10).
 fn copy_data(image: &[u8], map: &MapNumbers, k: usize, n: usize, out: &mut [u8])
     requires { ⌜ (length (now image) ≡ imageBytes) × MapLoaded (now map) (diskOf (now image)) × (n < 2 ^ 32) × (n ≤ length (now out)) ⌝ }
     ensures { λ _. ⌜ now (out .exit) ≡ overlay (now (out .entry)) 0 n (λ (i : ℕ). fileByte (diskOf (now (image .entry))) k (slotBytes + i)) ⌝ }
@@ -139,8 +140,8 @@ fn read_sound(image: &[u8], map: &MapNumbers, name: &[u8], out: &mut [u8]) -> Re
     read_slot(image, map, &dir, k, out)
 }
 
-// The call read (§8.7): a file's data. A file present is read as it was added (§9.6), as the model answers it (§9.3). A
-// refusal leaves the buffer as it was (§7.19).
+// The call read (§8.7), or 1 (§7.1) or 8 to 11 (§8.5): a file's data. A file present is read as it was added (§9.6), as
+// the model answers it (§9.3). A refusal leaves the buffer as it was (§7.19).
 pub fn read(image: &[u8], name: &[u8], out: &mut [u8]) -> Reply
     ensures { λ r. ⌜ (r ≡ Calls.read (now (image .entry)) (now (name .entry)) (now (out .entry)) .answer) × (now (out .exit) ≡ Calls.read (now (image .entry)) (now (name .entry)) (now (out .entry)) .buffer) ⌝ }
 {

@@ -120,7 +120,7 @@ pub fn bearer(r: Record) -> usize
     }
 }
 
-// Whether a record is sequence s of file f.
+// Whether a record is sequence s of file f (§6.10).
 pub fn is_part(r: Record, f: usize, s: usize) -> bool
     ensures { λ a. ⌜ a ≡ isPart f s r ⌝ }
 {
@@ -150,8 +150,8 @@ pub fn part_of(r: Record, f: usize, n: usize) -> usize
     }
 }
 
-// Whether a record is wrong for its block: block 0 has the system's and no other block has it, and each is of a kind
-// (§7.9).
+// Whether a record is wrong for its block (§7.9): block 0 has the system's and no other block has it, and each is of a
+// kind.
 pub fn record_fault(m: MapRecord) -> bool
     ensures { λ r. ⌜ r ≡ recordFault (m .block .0) (m .«record») ⌝ }
 {

@@ -77,7 +77,7 @@ pub fn entry_bytes(e: Entry) -> [u8; SLOT_BYTES]
     row
 }
 
-// Byte i of a file as written: its entry, its data, then zeros (§6.16).
+// Byte i of a file as written: its entry, its data, then zeros (§6.16). With an entry's bytes this is `storedByte`.
 fn stored_byte(head: &[u8], content: &[u8], i: usize) -> u8
     ensures { λ r. ⌜ r ≡ storedRow (now (head .entry)) (now (content .entry)) i ⌝ }
 {
@@ -167,7 +167,7 @@ pub fn update_counts(image: &mut [u8], map: &MapNumbers)
     step_update(image);
 }
 
-// An entry is written to slot k.
+// An entry is written to slot k (§8.12).
 pub fn write_entry(image: &mut [u8], map: &MapNumbers, k: usize, e: Entry)
     requires { ⌜ InStep (now map) (now image) ⌝ }
     ensures { λ _. ⌜ now (image .exit) ≡ imageOf (setSlot (diskOf (now (image .entry))) k (entryByte e)) ⌝ }
@@ -210,7 +210,7 @@ pub fn free_blocks(image: &mut [u8], map: &mut MapNumbers, f: usize)
     }
 }
 
-// Block b becomes part s of file f, and its record says so.
+// Block b becomes part s of file f, and its record says so (§8.11): one step of `giveBlocks`.
 fn give_block(
     image: &mut [u8],
     map: &mut MapNumbers,
@@ -227,7 +227,8 @@ fn give_block(
     place_record(image, map, b, Record::File(f as u16, s as u16));
 }
 
-// The n lowest free blocks are given to file f, from sequence s on (§8.11).
+// The n lowest free blocks are given to file f, in ascending order, from sequence s on (§8.11): `giveBlocks` of the
+// lowest free blocks.
 pub fn give_blocks(
     image: &mut [u8],
     map: &mut MapNumbers,

@@ -88,7 +88,8 @@ first p f none (suc n) i = cond (p i) (f i) (first p f none n (suc i))
 abbrev pub gapCells : ℕ
 gapCells = 688
 
--- the field whose run begins at cell place j: present if FB follows and all its cells are before the end (§4.5 §4.6)
+-- the field whose run begins at cell place j: present if FB follows and all its cells are before the end (§4.5); what the sector gives by it: its bytes,
+-- which begin 64 cells after the run does, a CRC that does not hold, or no field (§4.6)
 unfoldable pub fieldAt : List ℕ → ℕ → Sector
 fieldAt c j =
     cond (leb fieldCells (length (from c j)) && eqb (dataByte (from c j) 48) dataMark)

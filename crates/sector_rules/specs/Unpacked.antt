@@ -1,4 +1,4 @@
--- Unpacking an HFE image to a block image (docs/RULES.md, section 8), and the replies 1 and 4 to 7 (section 7).
+-- Unpacking an HFE image to a block image (docs/RULES.md, section 8), and the replies 1 to 7 (section 7).
 -- Assumes nothing: these are definitions.
 use mathlib.Core.Bool.{Bool, true, false, cond}
 use mathlib.Core.List.{List}
@@ -65,7 +65,8 @@ sectorsReply h = cond (ltb (firstBad h) allSectors) (sectorReply (firstBad h) (s
 abbrev pub leastHfe : ℕ
 leastHfe = 1024
 
--- the reply of unpack for an HFE image h and a block image of n bytes: 1 to 7 are judged in their order, in 1 the HFE image first (§8.1 §7.1 §7.18)
+-- the reply of unpack for an HFE image h and a block image of n bytes: 1, the HFE image first (§7.1), 2 with the lowest wrong field (§7.2),
+-- 3 with the lowest track whose entry is not good (§7.3), then 4 to 7 for the first bad sector (§8.1 §7.18)
 unfoldable pub unpackReply : List ℕ → ℕ → Reply
 unpackReply h n =
     cond (ltb (length h) leastHfe) wrongHfe

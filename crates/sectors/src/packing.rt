@@ -87,7 +87,7 @@ fn table_byte(j: usize) -> u8
     FILL
 }
 
-// Writes the table's unit.
+// Writes the table's unit (§5.3).
 fn write_table(hfe: &mut [u8])
     requires { ⌜ length (now hfe) ≡ hfeBytes ⌝ }
     ensures { λ _. ⌜ now (hfe .exit) ≡ overlay (now (hfe .entry)) unitBytes unitBytes hfeTableByte ⌝ }
@@ -106,7 +106,7 @@ fn items_of_run(u: usize) -> usize
     if RUN_ITEMS < left { RUN_ITEMS } else { left }
 }
 
-// Writes what unit u of a track has of side s, from `at` on: items, and FF after the side's last one (§5.5).
+// Writes what unit u of a track has of side s (`hfeTrackByte`), from `at` on: items, then FF past the side's end (§5.5).
 fn write_run(image: &[u8], t: usize, s: usize, u: usize, hfe: &mut [u8], at: usize)
     requires { ⌜ (length (now image) ≡ imageBytes) × (t < tracks) × (s < sides) × (u < trackUnits) × (at + runBytes ≤ length (now hfe)) ⌝ }
     ensures { λ _. ⌜ now (hfe .exit) ≡ overlay (now (hfe .entry)) at runBytes (runByte (now (image .entry)) t s u) ⌝ }
@@ -116,7 +116,7 @@ fn write_run(image: &[u8], t: usize, s: usize, u: usize, hfe: &mut [u8], at: usi
     fields::fill(hfe, at + 2 * n, RUN - 2 * n, FILL);
 }
 
-// Writes the units of all tracks, in each the half of side 0 and then that of side 1 (§2.6).
+// Writes the units of all tracks (`hfeByte` from unit 2 on), in each the half of side 0 and then that of side 1 (§2.6).
 fn write_tracks(image: &[u8], hfe: &mut [u8])
     requires { ⌜ (length (now image) ≡ imageBytes) × (length (now hfe) ≡ hfeBytes) ⌝ }
     ensures { λ _. ⌜ now (hfe .exit) ≡ overlay (now (hfe .entry)) (firstUnit * unitBytes) (trackUnits * tracks * unitBytes) (tracksByte (now (image .entry))) ⌝ }
@@ -145,8 +145,8 @@ fn write_hfe(image: &[u8], hfe: &mut [u8])
     write_tracks(image, hfe);
 }
 
-// Packs a block image into an HFE image (§8.2), or 1, with the HFE image first (§7.1). A refusal leaves the HFE image
-// as it was.
+// Packs a block image into an HFE image (§8.2), or 1, with the HFE image first (§7.1). A refusal leaves the HFE image as
+// it was (§7.19).
 pub fn pack(image: &[u8], hfe: &mut [u8]) -> Reply
     ensures { λ r. ⌜ (r ≡ packReply (length (now (image .entry))) (length (now (hfe .entry)))) × (now (hfe .exit) ≡ packHfe (now (image .entry)) (now (hfe .entry))) ⌝ }
 {

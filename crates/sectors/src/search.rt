@@ -68,7 +68,7 @@ pub fn header_at(part: &[u8], side: Side, i: usize) -> Header
     Header::Absent
 }
 
-// The answer with one more place found (§4.3).
+// The answer with one more place found (§4.3): `foundOf` of one place more.
 fn more(f: Found, i: usize) -> Found
     ensures { λ r. ⌜ r ≡ moreFound f i ⌝ }
 {
@@ -79,7 +79,7 @@ fn more(f: Found, i: usize) -> Found
     }
 }
 
-// Which of the nine sectors of this track and side a header belongs to, from 0; 9 where to none (§4.2).
+// Which of the nine sectors of this track and side a header belongs to (`isHeaderOf`), from 0; 9 where to none (§4.2).
 fn sector_index(header: Header, track: u8, head: u8) -> usize
     ensures { λ r. ⌜ Indexed r header track head ⌝ }
 {
@@ -99,7 +99,7 @@ fn sector_index(header: Header, track: u8, head: u8) -> usize
     }
 }
 
-// The search's answer for each of the nine sectors of a side: each place is tried once (§4.3).
+// The search's answer (`findSector`) for each of the nine sectors of a side: each place is tried once (§4.3).
 pub fn scan(part: &[u8], side: Side, track: u8, head: u8) -> [Found; Geometry::SECTORS]
     ensures { λ r. ⌜ Scanned r (stream (now (part .entry)) side) track head ⌝ }
 {
@@ -115,7 +115,8 @@ pub fn scan(part: &[u8], side: Side, track: u8, head: u8) -> [Found; Geometry::S
     found
 }
 
-// The field whose run begins at place j (§4.5). With detectable damage it is refused (§10.3).
+// The field whose run begins at place j: whether it is present (§4.5), and what the sector gives by it, its bytes 64
+// cells after the run's beginning or a CRC that does not hold (§4.6). With detectable damage it is refused (§10.3).
 fn field_at(part: &[u8], side: Side, j: usize) -> Sector
     requires { ⌜ j < 2 ^ 33 ⌝ }
     ensures { λ r. ⌜ r ≡ fieldAt (stream (now (part .entry)) side) j ⌝ }

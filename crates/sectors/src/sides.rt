@@ -17,8 +17,8 @@ use cells::Side;
 use sector_rules::Fault;
 use sector_rules::Sector;
 
-// What the nine sectors of a side give, each judged alone, R from 1 (§4.6). On a side whose runs were recorded apart,
-// with damage anywhere but no new run, a sector gives its recorded bytes or none (§10.4).
+// What the nine sectors of a side give, each judged alone (`sectorOf`), R from 1 (§4.6). On a side whose runs were
+// recorded apart, with damage anywhere but no new run, a sector gives its recorded bytes or none (§10.4).
 pub fn side_sectors(part: &[u8], side: Side, track: u8, head: u8) -> [Sector; Geometry::SECTORS]
     ensures { λ r. ⌜ SideGives r (stream (now (part .entry)) side) track head ⌝ }
 {
@@ -31,7 +31,7 @@ pub fn side_sectors(part: &[u8], side: Side, track: u8, head: u8) -> [Sector; Ge
     gives
 }
 
-// What the nine sectors of the n-th side of an HFE image give: image sectors 9n to 9n + 8 (§1.2).
+// What the nine sectors of the n-th side of an HFE image give (`sectorAt`): image sectors 9n to 9n + 8 (§1.2).
 pub fn image_side(hfe: &[u8], n: usize) -> [Sector; Geometry::SECTORS]
     requires { ⌜ (tableFault (now hfe) ≡ Fault.Sound) × (n < tracks * sides) ⌝ }
     ensures { λ r. ⌜ ImageSideGives r (now (hfe .entry)) n ⌝ }
@@ -53,7 +53,8 @@ fn write_sector(part: &[u8], side: Side, p: usize, image: &mut [u8], at: usize)
     }
 }
 
-// Writes nine sectors of a side, whose bytes are at the places from `at` on, as image sectors from `at` on.
+// Writes nine sectors of a side as image sectors from `at` on, each from byte 512 x its image sector on (§1.2); their
+// bytes (`sectorByte`) are at the places from `at` on.
 pub fn write_side(part: &[u8], side: Side, places: &[usize], at: usize, image: &mut [u8])
     requires { ⌜ (length (now places) ≡ allSectors) × (at + sectors ≤ allSectors) × (length (now image) ≡ imageBytes) ⌝ }
     ensures { λ _. ⌜ now (image .exit) ≡ overlay (now (image .entry)) (sectorBytes * at) (sectorBytes * sectors) (placedByte (stream (now (part .entry)) side) (now (places .entry)) at) ⌝ }

@@ -51,7 +51,7 @@ fn place_of(sector: Sector) -> usize
     }
 }
 
-// A refusal that names sector m by track, side and R (§1.2).
+// A refusal, 4 to 7, that names sector m by track, side and R (§1.2).
 fn at_sector(number: usize, m: usize) -> Reply
     requires { ⌜ m < allSectors ⌝ }
     ensures { λ r. ⌜ r ≡ replyWith number (trackOf m) (sideOf m) (rOf m) ⌝ }
@@ -79,7 +79,7 @@ fn sector_reply(m: usize, sector: Sector) -> Reply
 }
 
 // Judges the nine sectors of the n-th side, where those before it are good, and notes the places of their bytes. The
-// first bad sector decides, whatever its number (§7.18).
+// first bad sector decides, whatever its number (§7.18): its reply is `sectorsReply`.
 fn judge_side(hfe: &[u8], n: usize, places: &mut [usize]) -> Reply
     requires { ⌜ (tableFault (now hfe) ≡ Fault.Sound) × (n < tracks * sides) × (length (now places) ≡ allSectors) × Noted (now hfe) (now places) (sectors * n) ⌝ }
     ensures { λ r. ⌜ SectorsJudged (now (hfe .entry)) (now (places .exit)) (sectors * (n + 1)) r ⌝ }
@@ -96,7 +96,8 @@ fn judge_side(hfe: &[u8], n: usize, places: &mut [usize]) -> Reply
     done()
 }
 
-// Judges all sectors to the first bad one; where none is bad, `places` has the places of all sectors' bytes.
+// Judges all sectors to the first bad one, whose reply is `sectorsReply` (§7.18); where none is bad, `places` has the
+// places of all sectors' bytes.
 fn judge_all(hfe: &[u8], places: &mut [usize]) -> Reply
     requires { ⌜ (tableFault (now hfe) ≡ Fault.Sound) × (length (now places) ≡ allSectors) ⌝ }
     ensures { λ r. ⌜ AllJudged (now (hfe .entry)) (now (places .exit)) r ⌝ }
@@ -124,7 +125,8 @@ fn write_sides(hfe: &[u8], places: &[usize], image: &mut [u8])
     }
 }
 
-// Judges the sectors, and writes them where all are good, so that a refusal changes no byte (§7.19).
+// Judges the sectors (`sectorsReply`), and writes them (`unpackedByte`) where all are good, so that a refusal changes
+// no byte (§7.19).
 fn unpack_sectors(hfe: &[u8], image: &mut [u8]) -> Reply
     requires { ⌜ (tableFault (now hfe) ≡ Fault.Sound) × (length (now image) ≡ imageBytes) ⌝ }
     ensures { λ r. ⌜ SectorsUnpacked (now (hfe .entry)) (now (image .entry)) (now (image .exit)) r ⌝ }
@@ -138,8 +140,9 @@ fn unpack_sectors(hfe: &[u8], image: &mut [u8]) -> Reply
     replyWith
 }
 
-// Unpacks an HFE image to a block image (§8.1): 1, with the HFE image first (§7.1), to 7. A refusal leaves the block
-// image as it was. A packed image with one burst a side at most is refused or gives what was packed (§10.5).
+// Unpacks an HFE image to a block image (§8.1), or 1, the HFE image first (§7.1), 2 with the lowest wrong field (§7.2),
+// 3 with the lowest track whose entry is not good (§7.3), then 4 to 7. A refusal leaves the block image as it was
+// (§7.19). A packed image with one burst a side at most is refused or gives what was packed (§10.5).
 pub fn unpack(hfe: &[u8], image: &mut [u8]) -> Reply
     ensures { λ r. ⌜ (r ≡ unpackReply (now (hfe .entry)) (length (now (image .entry)))) × (now (image .exit) ≡ unpackImage (now (hfe .entry)) (now (image .entry))) ⌝ }
 {

@@ -197,7 +197,8 @@ fn bit_before(image: &[u8], t: usize, s: usize, q: usize) -> u8
     cells::last_bit(side_item(image, t, s, q - 1))
 }
 
-// Writes n items of a side from item `first` on, two bytes each, into the HFE image from `at` on. The bit before an item is carried along.
+// Writes n items of a side from item `first` on (`writtenCell`), two bytes each (§3.1), into the HFE image from `at` on.
+// The bit before an item is carried along (§3.4).
 pub fn write_items(
     image: &[u8],
     t: usize,

@@ -1,6 +1,4 @@
 //! The call `add`.
-//!
-//! Rules: §8.9 to §8.12.
 
 use crate::directory::{is_held, SLOTS_PER_BLOCK};
 use crate::geometry::BLOCK_LEN;
@@ -11,7 +9,7 @@ use crate::layout::set_word;
 use crate::reply::{Refusal, Reply};
 use crate::volume::{judge_file_name, Volume};
 
-/// Adds a file. The image changes only if all of it fits.
+/// Adds a file (§8.9). A refusal changes nothing (§7.19).
 pub fn add(image: &mut [u8], name: &[u8], date: u32, data: &[u8]) -> Reply {
     match with_file(image, name, date, data) {
         Ok(volume) => {
@@ -22,7 +20,10 @@ pub fn add(image: &mut [u8], name: &[u8], date: u32, data: &[u8]) -> Reply {
     }
 }
 
-/// The volume with the file in it, or the refusal.
+/// The volume with the file in it, and nothing else changed (§8.12), or the
+/// refusal: 12 (§7.12), 13 (§7.13) or 15 (§7.15). A slot at the end whose number
+/// is a multiple of 24 needs a block for the directory, before the file's own
+/// (§8.10), which are those of its data and 64 bytes more (§6.17).
 fn with_file(image: &[u8], name: &[u8], date: u32, data: &[u8]) -> Result<Volume, Refusal> {
     let mut volume = Volume::of_image(image)?;
     judge_file_name(name)?;
@@ -51,16 +52,16 @@ fn with_file(image: &[u8], name: &[u8], date: u32, data: &[u8]) -> Result<Volume
     Ok(volume)
 }
 
-/// The slot that an add takes: the lowest vacant one, or the one at the end. Slot 0 is
-/// never vacant.
+/// The slot that an add takes: the lowest vacant one, or the one at the end
+/// (§8.9). Slot 0 is never vacant (§6.12).
 fn slot_for_new_file(volume: &Volume) -> usize {
     let vacant = (1..volume.slots.len()).find(|&slot| !is_held(slot, &volume.slots[slot]));
     vacant.unwrap_or(volume.slots.len())
 }
 
 impl Volume {
-    /// Gives the next free blocks to a file, from a sequence number on, and
-    /// fills them with the bytes; the rest of the last one is zero.
+    /// Gives the next free blocks to a file, from a sequence number on (§8.11),
+    /// and fills them with the bytes; the rest of the last one is zero (§6.16).
     fn put_blocks(
         &mut self,
         free: &mut impl Iterator<Item = usize>,
@@ -78,7 +79,7 @@ impl Volume {
         }
     }
 
-    /// Writes the directory's length, blocks and bytes over.
+    /// Writes the directory's length, blocks and bytes over (§6.6).
     fn set_directory_len(&mut self, len: usize) {
         let block_0 = self.disk.block_mut(0);
         set_word(block_0, DIRECTORY_LEN, len / BLOCK_LEN);

@@ -1,23 +1,21 @@
 //! Cells in bytes: the stream of a side within a track's part of an HFE
 //! image, the stream of a plain buffer, and the way back to bytes.
-//!
-//! Rules: §2.6, §3.1, §3.2.
 
-/// Bytes in one unit of an HFE image.
+/// Bytes in one unit of an HFE image (§2.1).
 pub const UNIT_LEN: usize = 512;
 
 /// Bytes in a unit that belong to one side.
 pub const HALF_UNIT_LEN: usize = 256;
 
-/// Number of bytes one side has in a track of `track_len` bytes.
+/// Number of bytes one side has in a track of `track_len` bytes (§2.6).
 pub fn side_len(track_len: usize) -> usize {
     track_len / 2
 }
 
 /// Where byte `index` of `side` (0 or 1) stands in a track's part.
 ///
-/// Side 0 has the first half of each unit and side 1 the second. The last
-/// unit is no exception: both halves are filled from their own start.
+/// Side 0 has the first half of each unit and side 1 the second (§2.6). The
+/// last unit is no exception: both halves are filled from their own start.
 pub fn place_in_part(side: usize, index: usize) -> usize {
     let unit = index / HALF_UNIT_LEN;
     let within = index % HALF_UNIT_LEN;
@@ -36,14 +34,14 @@ pub fn side_bytes(part: &[u8], track_len: usize, side: usize) -> Vec<u8> {
         .collect()
 }
 
-/// The cells of one side, each 0 or 1, first cell first.
+/// The cells of one side as a line, each 0 or 1, first cell first (§3.2).
 ///
 /// Takes and demands the same as [`side_bytes`].
 pub fn side_cells(part: &[u8], track_len: usize, side: usize) -> Vec<u8> {
     buffer_cells(&side_bytes(part, track_len, side))
 }
 
-/// The cells of a plain buffer: of each byte the lowest bit comes first.
+/// The cells of a plain buffer: of each byte the lowest bit comes first (§3.1).
 pub fn buffer_cells(bytes: &[u8]) -> Vec<u8> {
     let mut cells = Vec::new();
     for byte in bytes {
@@ -54,7 +52,7 @@ pub fn buffer_cells(bytes: &[u8]) -> Vec<u8> {
     cells
 }
 
-/// Packs cells into bytes, the first cell of each eight in the lowest bit.
+/// Packs cells into bytes, the first cell of each eight in the lowest bit (§3.1).
 ///
 /// If the last byte is not filled, its unused bits are 0.
 pub fn pack_cells(cells: &[u8]) -> Vec<u8> {

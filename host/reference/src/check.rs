@@ -1,11 +1,9 @@
 //! The call `check`.
-//!
-//! Rules: §8.5.
 
 use crate::reply::Reply;
 use crate::volume::Volume;
 
-/// Judges the image: 1 and 8 to 11.
+/// Judges the image: 1 and 8 to 11 (§8.5).
 pub fn check(image: &[u8]) -> Reply {
     match Volume::of_image(image) {
         Ok(_) => Reply::DONE,

@@ -1,6 +1,4 @@
-//! A copy of the block image, in block order.
-//!
-//! Rules: §1.3. Only this file and `first_track` know where the sectors of a
+//! A copy of the block image, in block order (§1.3). Only this file and `first_track` know where the sectors of a
 //! block stand in the image.
 
 use crate::field::SECTOR_LEN;
@@ -21,7 +19,7 @@ impl Disk {
         }
     }
 
-    /// The disk of an image; refusal 1 if the image has a wrong length.
+    /// The disk of an image (§1.3); refusal 1 if the image has a wrong length.
     pub fn of_image(image: &[u8]) -> Result<Disk, Refusal> {
         judge_image_len(image)?;
         let mut disk = Disk::zero();
@@ -53,7 +51,7 @@ impl Disk {
     }
 }
 
-/// Refusal 1 if the slice is no block image.
+/// Refusal 1 if the slice has not the bytes of a block image (§7.1).
 pub fn judge_image_len(image: &[u8]) -> Result<(), Refusal> {
     if image.len() == IMAGE_LEN {
         Ok(())
@@ -62,7 +60,7 @@ pub fn judge_image_len(image: &[u8]) -> Result<(), Refusal> {
     }
 }
 
-/// Where the bytes of the sector with this number stand.
+/// Where the bytes of the sector with this number stand (§1.2).
 fn sector_at(number: usize) -> std::ops::Range<usize> {
     SECTOR_LEN * number..SECTOR_LEN * (number + 1)
 }

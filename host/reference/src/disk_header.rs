@@ -1,6 +1,4 @@
 //! Judging the disk header.
-//!
-//! Rules: §6.1 to §6.7, §7.8.
 
 use crate::geometry::BLOCK_LEN;
 use crate::layout::entry::SLOT_LEN;
@@ -8,15 +6,17 @@ use crate::layout::header::{DIRECTORY_LEN, FIXED_WORDS, SHIFT, SHIFT_WORD, SIGNA
 use crate::layout::word_at;
 use crate::reply::Refusal;
 
-/// The directory's length in bytes.
+/// The directory's length in bytes (§6.6).
 pub fn directory_len(block_0: &[u8]) -> usize {
     BLOCK_LEN * word_at(block_0, DIRECTORY_LEN) + word_at(block_0, DIRECTORY_LEN + 2)
 }
 
-/// Judges the fields in order; refusal 8 at the first wrong one.
+/// Judges the letters (§6.1), the fixed words (§6.5), the directory's length
+/// (§6.6) and the track offset with the tables (§6.7), in order; refusal 8 at
+/// the first wrong one (§7.8).
 ///
-/// Name, number, update count and the bytes after the tables may be
-/// anything; the free word is judged with the map.
+/// Name, number and the bytes after the tables (§6.2) and the update count
+/// (§6.3) may be anything; the free word is judged with the map (§6.4).
 pub fn judge_disk_header(block_0: &[u8]) -> Result<(), Refusal> {
     let mut fields = vec![(0, block_0[0..4] == SIGNATURE)];
     for (offset, word) in FIXED_WORDS {
@@ -35,7 +35,7 @@ pub fn judge_disk_header(block_0: &[u8]) -> Result<(), Refusal> {
     Ok(())
 }
 
-/// At least one whole slot, only whole slots, and less than a block over.
+/// At least one whole slot, only whole slots, and less than a block over (§6.6).
 fn is_directory_len_good(block_0: &[u8]) -> bool {
     let len = directory_len(block_0);
     let over = word_at(block_0, DIRECTORY_LEN + 2);

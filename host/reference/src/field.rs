@@ -1,20 +1,18 @@
-//! The data field that follows a header.
-//!
-//! Rules: §4.4, §4.5. The field may begin at a cell place of either parity,
+//! The data field that follows a header. The field may begin at a cell place of either parity,
 //! whatever the header's is.
 
 use crate::crc::crc_of_field;
 use crate::header::{crc_at, HEADER_CELLS, SYNC_RUN_CELLS};
 use crate::mfm::{data_byte, data_bytes, is_three_sync, CELLS_PER_BYTE};
 
-/// The mark of a data field.
+/// The mark of a data field (§4.5).
 pub const DATA_MARK: u8 = 0xFB;
 
-/// Bytes of data in a sector.
+/// Bytes of data in a sector (§1.1).
 pub const SECTOR_LEN: usize = 512;
 
 /// Most cells between the end of the header's CRC and the first sync byte
-/// of its data field.
+/// of its data field (§4.4).
 pub const GAP_LIMIT: usize = 688;
 
 /// What a header has for a data field.
@@ -33,15 +31,16 @@ pub enum DataField {
 }
 
 /// Where the first run of three sync bytes begins, from the first cell after
-/// the header's CRC to 688 cells after it, both included.
+/// the header's CRC to 688 cells after it, both included (§4.4).
 pub fn field_sync(cells: &[u8], header_place: usize) -> Option<usize> {
     let header_end = header_place + HEADER_CELLS;
     (header_end..=header_end + GAP_LIMIT).find(|&place| is_three_sync(cells, place))
 }
 
-/// The data field of the header that begins at `header_place`.
+/// The data field of the header that begins at `header_place` (§4.5); with
+/// detectable damage it is not present or its CRC does not hold (§10.3).
 ///
-/// Only the first sync run counts: if its mark is not the data mark (a
+/// Only the first sync run counts (§4.4): if its mark is not the data mark (a
 /// fourth sync byte is none either), later runs are not tried.
 pub fn data_field(cells: &[u8], header_place: usize) -> DataField {
     let Some(sync_place) = field_sync(cells, header_place) else {

@@ -1,6 +1,4 @@
 //! What the small program says of the first track.
-//!
-//! Rules: §8.14.
 
 use crate::disk_header::judge_disk_header;
 use crate::field::SECTOR_LEN;
@@ -24,7 +22,7 @@ pub struct FirstTrack {
     pub held: usize,
 }
 
-/// Judges the first track of an image and counts its blocks.
+/// Judges the first track of an image and counts its blocks (§8.14).
 pub fn first_track(track: &[u8]) -> FirstTrack {
     counted(track).unwrap_or_else(|refusal| FirstTrack {
         reply: refusal.reply(),
@@ -34,6 +32,7 @@ pub fn first_track(track: &[u8]) -> FirstTrack {
     })
 }
 
+/// The counts, or 1, 8, 9 or 11, in this order (§8.14).
 fn counted(track: &[u8]) -> Result<FirstTrack, Refusal> {
     if track.len() != TRACK_LEN {
         return Err(Refusal::Size(Lent::Blocks));
@@ -51,7 +50,7 @@ fn counted(track: &[u8]) -> Result<FirstTrack, Refusal> {
     })
 }
 
-/// Block 0, whose sectors all stand on the first track.
+/// Block 0, whose sectors all stand on the first track (§1.5).
 fn first_block(track: &[u8]) -> Vec<u8> {
     let mut block = Vec::new();
     for sector in 0..SECTORS_PER_BLOCK {

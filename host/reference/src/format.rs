@@ -1,6 +1,4 @@
 //! The call `format`.
-//!
-//! Rules: §8.4.
 
 use crate::disk::{judge_image_len, Disk};
 use crate::geometry::BLOCKS;
@@ -10,7 +8,7 @@ use crate::layout::record::Record;
 use crate::map::{free_sectors, set_record};
 use crate::reply::{Refusal, Reply};
 
-/// Writes an empty disk over the image. A disk name may be empty.
+/// Writes an empty disk over the image (§8.4). A disk name may be empty.
 pub fn format(image: &mut [u8], name: &[u8], number: u16) -> Reply {
     match judge(image, name) {
         Ok(()) => {
@@ -21,6 +19,7 @@ pub fn format(image: &mut [u8], name: &[u8], number: u16) -> Reply {
     }
 }
 
+/// Refusals 1 (§7.1) and 12 (§7.12).
 fn judge(image: &[u8], name: &[u8]) -> Result<(), Refusal> {
     judge_image_len(image)?;
     if name.len() > DISK_NAME_LEN {
@@ -29,7 +28,7 @@ fn judge(image: &[u8], name: &[u8]) -> Result<(), Refusal> {
     Ok(())
 }
 
-/// The record of a block on an empty disk: block 1 is the directory's.
+/// The record of a block on an empty disk: block 1 is the directory's (§8.4).
 fn fresh_record(block: usize) -> Record {
     match block {
         0 => Record::System,
@@ -41,6 +40,7 @@ fn fresh_record(block: usize) -> Record {
     }
 }
 
+/// An empty disk: header and map, and zero in all other bytes (§8.4).
 fn fresh_disk(name: &[u8], number: u16) -> Disk {
     let records: Vec<Record> = (0..BLOCKS).map(fresh_record).collect();
     let header = Header {

@@ -1,12 +1,9 @@
 //! Sector headers: what stands at a cell place, and the search of a side.
-//!
-//! Rules: §4.1 to §4.3. Every cell place is tried, so a header inside a data
-//! field counts like any other.
 
 use crate::crc::crc_of_field;
 use crate::mfm::{data_byte, data_bytes, is_three_sync, CELLS_PER_BYTE};
 
-/// The mark of a header.
+/// The mark of a header (§4.1).
 pub const HEADER_MARK: u8 = 0xFE;
 
 /// The size code N of a 512-byte sector.
@@ -18,7 +15,7 @@ pub const SECTORS_PER_SIDE: u8 = 9;
 /// Cells of three sync bytes.
 pub const SYNC_RUN_CELLS: usize = 3 * CELLS_PER_BYTE;
 
-/// Cells of a whole header: three sync bytes, the mark, C, H, R, N, CRC.
+/// Cells of a whole header: three sync bytes, the mark, C, H, R, N, CRC (§4.1).
 pub const HEADER_CELLS: usize = (3 + 1 + 4 + 2) * CELLS_PER_BYTE;
 
 /// Which sector is meant.
@@ -46,8 +43,8 @@ pub struct Header {
 }
 
 impl Header {
-    /// Whether this header belongs to the sector. No header belongs to a
-    /// sector whose R is not 1 to 9.
+    /// Whether this header belongs to the sector (§4.2). No header belongs to
+    /// a sector whose R is not 1 to 9.
     pub fn belongs_to(&self, id: SectorId) -> bool {
         self.c == id.track
             && self.h == id.side
@@ -57,7 +54,7 @@ impl Header {
     }
 }
 
-/// What the search for a sector's header answers.
+/// What the search for a sector's header answers (§4.3).
 #[derive(Clone, Copy, Debug, PartialEq, Eq)]
 pub enum Search {
     /// Exactly one; its first sync byte begins at this cell place.
@@ -69,7 +66,7 @@ pub enum Search {
 }
 
 /// The header whose first sync byte begins at `place`, if one stands there
-/// whole before the stream's end and with a CRC that holds.
+/// whole before the stream's end and with a CRC that holds (§4.1).
 pub fn header_at(cells: &[u8], place: usize) -> Option<Header> {
     if !is_three_sync(cells, place) || place + HEADER_CELLS > cells.len() {
         return None;
@@ -91,13 +88,14 @@ pub fn header_at(cells: &[u8], place: usize) -> Option<Header> {
     })
 }
 
-/// The CRC stored at `place`, high byte first.
+/// The CRC stored at `place`, high byte first (§3.9).
 pub fn crc_at(cells: &[u8], place: usize) -> u16 {
     let bytes = data_bytes(cells, place, 2);
     u16::from_be_bytes([bytes[0], bytes[1]])
 }
 
-/// Every header of the stream with its cell place, all places tried in order.
+/// Every header of the stream with its cell place. All places are tried, in
+/// order, so a header inside a data field counts like any other (§4.3).
 pub fn all_headers(cells: &[u8]) -> Vec<(usize, Header)> {
     let mut headers = Vec::new();
     for place in 0..cells.len() {
@@ -108,7 +106,7 @@ pub fn all_headers(cells: &[u8]) -> Vec<(usize, Header)> {
     headers
 }
 
-/// Looks for the sector's header among the headers of its side.
+/// Looks for the sector's header among the headers of its side (§4.3).
 pub fn search(headers: &[(usize, Header)], id: SectorId) -> Search {
     let mut places = Vec::new();
     for (place, header) in headers {

@@ -1,37 +1,36 @@
 //! The header of an HFE image.
-//!
-//! Rules: §2.1 to §2.3, §7.2.
 
 use crate::cells::UNIT_LEN;
 use crate::geometry::{SIDES, TRACKS};
 use crate::reply::Refusal;
 
-/// Fewest bytes of an HFE image that is read.
+/// Fewest bytes of an HFE image that is read (§7.1).
 pub const SHORTEST: usize = 1024;
 
-/// The signature of versions 1 and 2.
+/// The letters that an HFE image begins with (§2.2).
 pub const SIGNATURE: [u8; 8] = *b"HXCPICFE";
 
 /// Thousands of bits a second.
 pub const BIT_RATE: u16 = 250;
 
-/// What unused bytes hold, and switches that are off.
+/// What unused bytes hold (§5.5), and switches that are off.
 pub const UNUSED: u8 = 0xFF;
 
 /// Offset of the track table's place in the header.
 const TABLE_FIELD: usize = 18;
 
-/// The two little-endian bytes at `offset`.
+/// The two bytes at `offset` as a number, low byte first (§2.1).
 pub fn word_at(hfe: &[u8], offset: usize) -> usize {
     usize::from(u16::from_le_bytes([hfe[offset], hfe[offset + 1]]))
 }
 
-/// Where the track table begins.
+/// Where the track table begins: at a unit (§2.1).
 pub fn table_start(hfe: &[u8]) -> usize {
     UNIT_LEN * word_at(hfe, TABLE_FIELD)
 }
 
-/// Judges the header fields in order; refusal 2 at the first wrong one.
+/// Judges the letters and the revision (§2.2) and the other fields (§2.3), in
+/// order; refusal 2 at the first wrong one (§7.2).
 ///
 /// The byte after a switch (23 after 22, 25 after 24) is judged only where
 /// the switch is 00, which asks for another encoding.
@@ -58,7 +57,7 @@ pub fn judge_header(hfe: &[u8]) -> Result<(), Refusal> {
     Ok(())
 }
 
-/// The header of a written image, one unit.
+/// The header of a written image, one unit: its fields (§5.4), else FF (§5.5).
 pub fn written_header() -> [u8; UNIT_LEN] {
     let mut header = [UNUSED; UNIT_LEN];
     header[0..8].copy_from_slice(&SIGNATURE);

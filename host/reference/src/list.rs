@@ -1,13 +1,11 @@
 //! The call `list`.
-//!
-//! Rules: §8.6.
 
 use crate::buffer::give;
 use crate::reply::{Refusal, Reply};
 use crate::volume::Volume;
 
-/// Writes the held slots into the buffer as they stand, in order; the count
-/// of bytes is the reply's first place.
+/// Writes the held slots into the buffer as they stand, in order (§8.6); the
+/// count of bytes is the reply's first place (§7.17).
 pub fn list(image: &[u8], out: &mut [u8]) -> Reply {
     match held_bytes(image) {
         Ok(bytes) => give(&bytes, out),

@@ -1,6 +1,4 @@
 //! The map: a record for each block.
-//!
-//! Rules: §6.8 to §6.10, §7.9, §7.11.
 
 use crate::geometry::{BLOCKS, SECTORS_PER_BLOCK};
 use crate::layout::header::{FREE, HEADER_LEN};
@@ -8,7 +6,7 @@ use crate::layout::record::{Record, RECORD_LEN};
 use crate::layout::word_at;
 use crate::reply::Refusal;
 
-/// Where the record of a block stands in block 0.
+/// Where the record of a block stands in block 0 (§6.8).
 fn record_place(block: usize) -> usize {
     HEADER_LEN + RECORD_LEN * block
 }
@@ -26,7 +24,8 @@ pub fn set_record(block_0: &mut [u8], block: usize, record: Record) {
 }
 
 /// The records of all blocks; refusal 9 at the first block whose record is
-/// none, or is system without being that of block 0, or the other way round.
+/// none, or is system without being that of block 0, or the other way
+/// round (§7.9).
 pub fn judge_map(block_0: &[u8]) -> Result<Vec<Record>, Refusal> {
     let mut records = Vec::new();
     for block in 0..BLOCKS {
@@ -38,13 +37,13 @@ pub fn judge_map(block_0: &[u8]) -> Result<Vec<Record>, Refusal> {
     Ok(records)
 }
 
-/// Sectors in the free blocks.
+/// Sectors in the free blocks: the free word (§6.4).
 pub fn free_sectors(records: &[Record]) -> usize {
     let free = records.iter().filter(|&&record| record == Record::Free);
     SECTORS_PER_BLOCK * free.count()
 }
 
-/// Refusal 11 if the free word does not fit the map.
+/// Refusal 11 if the free word does not fit the map (§7.11).
 pub fn judge_free_word(block_0: &[u8], records: &[Record]) -> Result<(), Refusal> {
     if word_at(block_0, FREE) == free_sectors(records) {
         Ok(())

@@ -1,20 +1,18 @@
 //! MFM: bytes to cells, the two marks with a clock left out, and reading.
-//!
-//! Rules: §3.3 to §3.6.
 
-/// Cells of one byte: a clock cell and a data cell for each bit.
+/// Cells of one byte: a clock cell and a data cell for each bit (§3.3).
 pub const CELLS_PER_BYTE: usize = 16;
 
 /// The data of a sync byte.
 pub const SYNC_BYTE: u8 = 0xA1;
 
-/// The cells of a sync byte, first cell highest.
+/// The cells of a sync byte, first cell highest (§3.5).
 pub const SYNC_CELLS: u16 = 0x4489;
 
 /// The data of an index mark byte.
 pub const INDEX_BYTE: u8 = 0xC2;
 
-/// The cells of an index mark byte, first cell highest.
+/// The cells of an index mark byte, first cell highest (§3.5).
 pub const INDEX_CELLS: u16 = 0x5224;
 
 /// The sixteen cells of a word whose highest bit is the first cell.
@@ -26,7 +24,7 @@ pub fn word_cells(word: u16) -> [u8; CELLS_PER_BYTE] {
     cells
 }
 
-/// The clock cell between two data bits: 1 exactly if both are 0.
+/// The clock cell between two data bits: 1 exactly if both are 0 (§3.4).
 pub fn clock_cell(last_bit: u8, bit: u8) -> u8 {
     if last_bit == 0 && bit == 0 {
         1
@@ -37,7 +35,7 @@ pub fn clock_cell(last_bit: u8, bit: u8) -> u8 {
 
 /// The cells of a byte that follows the data bit `last_bit`.
 ///
-/// The highest bit of the byte comes first.
+/// The highest bit of the byte comes first (§3.3).
 pub fn encode_byte(byte: u8, last_bit: u8) -> [u8; CELLS_PER_BYTE] {
     let mut cells = [0; CELLS_PER_BYTE];
     let mut last = last_bit;
@@ -50,14 +48,14 @@ pub fn encode_byte(byte: u8, last_bit: u8) -> [u8; CELLS_PER_BYTE] {
     cells
 }
 
-/// The cell at `place`, or 0 past the end of the stream.
+/// The cell at `place`, or 0 past the end of the stream (§3.2).
 pub fn cell_at(cells: &[u8], place: usize) -> u8 {
     cells.get(place).copied().unwrap_or(0)
 }
 
 /// The byte whose first clock cell is at `place`: the eight data cells, the
-/// first of them highest. Clock cells are not looked at, and cells past the
-/// end of the stream count as 0.
+/// first of them highest. Clock cells are not looked at (§3.6), and cells past
+/// the end of the stream count as 0.
 pub fn data_byte(cells: &[u8], place: usize) -> u8 {
     let mut byte = 0;
     for index in 0..8 {
@@ -74,7 +72,7 @@ pub fn data_bytes(cells: &[u8], place: usize, count: usize) -> Vec<u8> {
         .collect()
 }
 
-/// Whether a sync byte stands at `place`, wholly before the stream's end.
+/// Whether a sync byte stands at `place`, wholly before the stream's end (§3.7).
 ///
 /// This is the one test that looks at clock cells.
 pub fn is_sync(cells: &[u8], place: usize) -> bool {
@@ -84,7 +82,7 @@ pub fn is_sync(cells: &[u8], place: usize) -> bool {
     }
 }
 
-/// Whether three sync bytes stand one after another from `place` on.
+/// Whether a run, three sync bytes one after another, begins at `place` (§3.7).
 pub fn is_three_sync(cells: &[u8], place: usize) -> bool {
     is_sync(cells, place)
         && is_sync(cells, place + CELLS_PER_BYTE)

@@ -1,14 +1,12 @@
 //! The call `remove`.
-//!
-//! Rules: §8.13.
 
 use crate::layout::entry::SLOT_LEN;
 use crate::layout::record::Record;
 use crate::reply::{Refusal, Reply};
 use crate::volume::Volume;
 
-/// Removes the named file, with all bytes of its blocks and its slot. The
-/// directory keeps its length.
+/// Removes the named file, with all bytes of its blocks and its slot (§8.13).
+/// The directory keeps its length. A refusal changes nothing (§7.19).
 pub fn remove(image: &mut [u8], name: &[u8]) -> Reply {
     match without_file(image, name) {
         Ok(volume) => {
@@ -19,7 +17,7 @@ pub fn remove(image: &mut [u8], name: &[u8]) -> Reply {
     }
 }
 
-/// The volume without the file, or the refusal.
+/// The volume without the file (§8.13), or the refusal.
 fn without_file(image: &[u8], name: &[u8]) -> Result<Volume, Refusal> {
     let mut volume = Volume::of_image(image)?;
     let file = volume.named_file(name)?;

@@ -1,10 +1,8 @@
 //! What calls answer: a number and three places.
-//!
-//! Rules: §7.17.
 
 use crate::header::SectorId;
 
-/// Number and places of an answer; the number 0 means done.
+/// Number and places of an answer; the number 0 means done (§7.17).
 #[derive(Clone, Copy, Debug, PartialEq, Eq)]
 pub struct Reply {
     /// 0, or the refusal's number.
@@ -31,7 +29,7 @@ impl Reply {
         }
     }
 
-    /// Done, with a count or a place to tell.
+    /// Done, with a count or a place to tell (§7.17).
     pub const fn done_with(first: usize) -> Reply {
         Reply::new(0, [first, 0, 0])
     }
@@ -54,31 +52,31 @@ pub enum Lent {
 /// Why a call is refused.
 #[derive(Clone, Copy, Debug, PartialEq, Eq)]
 pub enum Refusal {
-    /// A lent slice has a wrong length.
+    /// A lent slice has a wrong length (§7.1).
     Size(Lent),
-    /// The field at this offset of the HFE header is wrong.
+    /// The field at this offset of the HFE header is wrong (§7.2).
     HfeHeader(usize),
-    /// The table entry of this track is not good.
+    /// The table entry of this track is not good (§7.3).
     TableEntry(usize),
-    /// The sector cannot be read; the number is 4 to 7.
+    /// The sector cannot be read: 4 (§7.4), 5 (§7.5), 6 (§7.6) or 7 (§7.7).
     Sector(u8, SectorId),
-    /// The field at this offset of the disk header is wrong.
+    /// The field at this offset of the disk header is wrong (§7.8).
     DiskHeader(usize),
-    /// The map record of this block is wrong.
+    /// The map record of this block is wrong (§7.9).
     MapRecord(usize),
-    /// The directory is not sound at this file number.
+    /// The file of this number is not sound (§7.10).
     Directory(usize),
-    /// The free word is not that of the map.
+    /// The free word is not that of the map (§7.11).
     FreeWord,
-    /// Block, sector or name out of range.
+    /// Block, sector or length of a name out of range (§7.12).
     Argument,
-    /// The name to add is that of this slot.
+    /// The name to add is that of this slot (§7.13).
     NamePresent(usize),
-    /// No file has the name.
+    /// No file has the name (§7.14).
     NoSuchName,
-    /// The free blocks are too few.
+    /// The free blocks are too few (§7.15).
     TooFewBlocks,
-    /// The lent buffer is shorter than these bytes.
+    /// The lent buffer is shorter than these bytes (§7.16).
     BufferTooShort(usize),
 }
 

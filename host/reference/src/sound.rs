@@ -1,6 +1,4 @@
 //! Whether the directory is sound.
-//!
-//! Rules: §7.10, §7.20 to §7.22.
 
 use crate::directory::{all_slots, file_blocks, is_held};
 use crate::disk::Disk;
@@ -25,14 +23,15 @@ fn sequences_by_file(records: &[Record]) -> Vec<Vec<usize>> {
     sequences
 }
 
-/// Whether these are 0 up to the number of blocks less 1, each once.
+/// Whether these are 0 up to the number of blocks less 1, each once (§7.20).
 fn are_sequences_of(sequences: &[usize], file_len: usize) -> bool {
     let blocks = file_len.div_ceil(BLOCK_LEN);
     sequences.iter().copied().eq(0..blocks)
 }
 
 /// The directory's slots, or refusal 10 with the lowest file number at which
-/// the directory is not sound.
+/// the directory is not sound (§7.10); no record may bear the number of a slot
+/// that no file holds (§7.22).
 ///
 /// Without the directory's own blocks its slots cannot be read, so file 0 is
 /// judged first. A name is noted when its slot is judged; the second slot of
@@ -61,8 +60,8 @@ pub fn judge_directory(
     Ok(slots)
 }
 
-/// Whether a held slot is sound, given the sequences of its file and the
-/// names of lower slots.
+/// Whether a held slot is sound, given the sequences of its file (§7.20) and
+/// the names of lower slots (§7.21).
 fn is_file_sound(slot: &[u8], sequences: &[usize], names: &mut HashSet<Vec<u8>>) -> bool {
     let entry = Entry::read(slot);
     let len = entry.len as usize;

@@ -1,14 +1,11 @@
 //! The track table of an HFE image.
-//!
-//! Rules: §2.4, §2.5. Tracks may lie over one another, the header and the
-//! table.
 
 use crate::cells::UNIT_LEN;
 use crate::geometry::TRACKS;
 use crate::hfe::{table_start, word_at};
 use crate::reply::Refusal;
 
-/// Bytes of a table entry.
+/// Bytes of a table entry (§2.4).
 pub const ENTRY_LEN: usize = 4;
 
 /// A good table entry.
@@ -21,13 +18,14 @@ pub struct Track {
 }
 
 impl Track {
-    /// Where the last unit of the track ends.
+    /// Where the last unit of the track ends: its part is its units (§2.6).
     pub fn end(&self) -> usize {
         self.start + UNIT_LEN * self.len.div_ceil(UNIT_LEN)
     }
 }
 
-/// The table entry of a track, if it is good.
+/// The table entry of a track (§2.4), if it is good (§2.5). Tracks may lie
+/// over one another, the header and the table.
 pub fn good_entry(hfe: &[u8], track: usize) -> Option<Track> {
     let entry = table_start(hfe) + ENTRY_LEN * track;
     if entry + ENTRY_LEN > hfe.len() {
@@ -41,7 +39,8 @@ pub fn good_entry(hfe: &[u8], track: usize) -> Option<Track> {
     good.then_some(found)
 }
 
-/// The entries of tracks 0 to 79; refusal 3 at the first that is not good.
+/// The entries of tracks 0 to 79 (§2.4); refusal 3 at the first that is not
+/// good (§7.3).
 pub fn judge_table(hfe: &[u8]) -> Result<Vec<Track>, Refusal> {
     let mut tracks = Vec::new();
     for track in 0..TRACKS {

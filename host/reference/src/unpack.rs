@@ -1,6 +1,4 @@
 //! From an HFE image to the block image.
-//!
-//! Rules: §8.1, and §7.1 to §7.7.
 
 use crate::cells::side_cells;
 use crate::geometry::{IMAGE_LEN, SIDES};
@@ -10,8 +8,10 @@ use crate::reply::{Lent, Refusal, Reply};
 use crate::sector::sector_after;
 use crate::track_table::judge_table;
 
-/// Writes the sectors of the HFE image into the block image, by track, side
-/// and R. All are judged before the first byte is written.
+/// Writes the sectors of the HFE image into the block image (§8.1), by track,
+/// side and R (§1.2). All are judged before the first byte is written, so that
+/// a refusal changes none (§7.19). With one burst a side at most a packed image
+/// is refused or gives what was packed (§10.5).
 pub fn unpack(hfe: &[u8], image: &mut [u8]) -> Reply {
     match read_disk(hfe, image.len()) {
         Ok(sectors) => {
@@ -22,7 +22,8 @@ pub fn unpack(hfe: &[u8], image: &mut [u8]) -> Reply {
     }
 }
 
-/// All sectors of the disk in image order, or the refusal.
+/// All sectors of the disk in image order, or the refusal: 1 (§7.1), 2 (§7.2),
+/// 3 (§7.3), then that of the first bad sector (§7.18).
 fn read_disk(hfe: &[u8], image_len: usize) -> Result<Vec<u8>, Refusal> {
     if hfe.len() < SHORTEST {
         return Err(Refusal::Size(Lent::Hfe));
@@ -43,7 +44,8 @@ fn read_disk(hfe: &[u8], image_len: usize) -> Result<Vec<u8>, Refusal> {
     Ok(sectors)
 }
 
-/// The nine sectors of a side in order of R, or the first one's refusal.
+/// The nine sectors of a side in order of R, or the first one's refusal, 4 to 7
+/// (§7.18), each judged alone (§4.6).
 fn read_side(cells: &[u8], track: u8, side: u8) -> Result<Vec<u8>, Refusal> {
     let headers = all_headers(cells);
     let mut sectors = Vec::new();

@@ -1,6 +1,4 @@
 //! A disk that has passed all of the check, with its map and directory.
-//!
-//! Rules: §8.5, §7.18.
 
 use crate::directory::{file_blocks, is_held, SLOTS_PER_BLOCK};
 use crate::disk::Disk;
@@ -26,7 +24,8 @@ pub struct Volume {
 }
 
 impl Volume {
-    /// The volume of an image, judged from 1 and 8 to 11.
+    /// The volume of an image, judged from 1 and 8 to 11 (§8.5), the lowest
+    /// number first (§7.18); nothing else of a disk is judged (§7.23).
     pub fn of_image(image: &[u8]) -> Result<Volume, Refusal> {
         let disk = Disk::of_image(image)?;
         let block_0 = disk.block(0);
@@ -41,31 +40,32 @@ impl Volume {
         })
     }
 
-    /// Numbers and bytes of the held slots, in order.
+    /// Numbers and bytes of the held slots, in order (§6.12).
     pub fn held_slots(&self) -> impl Iterator<Item = (usize, &[u8; SLOT_LEN])> {
         let numbered = self.slots.iter().enumerate();
         numbered.filter(|(number, slot)| is_held(*number, *slot))
     }
 
-    /// The held slot of this name.
+    /// The held slot of this name: same length, same bytes (§6.14).
     pub fn slot_of(&self, name: &[u8]) -> Option<usize> {
         self.held_slots()
             .find(|(_, slot)| Entry::read(*slot).name() == Some(name))
             .map(|(number, _)| number)
     }
 
-    /// The blocks of a file in sequence.
+    /// The blocks of a file in sequence (§6.10).
     pub fn blocks_of(&self, file: usize) -> Vec<usize> {
         file_blocks(&self.records, file)
     }
 
-    /// The free blocks, lowest first.
+    /// The free blocks, lowest first (§8.11).
     pub fn free_blocks(&self) -> Vec<usize> {
         let is_free = |&block: &usize| self.records[block] == Record::Free;
         (0..BLOCKS).filter(is_free).collect()
     }
 
-    /// The slot of the named file; refusal 12 or 14 if there is none.
+    /// The slot of the named file; refusal 12 (§7.12) or 14 (§7.14) if there
+    /// is none.
     pub fn named_file(&self, name: &[u8]) -> Result<usize, Refusal> {
         judge_file_name(name)?;
         self.slot_of(name).ok_or(Refusal::NoSuchName)
@@ -84,7 +84,8 @@ impl Volume {
         self.disk.block_mut(block)[start..start + SLOT_LEN].copy_from_slice(slot);
     }
 
-    /// Counts one accepted change, and sets the free word by the records.
+    /// Counts one accepted change (§6.3), and sets the free word by the
+    /// records (§6.4).
     pub fn count_update(&mut self) {
         let free = free_sectors(&self.records);
         let block_0 = self.disk.block_mut(0);
@@ -94,7 +95,7 @@ impl Volume {
     }
 }
 
-/// Refusal 12 if the file name has not 1 to 36 bytes.
+/// Refusal 12 (§7.12) if the file name has not 1 to 36 bytes (§6.15).
 pub fn judge_file_name(name: &[u8]) -> Result<(), Refusal> {
     if is_file_name_len(name.len()) {
         Ok(())

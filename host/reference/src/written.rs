@@ -1,19 +1,17 @@
 //! A side as it is written: its bytes and marks, and their cells.
-//!
-//! Rules: §5.1, §5.2.
 
 use crate::crc::crc_of_field;
 use crate::field::{DATA_MARK, SECTOR_LEN};
 use crate::header::{HEADER_MARK, SECTORS_PER_SIDE, SIZE_CODE};
 use crate::mfm::{encode_byte, word_cells, INDEX_BYTE, INDEX_CELLS, SYNC_BYTE, SYNC_CELLS};
 
-/// Items of a written side, each of 16 cells.
+/// Items of a written side, each of 16 cells (§5.2).
 pub const SIDE_ITEMS: usize = 6250;
 
 /// Bytes of data on a side: its nine sectors.
 pub const SIDE_DATA_LEN: usize = SECTORS_PER_SIDE as usize * SECTOR_LEN;
 
-/// The byte that gaps are made of.
+/// The byte that gaps are made of (§5.1 §5.2).
 pub const GAP_BYTE: u8 = 0x4E;
 
 /// The mark that follows the three index mark bytes.
@@ -40,7 +38,8 @@ impl Item {
         }
     }
 
-    /// Its cells when it follows the data bit `last_bit`.
+    /// Its cells when it follows the data bit `last_bit`; a mark has the
+    /// same cells after any (§3.5).
     pub fn cells(self, last_bit: u8) -> [u8; 16] {
         match self {
             Item::Byte(byte) => encode_byte(byte, last_bit),
@@ -51,7 +50,7 @@ impl Item {
 }
 
 /// The cells of items one after another; before the first the last bit
-/// counts as 0.
+/// counts as 0 (§3.4).
 pub fn item_cells(items: &[Item]) -> Vec<u8> {
     let mut cells = Vec::new();
     let mut last_bit = 0;
@@ -70,7 +69,7 @@ fn bytes(bytes: &[u8]) -> Vec<Item> {
     bytes.iter().map(|&byte| Item::Byte(byte)).collect()
 }
 
-/// The mark, the bytes after it and their CRC, after three sync bytes.
+/// The mark, the bytes after it and their CRC, after three sync bytes (§3.9).
 fn marked_items(mark: u8, body: &[u8]) -> Vec<Item> {
     [
         repeat(Item::Sync, 3),
@@ -81,7 +80,7 @@ fn marked_items(mark: u8, body: &[u8]) -> Vec<Item> {
     .concat()
 }
 
-/// What stands before the first sector, with the index mark.
+/// What stands before the first sector, with the index mark (§5.2).
 pub fn lead_items() -> Vec<Item> {
     [
         repeat(Item::Byte(GAP_BYTE), 80),
@@ -93,7 +92,7 @@ pub fn lead_items() -> Vec<Item> {
     .concat()
 }
 
-/// One sector, header and data field, with the gaps that belong to it.
+/// One sector, header and data field, with the gaps that belong to it (§5.1).
 pub fn sector_items(track: u8, side: u8, r: u8, data: &[u8; SECTOR_LEN]) -> Vec<Item> {
     [
         repeat(Item::Byte(0), 12),
@@ -106,7 +105,7 @@ pub fn sector_items(track: u8, side: u8, r: u8, data: &[u8; SECTOR_LEN]) -> Vec<
     .concat()
 }
 
-/// The 6,250 items of a side whose sectors, R = 1 first, hold `data`.
+/// The 6,250 items of a side whose sectors, R = 1 first, hold `data` (§5.2).
 pub fn side_items(track: u8, side: u8, data: &[u8; SIDE_DATA_LEN]) -> Vec<Item> {
     let mut items = lead_items();
     for r in 1..=SECTORS_PER_SIDE {

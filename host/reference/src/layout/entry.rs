@@ -2,13 +2,14 @@
 
 use super::{long_at, set_long, set_word, word_at};
 
-/// Bytes of a directory slot, and of the entry at a file's start.
+/// Bytes of a directory slot (§6.11), and of the entry at a file's start, which
+/// a read passes over (§6.16).
 pub const SLOT_LEN: usize = 64;
 
-/// Most bytes of a file name.
+/// Most bytes of a file name (§6.15).
 pub const FILE_NAME_LEN: usize = 36;
 
-/// A directory entry, as far as it has a meaning here.
+/// A directory entry, as far as it has a meaning here (§6.13).
 #[derive(Clone, Copy, Debug, PartialEq, Eq)]
 pub struct Entry {
     /// Bytes of the file, 64 more than its data.
@@ -35,7 +36,7 @@ impl Entry {
         }
     }
 
-    /// The entry in a slot.
+    /// The entry in a slot (§6.13).
     pub fn read(slot: &[u8]) -> Entry {
         let mut name_field = [0; FILE_NAME_LEN];
         name_field.copy_from_slice(&slot[16..16 + FILE_NAME_LEN]);
@@ -47,7 +48,7 @@ impl Entry {
         }
     }
 
-    /// Its bytes, those without a meaning zero.
+    /// Its bytes, those without a meaning zero (§6.13).
     pub fn bytes(&self) -> [u8; SLOT_LEN] {
         let mut slot = [0; SLOT_LEN];
         set_long(&mut slot, 0, self.len);
@@ -57,14 +58,14 @@ impl Entry {
         slot
     }
 
-    /// The name, if its length is 1 to 36.
+    /// The name, if its length is 1 to 36 (§7.21).
     pub fn name(&self) -> Option<&[u8]> {
         let len = usize::from(self.name_len);
         is_file_name_len(len).then(|| &self.name_field[..len])
     }
 }
 
-/// Whether a file name may have this many bytes.
+/// Whether a file name may have this many bytes (§6.15).
 pub fn is_file_name_len(len: usize) -> bool {
     (1..=FILE_NAME_LEN).contains(&len)
 }

@@ -6,28 +6,28 @@ use crate::geometry::{
     SIDE_AND_PLACE, TRACKS, TRACK_SHIFT,
 };
 
-/// The first bytes of a disk.
+/// The first bytes of a disk (§6.1).
 pub const SIGNATURE: [u8; 4] = *b"QL5A";
 
 /// Bytes of the disk header, before the map.
 pub const HEADER_LEN: usize = 96;
 
-/// Most bytes of a disk name.
+/// Most bytes of a disk name (§6.15).
 pub const DISK_NAME_LEN: usize = 10;
 
-/// Offset of the update count.
+/// Offset of the update count (§6.3).
 pub const UPDATES: usize = 16;
 
-/// Offset of the free word.
+/// Offset of the free word (§6.4).
 pub const FREE: usize = 20;
 
 /// Offset of the good word.
 pub const GOOD: usize = 22;
 
-/// Offset of the directory's length: blocks, then bytes over.
+/// Offset of the directory's length: blocks, then bytes over (§6.6).
 pub const DIRECTORY_LEN: usize = 34;
 
-/// The header's words from 22 to 32 that are the same on every disk.
+/// The header's words from 22 to 32 that are the same on every disk (§6.5).
 pub const FIXED_WORDS: [(usize, usize); 6] = [
     (GOOD, SECTORS),
     (24, SECTORS),
@@ -37,13 +37,13 @@ pub const FIXED_WORDS: [(usize, usize); 6] = [
     (32, SECTORS_PER_BLOCK),
 ];
 
-/// Offset of the word that tells the shift of a track against the next.
+/// Offset of the word that tells the shift of a track against the next (§6.7).
 pub const SHIFT: usize = 38;
 
 /// The value of that word.
 pub const SHIFT_WORD: usize = TRACK_SHIFT;
 
-/// The header's two tables and their offsets.
+/// The header's two tables and their offsets (§6.7).
 pub const TABLES: [(usize, [u8; SECTORS_PER_TRACK]); 2] = [(40, SIDE_AND_PLACE), (58, REMAINDER)];
 
 /// What differs from header to header.
@@ -62,7 +62,8 @@ pub struct Header {
 }
 
 impl Header {
-    /// The header's bytes.
+    /// The header's bytes: with the name filled with spaces, the number, and
+    /// FF after the tables (§6.2).
     pub fn bytes(&self) -> [u8; HEADER_LEN] {
         let mut header = [0xFF; HEADER_LEN];
         header[0..4].copy_from_slice(&SIGNATURE);

@@ -1,6 +1,5 @@
 //! How header, map records and directory entries are laid out in bytes.
-//!
-//! Rules: section 6 of `docs/RULES.md`. Numbers have their high byte first.
+//! Numbers have their high byte first.
 
 pub mod entry;
 pub mod header;

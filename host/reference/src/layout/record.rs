@@ -1,12 +1,12 @@
-//! A map record: 12 bits file, 12 bits sequence, highest first.
+//! A map record: 12 bits file, 12 bits sequence, highest first (§6.8).
 
 /// Bytes of a map record.
 pub const RECORD_LEN: usize = 3;
 
-/// First bytes from this on belong to no file.
+/// First bytes from this on belong to no file (§6.9).
 pub const FIRST_NO_FILE: u8 = 0xF8;
 
-/// File numbers that a record can bear are below this.
+/// File numbers that a record can bear are below this (§7.22).
 pub const FILE_NUMBERS: usize = (FIRST_NO_FILE as usize) << 4;
 
 /// What a map record says of its block.
@@ -26,7 +26,7 @@ pub enum Record {
 }
 
 impl Record {
-    /// The record in these three bytes, if they are one.
+    /// The record in these three bytes, if they are one (§6.9).
     pub fn read(bytes: [u8; RECORD_LEN]) -> Option<Record> {
         match bytes {
             [0xFD, 0xFF, 0xFF] => Some(Record::Free),
@@ -42,7 +42,7 @@ impl Record {
         }
     }
 
-    /// Its bytes; file and sequence numbers have 12 bits each.
+    /// Its bytes; file and sequence numbers have 12 bits each (§6.8).
     pub fn bytes(self) -> [u8; RECORD_LEN] {
         match self {
             Record::Free => [0xFD, 0xFF, 0xFF],

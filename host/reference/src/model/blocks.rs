@@ -4,7 +4,7 @@ use super::{Model, SLOTS_PER_BLOCK};
 use crate::geometry::{BLOCKS, BLOCK_LEN};
 use crate::layout::entry::SLOT_LEN;
 
-/// Blocks of a file with this many bytes of data.
+/// Blocks of a file with this many bytes of data (§6.17).
 pub fn blocks_for(data_len: usize) -> usize {
     (data_len + SLOT_LEN).div_ceil(BLOCK_LEN)
 }
@@ -16,15 +16,15 @@ pub fn word(most_present: usize, file_blocks: usize) -> i64 {
 }
 
 impl Model {
-    /// The blocks of all files present, S.
+    /// The blocks of all files present, S (§9.7).
     pub(super) fn file_blocks(&self) -> usize {
         self.files()
             .map(|(_, file)| blocks_for(file.data.len()))
             .sum()
     }
 
-    /// The lowest empty slot, else a new one; a new slot that begins a
-    /// block takes the lowest free block for the directory.
+    /// The lowest empty slot, else a new one (§8.9); a new slot that begins a
+    /// block takes the lowest free block for the directory (§8.10).
     pub(super) fn open_slot(&mut self) -> usize {
         if let Some(index) = self.slots.iter().position(Option::is_none) {
             return index + 1;
@@ -39,7 +39,7 @@ impl Model {
     }
 
     /// The lowest blocks that are neither block 0, the directory's, nor a
-    /// file's.
+    /// file's (§8.11).
     pub(super) fn lowest_free(&self, count: usize) -> Vec<usize> {
         let mut is_free = [true; BLOCKS];
         is_free[0] = false;

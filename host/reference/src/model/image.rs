@@ -8,7 +8,7 @@ use crate::layout::header::{Header, HEADER_LEN};
 use crate::layout::record::Record;
 
 impl Model {
-    /// The whole block image, sector by sector in image order.
+    /// The whole block image (§9.5), sector by sector in image order (§1.6).
     pub fn image(&self) -> Vec<u8> {
         let blocks = self.blocks();
         let mut image = Vec::new();
@@ -20,7 +20,8 @@ impl Model {
         image
     }
 
-    /// All blocks one after another; what nobody holds is zero.
+    /// All blocks one after another: header and map, slots and files (§9.5), and
+    /// zero in every other byte (§9.8).
     fn blocks(&self) -> Vec<u8> {
         let mut blocks = vec![0; BLOCK_LEN * BLOCKS];
         blocks[..HEADER_LEN].copy_from_slice(&self.header().bytes());
@@ -40,7 +41,7 @@ impl Model {
         blocks
     }
 
-    /// The header; the directory has slot 0 and these slots.
+    /// The header; the directory has slot 0 and these P slots (§9.5).
     fn header(&self) -> Header {
         Header {
             name: self.name.clone(),
@@ -51,7 +52,7 @@ impl Model {
         }
     }
 
-    /// The record of each block.
+    /// The record of each block (§9.5).
     fn records(&self) -> Vec<Record> {
         let mut records = vec![Record::Free; BLOCKS];
         records[0] = Record::System;

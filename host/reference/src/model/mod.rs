@@ -1,9 +1,8 @@
 //! The model: what a history of calls must give, told from the arguments of
 //! format and calls alone. It never looks at an image.
 //!
-//! Rules: section 9 of `docs/RULES.md`. It shares no decision with the calls
-//! on images, only the layout of header, entry and record, and the numbers and
-//! the placement of the disk.
+//! It shares no decision with the calls on images, only the layout of header,
+//! entry and record, and the numbers and the placement of the disk.
 
 mod blocks;
 mod image;
@@ -16,7 +15,7 @@ use blocks::{blocks_for, word};
 /// Slots of the directory in a block.
 const SLOTS_PER_BLOCK: usize = BLOCK_LEN / SLOT_LEN;
 
-/// A file that is present.
+/// A file that is present (§9.6).
 #[derive(Clone, Debug, PartialEq, Eq)]
 pub struct File {
     /// Its name.
@@ -35,7 +34,8 @@ impl File {
     }
 }
 
-/// The state after a format and some calls.
+/// The state after a format and some calls, a history (§9.1): what the caller
+/// gave, and never an image (§9.2).
 #[derive(Clone, Debug, PartialEq, Eq)]
 pub struct Model {
     name: Vec<u8>,
@@ -43,7 +43,7 @@ pub struct Model {
     /// Slot 1 first; an empty slot is `None`.
     slots: Vec<Option<File>>,
     directory_blocks: Vec<usize>,
-    /// The greatest number of files present at once, P.
+    /// The greatest number of files present at once, P (§9.6).
     most_present: usize,
     /// Accepted adds and removes, modulo 2^32.
     updates: u32,
@@ -53,7 +53,7 @@ fn refused(number: usize, place: usize) -> Reply {
     Reply::new(number, [place, 0, 0])
 }
 
-/// Lays a result over the start of a buffer, or answers 16.
+/// Lays a result over the start of a buffer (§8.8), or answers 16 (§7.16).
 fn hand_out(result: &[u8], buffer: &mut [u8]) -> Reply {
     match buffer.get_mut(..result.len()) {
         Some(start) => {
@@ -65,7 +65,8 @@ fn hand_out(result: &[u8], buffer: &mut [u8]) -> Reply {
 }
 
 impl Model {
-    /// The model of an accepted format, or nothing for a name over 10 bytes.
+    /// The model of an accepted format (§9.2), or nothing for a name over 10
+    /// bytes.
     pub fn format(name: &[u8], number: u16) -> Option<Model> {
         (name.len() <= 10).then(|| Model {
             name: name.to_vec(),
@@ -77,7 +78,7 @@ impl Model {
         })
     }
 
-    /// The files present with their slot numbers, in slot order.
+    /// The files present (§9.6) with their slot numbers, in slot order.
     pub fn files(&self) -> impl Iterator<Item = (usize, &File)> {
         let slots = self.slots.iter().enumerate();
         slots.filter_map(|(index, slot)| slot.as_ref().map(|file| (index + 1, file)))
@@ -89,7 +90,8 @@ impl Model {
         usize::try_from(word).expect("never below zero")
     }
 
-    /// Adds a file.
+    /// Adds a file: a slot is filled (§9.4); 15 is given by the free word that
+    /// would be left (§9.7).
     pub fn add(&mut self, name: &[u8], date: u32, data: &[u8]) -> Reply {
         if name.is_empty() || name.len() > 36 {
             return refused(12, 0);
@@ -116,7 +118,7 @@ impl Model {
         Reply::DONE
     }
 
-    /// Removes a file.
+    /// Removes a file: its slot is emptied (§9.4).
     pub fn remove(&mut self, name: &[u8]) -> Reply {
         match self.line_to_use(name) {
             Ok(slot) => {
@@ -128,7 +130,7 @@ impl Model {
         }
     }
 
-    /// Reads a file.
+    /// Reads a file (§9.3).
     pub fn read(&self, name: &[u8], buffer: &mut [u8]) -> Reply {
         match self.line_to_use(name) {
             Ok(slot) => {
@@ -139,7 +141,7 @@ impl Model {
         }
     }
 
-    /// Lists the files present.
+    /// Lists the files present (§9.3).
     pub fn list(&self, buffer: &mut [u8]) -> Reply {
         let entries: Vec<u8> = self.files().flat_map(|(_, file)| file.entry()).collect();
         hand_out(&entries, buffer)

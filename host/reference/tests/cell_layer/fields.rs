@@ -18,6 +18,7 @@ fn after_header(pieces: &[&[u8]]) -> Vec<u8> {
     join(&[&header(SECTOR), &join(pieces)])
 }
 
+/// A sector's bytes begin 64 cells after the run of its field (§4.6).
 #[test]
 fn field_right_after_the_header() {
     let data = noise_sector(10);
@@ -68,6 +69,7 @@ fn gap_of_688_cells_is_the_most() {
     }
 }
 
+/// Without a run the field is not present (§4.5).
 #[test]
 fn no_sync_run_at_all() {
     assert_eq!(read_sector(&after_header(&[]), SECTOR), Err(6));
@@ -148,6 +150,7 @@ fn run_that_begins_inside_the_header_is_not_its_field() {
     assert_eq!(read_sector(&cells, sector), Ok(data));
 }
 
+/// A field that is present and whose CRC does not hold gives 7 (§4.6 §7.7).
 #[test]
 fn wrong_data_crc() {
     let data = noise_sector(18);
@@ -175,6 +178,7 @@ fn any_changed_data_bit_is_noticed() {
     }
 }
 
+/// Clock cells of bytes are not looked at (§3.6).
 #[test]
 fn clocks_of_mark_and_data_do_not_matter() {
     let data = noise_sector(20);

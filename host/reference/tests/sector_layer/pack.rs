@@ -23,7 +23,8 @@ fn header_and_table_byte_by_byte() {
     assert_eq!(hfe[..1024], start);
 }
 
-/// The unused ends are FF (§5.5).
+/// Each side has the nine sectors that follow each other in the block image
+/// (§1.2), as a side is written (§5.2); the unused ends are FF (§5.5).
 #[test]
 fn sides_and_unused_ends() {
     let hfe = packed();

@@ -1,7 +1,8 @@
 //! Every rule of `docs/RULES.md` is cited by a definition, by code and by a
-//! test, every cite names a rule, and every public definition cites one.
+//! test, every cite names a rule and stands on a line that says something, and
+//! every public definition cites one.
 
-use crate::sources::{assert_none, declared, sources, Declared, Source};
+use crate::sources::{assert_none, declared, is_comment, sources, Declared, Source};
 use std::collections::BTreeSet;
 
 /// The numbers of all rules that a line cites, as they stand there.
@@ -50,6 +51,16 @@ fn uncited<'a>(lines: impl Iterator<Item = &'a str>) -> Vec<String> {
         .collect()
 }
 
+/// Whether a line says something besides its cites.
+fn has_words(line: &str) -> bool {
+    let joins = ["and", "or", "to"];
+    let mut words = line.split_whitespace();
+    words.any(|word| {
+        let letters = word.chars().filter(|c| c.is_alphabetic()).count();
+        letters > 1 && !word.contains('§') && !joins.contains(&word)
+    })
+}
+
 /// All lines of some files.
 fn lines<'a>(sources: impl Iterator<Item = &'a Source>) -> impl Iterator<Item = &'a str> {
     sources.flat_map(|source| source.lines.iter().map(String::as_str))
@@ -90,6 +101,20 @@ fn every_cite_names_a_rule() {
 }
 
 #[test]
+fn every_cite_stands_with_words() {
+    let mut failures = Vec::new();
+    for source in sources(&["crates", "host"]) {
+        for (line, text) in source.lines.iter().enumerate() {
+            let text = text.trim();
+            if is_comment(text) && !cites(text).is_empty() && !has_words(text) {
+                failures.push(source.at(line, text));
+            }
+        }
+    }
+    assert_none("lines with nothing but cites", &failures);
+}
+
+#[test]
 fn every_rule_is_cited_by_a_definition() {
     let sources = sources(&["crates"]);
     let files = sources.iter().filter(|source| source.has_definitions());
@@ -111,10 +136,16 @@ fn every_rule_is_cited_by_code() {
 #[test]
 fn every_rule_is_cited_by_a_test() {
     let sources = sources(&["host"]);
-    let tests = sources
+    let files = sources
         .iter()
         .filter(|source| source.has_ending(&["rs"]) && source.is_below("tests"));
-    assert_none("rules that no test cites", &uncited(lines(tests)));
+    // Of the comments above the tests themselves: a file's head does not count.
+    let comments = files.flat_map(|source| {
+        let lines = source.lines.iter().enumerate();
+        let tests = lines.filter(|(_, text)| text.trim() == "#[test]");
+        tests.flat_map(|(line, _)| source.comment_above(line))
+    });
+    assert_none("rules that no test cites", &uncited(comments));
 }
 
 #[test]

@@ -94,9 +94,9 @@ fn collect(root: &Path, path: &str, found: &mut Vec<Source>) {
     }
 }
 
-/// A comment of a definition or a proof.
+/// A comment: of a definition or a proof, or of code.
 pub fn is_comment(text: &str) -> bool {
-    text.starts_with("--")
+    text.starts_with("--") || text.starts_with("//")
 }
 
 /// What a line of a file below `specs` declares for others.

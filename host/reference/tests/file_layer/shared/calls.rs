@@ -72,8 +72,8 @@ fn names_of_any_bytes() {
     assert_eq!(remove(&mut image, &[0, 0]), [0; 4]);
 }
 
-/// 13 names the slot (§7.13), and refusals come in the order of their numbers
-/// (§7.18 §8.5).
+/// 13 names the slot (§7.13), and a call's own refusals come in the order of
+/// their numbers (§7.18 §8.5).
 #[test]
 fn own_tests_come_in_order() {
     let mut image = three_files();
@@ -125,7 +125,8 @@ fn read_into_buffers_of_all_kinds() {
     assert_eq!(read(&image, b"f1", &[7; 3]), ([0; 4], vec![7; 3]));
 }
 
-/// Done, the first place is the number of bytes (§7.17).
+/// 16 says the bytes needed (§7.16); done, the first place is the number of
+/// bytes written (§7.17), and the bytes after them are left (§8.8).
 #[test]
 fn list_into_buffers_of_all_kinds() {
     let image = three_files();

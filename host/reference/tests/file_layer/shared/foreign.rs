@@ -36,14 +36,19 @@ fn files_first_bytes_need_not_repeat_the_entry() {
 /// Slot 0 is not judged, listed, found or taken (§6.12).
 #[test]
 fn slot_0_is_nobodys() {
-    let mut image = three_files();
-    for own in [entry(700, 2, b"f1"), [0xFF; 64], entry(64, 2, b"me")] {
+    let me = entry(64, 2, b"me");
+    let entries = peek(&three_files(), 1, 64, 192);
+    for own in [[0; 64], entry(700, 2, b"f1"), [0xFF; 64], me] {
+        let mut image = three_files();
         patch(&mut image, 1, 0, &own);
         assert_eq!(all_calls(&image, b"me"), [0; 4]);
+        assert_eq!(list(&image, &[0; 192]), ([0, 192, 0, 0], entries.clone()));
         assert_eq!(read(&image, b"me", &[]).0, [14, 0, 0, 0]);
+        // The slot at the end is taken, even where slot 0 is zero.
+        assert_eq!(add(&mut image, b"me", 0, &[]), [0; 4]);
+        assert_eq!(peek(&image, 1, 0, 64), own);
+        assert_eq!(peek(&image, 1, 4 * 64, 64), me);
     }
-    assert_eq!(add(&mut image, b"me", 0, &[]), [0; 4]);
-    assert_eq!(peek(&image, 1, 0, 64), entry(64, 2, b"me"));
 }
 
 /// Bytes past the directory's end may be anything (§7.23).
@@ -75,7 +80,8 @@ fn bytes_that_are_not_judged() {
     }
 }
 
-/// A file's blocks are in the order of their sequences (§6.10).
+/// A file's blocks are in the order of their sequences (§6.10). Which of several
+/// blocks of one sequence is read no call shows: such a disk is refused with 10.
 #[test]
 fn blocks_are_followed_by_sequence() {
     let image = scattered();

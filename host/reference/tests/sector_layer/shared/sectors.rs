@@ -3,12 +3,14 @@
 use super::answer::{assert_refused, assert_unpacks};
 use super::build::{cell_byte, disk, in_sector, invert, packed};
 use super::spoil::{
-    copy, AFTER, DATA, DATA_CRC, DATA_MARK, FIELD_SYNC, GAP, HEADER_CRC, HEADER_MARK, SYNC,
+    copy, spoil, AFTER, DATA, DATA_CRC, DATA_MARK, FIELD_SYNC, GAP, HEADER_CRC, HEADER_MARK, SYNC,
 };
 
-/// What a sector gives, by the byte that is wrong (§4.6).
+/// What a sector gives (§4.6): its bytes; 4, 6 or 7 by the byte that is wrong;
+/// 5 where its header stands twice.
 #[test]
 fn each_byte_has_its_refusal() {
+    assert_unpacks(&packed(), disk());
     for (index, number) in [
         (SYNC, 4),
         (SYNC + 2, 4),
@@ -29,6 +31,9 @@ fn each_byte_has_its_refusal() {
         invert(&mut hfe, 41, 1, 6, index);
         assert_refused(&hfe, [number, 41, 1, 6]);
     }
+    let mut hfe = packed();
+    spoil(&mut hfe, 5, 41, 1, 6);
+    assert_refused(&hfe, [5, 41, 1, 6]);
 }
 
 #[test]

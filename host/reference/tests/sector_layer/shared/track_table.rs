@@ -49,6 +49,7 @@ fn last_unit_is_wholly_within_the_image() {
     assert_eq!(unpack(&hfe[..UNIT * 8 - 1]), bad(5));
 }
 
+/// Unit 0 is allowed, and tracks may lie over the header and the table (§2.5).
 #[test]
 fn offsets() {
     let mut hfe = empty_tracks();
@@ -85,6 +86,7 @@ fn entries_from_80_on_are_not_judged() {
     }
 }
 
+/// Entries that are not within the image (§2.5).
 #[test]
 fn table_beyond_the_image() {
     let mut hfe = empty_tracks();
@@ -112,14 +114,33 @@ fn table_that_ends_with_the_image() {
     assert_eq!(unpack(&hfe[..hfe.len() - 1]), bad(7));
 }
 
+/// The reply by the table's rule: 3 with the lowest track whose entry is not
+/// good (§2.5 §7.3), else that of tracks without a header.
+fn by_rule(hfe: &[u8], table_unit: usize) -> [usize; 4] {
+    let is_good = |track: &usize| {
+        let entry = UNIT * table_unit + 4 * track;
+        let Some(entry) = hfe.get(entry..entry + 4) else {
+            return false;
+        };
+        let number = |low: usize| usize::from(entry[low]) + 256 * usize::from(entry[low + 1]);
+        let (unit, len) = (number(0), number(2));
+        len % 2 == 0 && len >= 2 && UNIT * (unit + len.div_ceil(UNIT)) <= hfe.len()
+    };
+    (0..80).find(|track| !is_good(track)).map_or(EMPTY, bad)
+}
+
+/// Random entries, wherever table and tracks stand (§2.5).
 #[test]
 fn random_tables() {
     let mut generator = Generator::new(31);
     let mut good = 0;
-    for case in 0..cases(600) {
+    let usual = 600;
+    let runs = cases(usual);
+    for case in 0..runs {
         let units = 2 + generator.below(20);
         let mut hfe = empty_tracks();
-        hfe.resize(UNIT * units + generator.below(UNIT), 0x24);
+        let over = generator.below(2) * generator.below(UNIT);
+        hfe.resize(UNIT * units + over, 0x24);
         let table_unit = 1 + generator.below(units);
         if table_unit != 1 {
             let table = hfe[UNIT..UNIT + 320].to_vec();
@@ -138,7 +159,11 @@ fn random_tables() {
             }
         }
         println!("case {case}: {units} units, table at {table_unit}");
-        good += u32::from(unpack(&hfe) == EMPTY);
+        let reply = unpack(&hfe);
+        assert_eq!(reply, by_rule(&hfe, table_unit));
+        good += u32::from(reply == EMPTY);
     }
     println!("{good} good tables");
+    // Few cases need not give both kinds.
+    assert!(runs < usual || (0 < good && good < runs));
 }
