@@ -1,5 +1,5 @@
--- disk-header-values: the 96 header bytes of a formatted disk (§6.1 to §6.7), and what the check says of an image in whose header one byte is one more
--- or one less (§7.8).
+-- disk-header-values: the 96 header bytes of a formatted disk (§6.1 to §6.7),
+-- and what the check says of an image in whose header one byte is one more or one less (§7.8).
 -- Computed, so that each number of the header and each offset that 8 names is stated twice: in the definitions by rule, here by value.
 -- Assumes nothing: these are definitions. The proof is `disk-header-values` in Laws/Values/HeaderValues.antt.
 use mathlib.Core.List.{List, [], _∷_, _++_}

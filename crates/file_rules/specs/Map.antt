@@ -113,6 +113,6 @@ freeCount d = count blocks (freeAt d)
 unfoldable pub partBlock : Disk → ℕ → ℕ → ℕ
 partBlock d f s = lowest (λ (b : ℕ). isPart f s (recordAt d b)) blocks
 
--- byte i of file f, by the sequence of its blocks (§6.10)
+-- byte i of file f, by the sequence of its blocks; where there is no such block it is read past the last block, where a disk has 0 (§6.10)
 unfoldable pub fileByte : Disk → ℕ → ℕ → ℕ
 fileByte d f i = d (partBlock d f (i / blockBytes)) (i % blockBytes)

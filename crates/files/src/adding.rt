@@ -76,8 +76,8 @@ fn end_after(image: &mut [u8], k: usize, end: usize)
 }
 
 // A file is added in slot k: a new block of the directory (§8.10); then the file's blocks, the lowest free, in ascending
-// order, with sequences from 0 (§8.11); the slot and the header; nothing else (§8.12). In a history the image is then
-// the model's (§9.5).
+// order, with sequences from 0 (§8.11); the slot and the header; nothing else (§8.12). In a history
+// the image is then the model's (§9.5).
 fn add_at(image: &mut [u8], map: &mut MapNumbers, k: usize, e: Entry, content: &[u8])
     requires { ⌜ InStep (now map) (now image) × (k < sequences) × (length (now content) ≤ imageBytes) ⌝ }
     ensures { λ _. ⌜ now (image .exit) ≡ imageOf (addAt (diskOf (now (image .entry))) k e (now (content .entry))) ⌝ }

@@ -55,8 +55,8 @@ fn data_length(image: &[u8], dir: &BlockRow, k: usize) -> usize
     }
 }
 
-// Copies n bytes of block b from offset o on, which lie in one sector, to the place c of the buffer; zeros, where
-// there is no such block.
+// Copies n bytes of block b from offset o on, which lie in one sector, to the place c of the buffer; zeros, where there
+// is no such block (§6.10).
 fn copy_run(image: &[u8], b: usize, o: usize, n: usize, out: &mut [u8], c: usize)
     requires { ⌜ (length (now image) ≡ imageBytes) × (o < blockBytes) × (o % sectorBytes + n ≤ sectorBytes) × (c + n ≤ length (now out)) ⌝ }
     ensures { λ _. ⌜ now (out .exit) ≡ overlay (now (out .entry)) c n (λ (j : ℕ). diskOf (now (image .entry)) b (o + j)) ⌝ }

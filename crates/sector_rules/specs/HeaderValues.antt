@@ -1,5 +1,5 @@
--- hfe-header-values: the bytes of a packed HFE header (§5.4), and what unpacking says of an image in whose header one byte is one more or
--- one less (§2.2, §2.3, §7.2).
+-- hfe-header-values: the bytes of a packed HFE header (§5.4),
+-- and what unpacking says of an image in whose header one byte is one more or one less (§2.2, §2.3, §7.2).
 -- Computed, so that each number of the header and each offset that 2 names is stated twice: in the definitions by rule, here by value.
 -- Assumes nothing: these are definitions. The proof is `hfe-header-values` in Laws/Values/HeaderValues.antt.
 use mathlib.Core.Bool.{cond}

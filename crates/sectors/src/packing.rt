@@ -145,8 +145,8 @@ fn write_hfe(image: &[u8], hfe: &mut [u8])
     write_tracks(image, hfe);
 }
 
-// Packs a block image into an HFE image (§8.2), or 1, with the HFE image first (§7.1). A refusal leaves the HFE image as
-// it was (§7.19).
+// Packs a block image into an HFE image (§8.2), or 1, with the HFE image first (§7.1).
+// A refusal leaves the HFE image as it was (§7.19).
 pub fn pack(image: &[u8], hfe: &mut [u8]) -> Reply
     ensures { λ r. ⌜ (r ≡ packReply (length (now (image .entry))) (length (now (hfe .entry)))) × (now (hfe .exit) ≡ packHfe (now (image .entry)) (now (hfe .entry))) ⌝ }
 {

@@ -125,8 +125,8 @@ fn write_sides(hfe: &[u8], places: &[usize], image: &mut [u8])
     }
 }
 
-// Judges the sectors (`sectorsReply`), and writes them (`unpackedByte`) where all are good, so that a refusal changes
-// no byte (§7.19).
+// Judges the sectors (`sectorsReply`), and writes them (`unpackedByte`) where all are good,
+// so that a refusal changes no byte (§7.19).
 fn unpack_sectors(hfe: &[u8], image: &mut [u8]) -> Reply
     requires { ⌜ (tableFault (now hfe) ≡ Fault.Sound) × (length (now image) ≡ imageBytes) ⌝ }
     ensures { λ r. ⌜ SectorsUnpacked (now (hfe .entry)) (now (image .entry)) (now (image .exit)) r ⌝ }
@@ -141,8 +141,8 @@ fn unpack_sectors(hfe: &[u8], image: &mut [u8]) -> Reply
 }
 
 // Unpacks an HFE image to a block image (§8.1), or 1, the HFE image first (§7.1), 2 with the lowest wrong field (§7.2),
-// 3 with the lowest track whose entry is not good (§7.3), then 4 to 7. A refusal leaves the block image as it was
-// (§7.19). A packed image with one burst a side at most is refused or gives what was packed (§10.5).
+// 3 with the lowest track whose entry is not good (§7.3), then 4 to 7. A refusal leaves the block image as it was (§7.19).
+// A packed image with one burst a side at most is refused or gives what was packed (§10.5).
 pub fn unpack(hfe: &[u8], image: &mut [u8]) -> Reply
     ensures { λ r. ⌜ (r ≡ unpackReply (now (hfe .entry)) (length (now (image .entry)))) × (now (image .exit) ≡ unpackImage (now (hfe .entry)) (now (image .entry))) ⌝ }
 {

@@ -18,8 +18,8 @@ pub fn after_bit(crc: u16, bit: u8) -> u16 {
 }
 
 /// The CRC of all the bytes, the highest bit of each first (§3.8). After bytes
-/// and their own CRC it is 0 (§10.1), and after detectable damage of these it
-/// is not (§10.2).
+/// and their own CRC it is 0 (§10.1), and after
+/// detectable damage of these it is not (§10.2).
 pub fn crc16(bytes: &[u8]) -> u16 {
     let mut crc = START;
     for byte in bytes {

@@ -24,8 +24,8 @@ pub fn set_record(block_0: &mut [u8], block: usize, record: Record) {
 }
 
 /// The records of all blocks; refusal 9 at the first block whose record is
-/// none, or is system without being that of block 0, or the other way
-/// round (§7.9).
+/// none (§7.9), or is system without being that of block 0, or the other way
+/// round.
 pub fn judge_map(block_0: &[u8]) -> Result<Vec<Record>, Refusal> {
     let mut records = Vec::new();
     for block in 0..BLOCKS {

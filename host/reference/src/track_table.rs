@@ -39,8 +39,8 @@ pub fn good_entry(hfe: &[u8], track: usize) -> Option<Track> {
     good.then_some(found)
 }
 
-/// The entries of tracks 0 to 79 (§2.4); refusal 3 at the first that is not
-/// good (§7.3).
+/// The entries of tracks 0 to 79 (§2.4); refusal 3 (§7.3) at the first that is
+/// not good.
 pub fn judge_table(hfe: &[u8]) -> Result<Vec<Track>, Refusal> {
     let mut tracks = Vec::new();
     for track in 0..TRACKS {

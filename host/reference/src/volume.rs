@@ -84,8 +84,8 @@ impl Volume {
         self.disk.block_mut(block)[start..start + SLOT_LEN].copy_from_slice(slot);
     }
 
-    /// Counts one accepted change (§6.3), and sets the free word by the
-    /// records (§6.4).
+    /// Counts one accepted change (§6.3), and sets the free word (§6.4) by the
+    /// records.
     pub fn count_update(&mut self) {
         let free = free_sectors(&self.records);
         let block_0 = self.disk.block_mut(0);

@@ -49,8 +49,8 @@ impl Item {
     }
 }
 
-/// The cells of items one after another; before the first the last bit
-/// counts as 0 (§3.4).
+/// The cells of items one after another; before the first
+/// the last bit counts as 0 (§3.4).
 pub fn item_cells(items: &[Item]) -> Vec<u8> {
     let mut cells = Vec::new();
     let mut last_bit = 0;

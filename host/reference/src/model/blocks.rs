@@ -38,8 +38,8 @@ impl Model {
         slot
     }
 
-    /// The lowest blocks that are neither block 0, the directory's, nor a
-    /// file's (§8.11).
+    /// The lowest free blocks (§8.11): neither block 0, nor the directory's, nor
+    /// a file's.
     pub(super) fn lowest_free(&self, count: usize) -> Vec<usize> {
         let mut is_free = [true; BLOCKS];
         is_free[0] = false;

@@ -1,4 +1,4 @@
-//! Data fields (§4.4 to §4.6).
+//! Data fields (§4.4, §4.5, §4.6).
 
 use crate::build::{byte_items, field, gap, header, header_items, id, join, marked, noise_sector};
 use reference::crc::crc_of_field;

@@ -1,4 +1,4 @@
-//! The search for headers (§4.1 to §4.3).
+//! The search for headers (§4.1, §4.2, §4.3).
 
 use crate::build::{field, gap, header, header_items, id, join, marked, noise_sector};
 use reference::crc::crc_of_field;

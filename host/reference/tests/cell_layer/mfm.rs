@@ -1,4 +1,4 @@
-//! MFM bytes and sync bytes (§3.3 to §3.7).
+//! MFM bytes and sync bytes (§3.3, §3.4, §3.5, §3.6, §3.7).
 
 use reference::cells::{buffer_cells, pack_cells};
 use reference::mfm::{

@@ -1,4 +1,4 @@
-//! Placement and its tables (§1.3 to §1.6).
+//! Placement and its tables (§1.3, §1.4, §1.5, §1.6).
 
 use reference::geometry::{
     image_sector, running_at, running_sector, REMAINDER, SECTORS, SIDE_AND_PLACE,

@@ -1,4 +1,4 @@
-//! A written image byte by byte (§5.3 to §5.5).
+//! A written image byte by byte (§5.3, §5.4, §5.5).
 
 use crate::answer::{assert_unpacks, pack_into};
 use crate::shared::build::{disk, packed};

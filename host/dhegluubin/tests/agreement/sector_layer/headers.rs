@@ -80,8 +80,8 @@ fn every_cell_of_the_sync_bytes() {
     }
 }
 
-/// A header has its mark (§4.1), and belongs to the sector that it names and to
-/// no other (§4.2).
+/// A header has its mark (§4.1), and
+/// belongs to the sector that it names and to no other (§4.2).
 #[test]
 fn mark_and_numbers() {
     let wrong: [fn(&mut Sector); 9] = [

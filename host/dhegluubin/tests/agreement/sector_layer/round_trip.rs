@@ -16,8 +16,8 @@ fn there_and_back(image: &[u8]) {
 }
 
 /// All bytes of written images: cells (§3.1 §3.3 §3.4), CRC (§3.8), sectors,
-/// sides and image (§5.1 §5.2 §5.3 §5.4 §5.5). Unpacked they give the same
-/// block image (§8.2).
+/// sides and image (§5.1 §5.2 §5.3 §5.4 §5.5).
+/// Unpacked they give the same block image (§8.2).
 #[test]
 fn random_images() {
     for seed in 0..cases(4) {

@@ -72,8 +72,8 @@ fn names_of_any_bytes() {
     assert_eq!(remove(&mut image, &[0, 0]), [0; 4]);
 }
 
-/// 13 names the slot (§7.13), and a call's own refusals come in the order of
-/// their numbers (§7.18 §8.5).
+/// 13 names the slot (§7.13), and a call's own refusals come
+/// in the order of their numbers (§7.18 §8.5).
 #[test]
 fn own_tests_come_in_order() {
     let mut image = three_files();
@@ -89,8 +89,8 @@ fn own_tests_come_in_order() {
     assert_eq!(image, three_files());
 }
 
-/// Equal names have the same length and bytes (§6.14); a name that no slot has
-/// is refused (§7.14).
+/// Equal names have the same length and bytes (§6.14);
+/// a name that no slot has is refused with 14 (§7.14).
 #[test]
 fn names_differ_by_case_and_length() {
     let mut image = three_files();
@@ -101,8 +101,8 @@ fn names_differ_by_case_and_length() {
     assert_eq!(add(&mut image, b"f1\0", 0, &[]), [13, 6, 0, 0]);
 }
 
-/// 16 says the bytes needed (§7.16); the bytes after a result are left as they
-/// were (§8.8).
+/// 16 says the bytes needed (§7.16);
+/// the bytes after a result are left as they were (§8.8).
 #[test]
 fn read_into_buffers_of_all_kinds() {
     let image = three_files();

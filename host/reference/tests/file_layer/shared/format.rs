@@ -13,8 +13,8 @@ fn formatted(name: &[u8], number: u16) -> Vec<u8> {
     image
 }
 
-/// All bytes of the header (§6.1 §6.2 §6.5 §6.7), with the tables of side and
-/// place (§1.4) and backward (§1.6).
+/// All bytes of the header (§6.1 §6.2 §6.5 §6.7),
+/// with the tables of side and place (§1.4) and backward (§1.6).
 #[test]
 fn header_byte_by_byte() {
     let image = formatted(b"AMIS", 0x1234);

@@ -14,8 +14,8 @@ fn data(index: usize) -> Vec<u8> {
     noise(index as u32, index * 137 % 4400)
 }
 
-/// Slots of 64 bytes, 24 in a block (§6.11); the image is the model's after
-/// each call (§9.5).
+/// Slots of 64 bytes, 24 in a block (§6.11);
+/// the image is the model's after each call (§9.5).
 #[test]
 fn over_24_and_48_and_again() {
     let mut disk = Disk::fresh();

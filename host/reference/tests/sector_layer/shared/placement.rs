@@ -2,8 +2,8 @@
 
 use super::answer::place;
 
-/// The call place (§8.3): the table of values (§1.5), by block and sector within
-/// the block (§1.3).
+/// The call place (§8.3): the table of values (§1.5),
+/// by block and sector within the block (§1.3).
 #[test]
 fn stated_placements() {
     for (block, sector, expected) in [

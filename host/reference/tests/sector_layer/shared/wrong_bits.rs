@@ -234,8 +234,8 @@ fn assert_refused_or_same(hfe: &[u8], track: usize, side: usize) {
     }
 }
 
-/// Refused, or the recorded bytes: one burst (§10.5), which is a case of damage
-/// anywhere (§10.4).
+/// Refused, or the recorded bytes: one burst (§10.5),
+/// which is a case of damage anywhere (§10.4).
 #[test]
 fn bursts_of_up_to_32_cells_anywhere_on_a_side() {
     let mut generator = Generator::new(97);
