@@ -67,11 +67,11 @@ fn dimensions_fault(image: &[u8]) -> Fault
 {
     let block = word_fault(image, 32, Geometry::BLOCK_SECTORS);
     let tracks = word_fault(image, 30, Geometry::TRACKS);
-    let cylinder = word_fault(image, 28, Geometry::TRACK_SECTORS);
-    let track = word_fault(image, 26, Geometry::SECTORS);
+    let track = word_fault(image, 28, Geometry::TRACK_SECTORS);
+    let side = word_fault(image, 26, Geometry::SECTORS);
     let total = word_fault(image, 24, Geometry::ALL_SECTORS);
     let good = word_fault(image, 22, Geometry::ALL_SECTORS);
-    let rest = or_fault(track, or_fault(cylinder, or_fault(tracks, block)));
+    let rest = or_fault(side, or_fault(track, or_fault(tracks, block)));
     or_fault(good, or_fault(total, rest))
 }
 
@@ -83,10 +83,10 @@ fn disk_header_fault(image: &[u8]) -> Fault
 {
     let backward = wrong_at(58, fields::stands_at(image, 58, &BACKWARD));
     let table = wrong_at(40, fields::stands_at(image, 40, &SIDE_PLACE));
-    let turn = word_fault(image, 38, Geometry::TRACK_OFFSET);
+    let offset = word_fault(image, 38, Geometry::TRACK_OFFSET);
     let directory = wrong_at(34, length_right(image));
     let signature = wrong_at(0, fields::stands_at(image, 0, b"QL5A"));
-    let rest = or_fault(directory, or_fault(turn, or_fault(table, backward)));
+    let rest = or_fault(directory, or_fault(offset, or_fault(table, backward)));
     or_fault(signature, or_fault(dimensions_fault(image), rest))
 }
 

@@ -39,11 +39,11 @@ fn name_hash(image: &[u8], at: usize) -> usize
     ensures { λ r. ⌜ (r ≡ nameHash (nameOf (entryOf (elementAt (now (image .entry)) at)))) × (r < hashCount) ⌝ }
 {
     let n = name_length(image, at);
-    let mut mark = 0;
+    let mut hash = 0;
     for i in 0..n {
-        mark = (mark * 33 + wide(fields::byte(image, at + 16, i))) % HASHES;
+        hash = (hash * 33 + wide(fields::byte(image, at + 16, i))) % HASHES;
     }
-    mark
+    hash
 }
 
 // The hash of slot k.
@@ -63,8 +63,8 @@ pub fn tally_names(image: &[u8], dir: &BlockRow, end: usize, names: &mut NameTal
     ensures { λ _. ⌜ Tallied (now (names .exit)) (suc hashCount) (slotHash (diskOf (now (image .entry)))) end ⌝ }
 {
     for k in 0..end {
-        let mark = slot_hash(image, dir, k);
-        names[mark] = more(names[mark]);
+        let hash = slot_hash(image, dir, k);
+        names[hash] = more(names[hash]);
     }
 }
 
@@ -94,8 +94,8 @@ pub fn new_by_hash(
     requires { ⌜ (length (now image) ≡ imageBytes) × (k < slotCount) × Located (now dir) (diskOf (now image)) × (n ≤ length (now name)) × NamesTallied (now names) (diskOf (now image)) × (take n (now name) ≡ slotName (diskOf (now image)) k) × ((ltb k (dirEnd (diskOf (now image))) && held (diskOf (now image)) k) ≡ true) ⌝ }
     ensures { λ r. ⌜ r ≡ all (λ (j : ℕ). not (held (diskOf (now (image .entry))) j && nameEq (slotName (diskOf (now (image .entry))) j) (take n (now (name .entry))))) k ⌝ }
 {
-    let mark = name_hash(image, slot_place(dir, k));
-    if names[mark] < 2 {
+    let hash = name_hash(image, slot_place(dir, k));
+    if names[hash] < 2 {
         return true;
     }
     new_name(image, dir, k, &name[0..n])

@@ -103,9 +103,9 @@ fn judge_all(hfe: &[u8], places: &mut [usize]) -> Reply
     ensures { λ r. ⌜ AllJudged (now (hfe .entry)) (now (places .exit)) r ⌝ }
 {
     for n in 0..Geometry::TRACKS * Geometry::SIDES {
-        let replyWith = judge_side(hfe, n, places);
-        if replyWith.number != 0 {
-            return replyWith;
+        let reply = judge_side(hfe, n, places);
+        if reply.number != 0 {
+            return reply;
         }
     }
     done()
@@ -132,12 +132,12 @@ fn unpack_sectors(hfe: &[u8], image: &mut [u8]) -> Reply
     ensures { λ r. ⌜ SectorsUnpacked (now (hfe .entry)) (now (image .entry)) (now (image .exit)) r ⌝ }
 {
     let mut places = [0usize; Geometry::ALL_SECTORS];
-    let replyWith = judge_all(hfe, &mut places);
-    if replyWith.number != 0 {
-        return replyWith;
+    let reply = judge_all(hfe, &mut places);
+    if reply.number != 0 {
+        return reply;
     }
     write_sides(hfe, &places, image);
-    replyWith
+    reply
 }
 
 // Unpacks an HFE image to a block image (§8.1), or 1, the HFE image first (§7.1), 2 with the lowest wrong field (§7.2),

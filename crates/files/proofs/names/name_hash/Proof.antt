@@ -1,4 +1,4 @@
--- `name_hash` meets its contract: the mark of the first i bytes.
+-- `name_hash` meets its contract: the hash of the first i bytes.
 -- Rests on: the laws in Loading/NameHashes; the contracts of name_length, fields::byte and wide.
 -- Assumes nothing.
 use mathlib.Core.Path.{_≡_, refl, _∙_}
@@ -11,10 +11,10 @@ use Rattle.files.proofs.names.name_hash.Statement.{statement}
 use Rattle.files.proofs.names.name_hash.Tie as tie
 
 abbrev Inv-loop : tie.InvT-loop
-Inv-loop image at n mark₀ i₀ mark i = (i ≤ n) × (mark < hashCount) × (mark ≡ rowHash (elementAt image (at + 16)) i)
+Inv-loop image at n hash₀ i₀ hash i = (i ≤ n) × (hash < hashCount) × (hash ≡ rowHash (elementAt image (at + 16)) i)
 
 abbrev μ-loop : tie.MeasureT-loop
-μ-loop image at n mark₀ i₀ mark i = n - i
+μ-loop image at n hash₀ i₀ hash i = n - i
 
 name-length-requires : tie.Need-name-length-requires Inv-loop μ-loop
 name-length-requires c κs = search needs
@@ -23,8 +23,8 @@ loop-holds : tie.Need-loop-holds Inv-loop μ-loop
 unfolding rowHash
 loop-holds c = (omega arith, omega arith, refl)
 
-mul-mark : tie.Need-mul-mark Inv-loop μ-loop
-mul-mark c = search needs
+mul-hash : tie.Need-mul-hash Inv-loop μ-loop
+mul-hash c = search needs
 
 add-byte : tie.Need-add-byte Inv-loop μ-loop
 add-byte c = search needs
@@ -35,8 +35,8 @@ byte-requires c κs = search needs
 wide-requires : tie.Need-wide-requires Inv-loop μ-loop
 wide-requires c κs = search needs
 
-add-mark : tie.Need-add-mark Inv-loop μ-loop
-add-mark c = search needs
+add-hash : tie.Need-add-hash Inv-loop μ-loop
+add-hash c = search needs
 
 add-i : tie.Need-add-i Inv-loop μ-loop
 add-i c = search needs
@@ -60,11 +60,11 @@ name-hash-spec =
     μ-loop
     name-length-requires
     loop-holds
-    mul-mark
+    mul-hash
     add-byte
     byte-requires
     wide-requires
-    add-mark
+    add-hash
     add-i
     loop-less
     loop-again
