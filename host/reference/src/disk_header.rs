@@ -2,7 +2,9 @@
 
 use crate::geometry::BLOCK_LEN;
 use crate::layout::entry::SLOT_LEN;
-use crate::layout::header::{DIRECTORY_LEN, FIXED_WORDS, SHIFT, SHIFT_WORD, SIGNATURE, TABLES};
+use crate::layout::header::{
+    DIRECTORY_LEN, FIXED_WORDS, OFFSET_FIELD, SIGNATURE, TABLES, TRACK_OFFSET_WORD,
+};
 use crate::layout::word_at;
 use crate::reply::Refusal;
 
@@ -23,7 +25,10 @@ pub fn judge_disk_header(block_0: &[u8]) -> Result<(), Refusal> {
         fields.push((offset, word_at(block_0, offset) == word));
     }
     fields.push((DIRECTORY_LEN, is_directory_len_good(block_0)));
-    fields.push((SHIFT, word_at(block_0, SHIFT) == SHIFT_WORD));
+    fields.push((
+        OFFSET_FIELD,
+        word_at(block_0, OFFSET_FIELD) == TRACK_OFFSET_WORD,
+    ));
     for (offset, table) in TABLES {
         fields.push((offset, block_0[offset..offset + table.len()] == table));
     }

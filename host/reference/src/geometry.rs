@@ -36,9 +36,9 @@ pub const TRACK_LEN: usize = SECTORS_PER_TRACK * SECTOR_LEN;
 /// Bytes of the block image, which has all sectors and nothing else (§1.2).
 pub const IMAGE_LEN: usize = SECTORS * SECTOR_LEN;
 
-/// By how many places the sectors of a track are shifted against the track
+/// By how many places the sectors of a track are moved against the track
 /// before, within their side (§1.5).
-pub const TRACK_SHIFT: usize = 5;
+pub const TRACK_OFFSET: usize = 5;
 
 /// Marks side 1 in [`SIDE_AND_PLACE`] (§1.4).
 pub const SIDE_1: u8 = 0x80;
@@ -66,8 +66,8 @@ pub fn image_sector(running: usize) -> usize {
     let entry = SIDE_AND_PLACE[running % SECTORS_PER_TRACK];
     let side = usize::from(entry & SIDE_1 != 0);
     let place = usize::from(entry & !SIDE_1);
-    let shifted = (place + TRACK_SHIFT * track) % SECTORS_PER_SIDE;
-    SECTORS_PER_TRACK * track + SECTORS_PER_SIDE * side + shifted
+    let moved = (place + TRACK_OFFSET * track) % SECTORS_PER_SIDE;
+    SECTORS_PER_TRACK * track + SECTORS_PER_SIDE * side + moved
 }
 
 /// The running sector that stands at an image sector below 1,440 (§1.6).
@@ -75,10 +75,10 @@ pub fn running_at(image_sector: usize) -> usize {
     let track = image_sector / SECTORS_PER_TRACK;
     let on_track = image_sector % SECTORS_PER_TRACK;
     let side = on_track / SECTORS_PER_SIDE;
-    let shifted = on_track % SECTORS_PER_SIDE;
+    let moved = on_track % SECTORS_PER_SIDE;
     // Adding nine first keeps the difference from falling below 0.
-    let shift = TRACK_SHIFT * track % SECTORS_PER_SIDE;
-    let place = (shifted + SECTORS_PER_SIDE - shift) % SECTORS_PER_SIDE;
+    let offset = TRACK_OFFSET * track % SECTORS_PER_SIDE;
+    let place = (moved + SECTORS_PER_SIDE - offset) % SECTORS_PER_SIDE;
     let remainder = REMAINDER[SECTORS_PER_SIDE * side + place];
     SECTORS_PER_TRACK * track + usize::from(remainder)
 }

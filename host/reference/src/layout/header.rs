@@ -3,7 +3,7 @@
 use super::set_word;
 use crate::geometry::{
     BLOCK_LEN, REMAINDER, SECTORS, SECTORS_PER_BLOCK, SECTORS_PER_SIDE, SECTORS_PER_TRACK,
-    SIDE_AND_PLACE, TRACKS, TRACK_SHIFT,
+    SIDE_AND_PLACE, TRACKS, TRACK_OFFSET,
 };
 
 /// The first bytes of a disk (§6.1).
@@ -38,10 +38,10 @@ pub const FIXED_WORDS: [(usize, usize); 6] = [
 ];
 
 /// Offset of the word that tells the shift of a track against the next (§6.7).
-pub const SHIFT: usize = 38;
+pub const OFFSET_FIELD: usize = 38;
 
 /// The value of that word.
-pub const SHIFT_WORD: usize = TRACK_SHIFT;
+pub const TRACK_OFFSET_WORD: usize = TRACK_OFFSET;
 
 /// The header's two tables and their offsets (§6.7).
 pub const TABLES: [(usize, [u8; SECTORS_PER_TRACK]); 2] = [(40, SIDE_AND_PLACE), (58, REMAINDER)];
@@ -81,7 +81,7 @@ impl Header {
             DIRECTORY_LEN + 2,
             self.directory_len % BLOCK_LEN,
         );
-        set_word(&mut header, SHIFT, SHIFT_WORD);
+        set_word(&mut header, OFFSET_FIELD, TRACK_OFFSET_WORD);
         for (offset, table) in TABLES {
             header[offset..offset + table.len()].copy_from_slice(&table);
         }

@@ -54,7 +54,7 @@ fn refused(number: usize, place: usize) -> Reply {
 }
 
 /// Lays a result over the start of a buffer (§8.8), or answers 16 (§7.16).
-fn hand_out(result: &[u8], buffer: &mut [u8]) -> Reply {
+fn deliver(result: &[u8], buffer: &mut [u8]) -> Reply {
     match buffer.get_mut(..result.len()) {
         Some(start) => {
             start.copy_from_slice(result);
@@ -120,7 +120,7 @@ impl Model {
 
     /// Removes a file: its slot is emptied (§9.4).
     pub fn remove(&mut self, name: &[u8]) -> Reply {
-        match self.line_to_use(name) {
+        match self.slot_of_name(name) {
             Ok(slot) => {
                 self.slots[slot - 1] = None;
                 self.updates = self.updates.wrapping_add(1);
@@ -132,10 +132,10 @@ impl Model {
 
     /// Reads a file (§9.3).
     pub fn read(&self, name: &[u8], buffer: &mut [u8]) -> Reply {
-        match self.line_to_use(name) {
+        match self.slot_of_name(name) {
             Ok(slot) => {
                 let file = self.slots[slot - 1].as_ref();
-                hand_out(&file.expect("a filled slot").data, buffer)
+                deliver(&file.expect("a filled slot").data, buffer)
             }
             Err(reply) => reply,
         }
@@ -144,7 +144,7 @@ impl Model {
     /// Lists the files present (§9.3).
     pub fn list(&self, buffer: &mut [u8]) -> Reply {
         let entries: Vec<u8> = self.files().flat_map(|(_, file)| file.entry()).collect();
-        hand_out(&entries, buffer)
+        deliver(&entries, buffer)
     }
 
     /// The slot of the file of this name.
@@ -156,7 +156,7 @@ impl Model {
     }
 
     /// The same for a read or remove, which answer 12 or 14 without it.
-    fn line_to_use(&self, name: &[u8]) -> Result<usize, Reply> {
+    fn slot_of_name(&self, name: &[u8]) -> Result<usize, Reply> {
         if name.is_empty() || name.len() > 36 {
             return Err(refused(12, 0));
         }
