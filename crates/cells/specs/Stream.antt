@@ -18,7 +18,8 @@ cellAt part s i = getD part (bytePlace s (i / 8)) 0 / 2 ^ (i % 8) % 2
 unfoldable pub stream : List ℕ → Side → List ℕ
 stream part s = tab (cellAt part s) (s .cells)
 
--- where side h lies in an HFE track of so many bytes: each unit is 256 bytes of side 0 and then 256 of side 1, and a side has half the length (§2.6)
+-- where side h lies in an HFE track of so many bytes: each unit is 256 bytes of side 0 and then 256 of side 1, and a side has half the length,
+-- eight cells for each of its bytes (§2.6 §3.2)
 abbrev pub hfeSide : ℕ → ℕ → Side
 hfeSide h bytes = record { first = 256 * h; stride = 512; cells = 8 * (bytes / 2) }
 
@@ -26,7 +27,7 @@ hfeSide h bytes = record { first = 256 * h; stride = 512; cells = 8 * (bytes / 2
 unfoldable pub from : List ℕ → ℕ → List ℕ
 from c i = drop i c
 
--- the number whose bits, highest first, are the n cells at k, k + step, k + 2 step .. (§3.6)
+-- the number whose bits, highest first, are the n cells at k, k + step, k + 2 step ..; a cell past the end is 0 (§3.2 §3.6)
 unfoldable pub number : List ℕ → ℕ → ℕ → ℕ → ℕ
 number c step k zero = 0
 number c step k (suc n) = number c step k n * 2 + getD c (k + step * n) 0

@@ -79,7 +79,7 @@ freshHeader args = diskHeaderByte args 0 (freeSectors (blocks - 2)) 1
 unfoldable pub formatDisk : FormatArguments → Disk
 formatDisk args = diskWith (freshHeader args) freshOwner (λ (r : Record) (o : ℕ). 0)
 
--- the call format: 1, 12, or the image of a fresh disk (§8.4 §7.1 §7.12)
+-- the call format: 1, 12 where the disk's name is too long, or the image of a fresh disk (§8.4 §7.1 §7.12 §6.15)
 unfoldable pub format : List ℕ → FormatArguments → ImageChanged
 format image args =
     cond (imageRight image)

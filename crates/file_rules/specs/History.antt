@@ -62,8 +62,8 @@ pub record Holds (args : FormatArguments) (calls : List Call)
   pub add-gives : (x : NamedFile) → 1 ≤ length (x .name) → length (x .name) ≤ 36 → fileNamed (x .name) files ≡ none
       → add image (x .name) (x .date) (x .content) .answer
       ≡ cond (leb (dirBlocks (max most (suc (length files))) + (blocksOfFiles files + blocksFor (length (x .content)))) usable) done (refusal 15)
-  -- every byte outside header, map, directory slots of present files and those files is zero. Blocks and offsets reach every byte of the image: its byte i is
-  -- the disk's byte at block `blockOf i`, offset `offsetOf i` (EveryByte, below; the law image-disk says it of whole images)
+  -- every byte outside header, map, directory slots of present files and those files is zero (§9.8). Blocks and offsets reach every byte of the image: its byte
+  -- i is the disk's byte at block `blockOf i`, offset `offsetOf i` (EveryByte, below; the law image-disk says it of whole images)
   pub zero-else : (b o : ℕ) → (Belongs (diskOf image) files b o → ⊥) → diskOf image b o ≡ 0
 
 -- the image after the format, with which a history begins (§9.1)

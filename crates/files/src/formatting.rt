@@ -113,8 +113,9 @@ fn write_fresh(image: &mut [u8], name: &[u8], number: u16)
     write_map(image);
 }
 
-// The call format (§8.4), or 1 (§7.1) or 12 (§7.12). A refusal leaves the image as it was (§7.19). A history begins
-// with it (§9.1), and its arguments are all that the model knows then (§9.2).
+// The call format (§8.4), or 1 (§7.1), or 12 (§7.12) where the disk's name has more than ten bytes (§6.15). A refusal
+// leaves the image as it was (§7.19). A history begins with it (§9.1), and its arguments are all that the model knows
+// then (§9.2); what it does not name is zero (§9.8).
 pub fn format(image: &mut [u8], name: &[u8], number: u16) -> Reply
     ensures { λ r. ⌜ (r ≡ Calls.format (now (image .entry)) (argumentsOf (now (name .entry)) number) .answer) × (now (image .exit) ≡ Calls.format (now (image .entry)) (argumentsOf (now (name .entry)) number) .image) ⌝ }
 {

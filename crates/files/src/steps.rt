@@ -177,7 +177,7 @@ pub fn write_entry(image: &mut [u8], map: &MapNumbers, k: usize, e: Entry)
     put_bytes(image, b, k % BLOCK_SLOTS * SLOT_BYTES, &row);
 }
 
-// Slot k becomes vacant: 64 zero bytes (§8.13).
+// Slot k becomes vacant: 64 zero bytes (§8.13), since no file present has it (§9.8).
 pub fn zero_slot(image: &mut [u8], map: &MapNumbers, k: usize)
     requires { ⌜ InStep (now map) (now image) ⌝ }
     ensures { λ _. ⌜ now (image .exit) ≡ imageOf (setSlot (diskOf (now (image .entry))) k zeros) ⌝ }

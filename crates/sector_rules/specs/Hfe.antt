@@ -72,7 +72,7 @@ trackLength h t = lowFirst h (entryPlace h t + 2) 2
 unfoldable pub trackUnitBytes : List ℕ → ℕ → ℕ
 trackUnitBytes h t = unitBytes * quotientUp (trackLength h t) unitBytes
 
--- the entry of track t is good: its four bytes are within the image, its length is even and above 0, and so are all the track's units (§2.5)
+-- the entry of track t is good: its length is even and above 0, and its four bytes and all the track's units are within the image (§2.5)
 unfoldable pub trackGood : List ℕ → ℕ → Bool
 trackGood h t =
     leb (entryPlace h t + 4) (length h) && eqb (trackLength h t % 2) 0 && ltb 0 (trackLength h t)

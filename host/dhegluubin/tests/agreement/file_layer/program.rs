@@ -127,7 +127,8 @@ fn input_from_a_file() {
     }
 }
 
-/// 8 names the field (§7.8).
+/// A wrong field of the disk header is 8, which the program prints without
+/// its place (§7.8).
 #[test]
 fn each_header_field_is_refused_with_8() {
     for field in [0, 2, 22, 24, 26, 28, 30, 32, 36, 38, 40, 56, 58, 74] {
@@ -144,7 +145,7 @@ fn each_header_field_is_refused_with_8() {
     }
 }
 
-/// 9 names the block (§7.9).
+/// A wrong record is 9, which the program prints without its place (§7.9).
 #[test]
 fn each_kind_of_wrong_record_is_refused_with_9() {
     let of_no_kind = [[0xF8, 0, 1], [0xF9, 0, 0], [0xFD, 0, 0], [0xFF; 3]];

@@ -182,7 +182,10 @@ fn end_of_the_stream_after_a_header() {
     for over in 0..=24 {
         let before = 800 - header.len() + over;
         let mut cells = [gap_cells(before), header.clone()].concat();
-        cells.truncate(800);
+        // What is over stands at the side's beginning, where nothing looks
+        // for it.
+        let over_cells = cells.split_off(800);
+        cells[..over].copy_from_slice(&over_cells);
         let expected = if over == 0 {
             [6, 0, 0, 1]
         } else {

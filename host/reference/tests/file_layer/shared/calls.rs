@@ -16,7 +16,7 @@ fn image_of_a_wrong_length() {
     }
 }
 
-/// 1 and 8 to 11 are judged first (§8.5).
+/// The image is judged before the call's own arguments, here 8 and 11 (§8.5).
 #[test]
 fn image_is_judged_before_the_name() {
     let mut image = three_files();
@@ -52,6 +52,7 @@ fn file_names_have_1_to_36_bytes() {
     assert_eq!(check(&image), [0; 4]);
 }
 
+/// A name may have bytes of any value (§6.15).
 #[test]
 fn names_of_any_bytes() {
     let mut image = fresh();

@@ -30,7 +30,7 @@ fn add_writes_entry_file_and_header() {
     );
 }
 
-/// A remove leaves zeros, and the directory keeps its length (§8.13).
+/// A remove leaves zeros (§9.8), and the directory keeps its length (§8.13).
 #[test]
 fn remove_undoes_add_but_for_counts() {
     let mut image = fresh();

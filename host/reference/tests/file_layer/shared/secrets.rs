@@ -43,7 +43,7 @@ fn none_after_format() {
     assert!(image == Model::format(b"NEXT", 2).unwrap().image());
 }
 
-/// A byte that belongs to no file present is zero (§9.8).
+/// No byte of a removed file is left: name, date and data (§9.8).
 #[test]
 fn none_after_remove() {
     let mut image = fresh();
@@ -63,6 +63,12 @@ fn none_after_remove() {
         assert_eq!(secrets(&image), before - own);
     }
     assert_eq!(secrets(&image), 0);
+    // Nor anything else: the disk is as fresh, but for the update count and
+    // the directory's nine slots.
+    let mut expected = fresh();
+    expected[19] = 16;
+    expected[36..38].copy_from_slice(&[2, 64]);
+    assert!(image == expected);
 }
 
 /// The same beside files that stay (§9.8).

@@ -39,6 +39,7 @@ fn two_in_a_row(hfe: &mut Vec<u8>) -> usize {
     append(hfe, &units(&both))
 }
 
+/// Tracks may lie over each other (§2.5).
 #[test]
 fn two_tracks_in_the_same_units_and_in_part() {
     // Both entries name all of the row, then each a part of it that holds
