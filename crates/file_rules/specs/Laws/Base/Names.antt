@@ -1,16 +1,34 @@
--- Names (§6.14, §6.15): their equality is an equivalence, of which no proof uses more, and the model accepts those that the calls accept.
+-- Names (§6.14, §6.15): when they are equal, byte by byte; their equality is an equivalence, and the model accepts those that the calls accept.
+-- No other file unfolds the equality, and only what reads names byte by byte (files, Loading) uses more than that it is an equivalence.
 -- Rests on the equality of lists (laws, Same).
-use mathlib.Core.Path.{_≡_, refl, sym, _∙_}
+use mathlib.Core.Path.{_≡_, refl, sym, ap, _∙_}
 use mathlib.Core.Bool.{Bool, true}
 use mathlib.Core.List.{List}
-use Prim.Native.Nat.{ℕ, _≤_}
+use Prim.Native.Nat.{ℕ, _≤_, _<_}
 use lib.Dec.{leb}
-use lib.ListN.{length}
+use lib.ListN.{length, getD}
+use lib.Seq.{ext-getD}
 use Rattle.laws.specs.Laws.Tests.{le-true, true-le, and-true, and-left, and-right}
 use Rattle.laws.specs.Laws.Same.{same-eq, eq-same}
 use Rattle.file_rules.specs.Directory.{nameEq, nameRight}
 use Rattle.file_rules.specs.Model.{acceptable}
 use Rattle.file_rules.specs.Sizes.{nameMost}
+
+module _ (a b : List ℕ) where
+  -- equal names have the same length
+  pub equal-length : nameEq a b ≡ true → length a ≡ length b
+  unfolding nameEq
+  equal-length t = ap length (same-eq a b t)
+
+  -- equal names have the same byte at each place
+  pub equal-byte : nameEq a b ≡ true → (i : ℕ) → i < length a → getD a i 0 ≡ getD b i 0
+  unfolding nameEq
+  equal-byte t i h = ap (λ (l : List ℕ). getD l i 0) (same-eq a b t)
+
+  -- names of the same length and bytes are equal
+  pub bytes-equal : length a ≡ length b → ((i : ℕ) → i < length a → getD a i 0 ≡ getD b i 0) → nameEq a b ≡ true
+  unfolding nameEq
+  bytes-equal l e = eq-same a b (ext-getD 0 a b l e)
 
 -- a name equals itself
 pub name-refl : (a : List ℕ) → nameEq a a ≡ true

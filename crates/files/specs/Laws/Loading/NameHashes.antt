@@ -1,5 +1,5 @@
 -- Hashes of names: a number for each name, by which most names are told apart at once.
--- Rests on tallies (Tally), on the slots (Slots) and on the equality of lists (laws, Same).
+-- Rests on tallies (Tally), on the slots (Slots) and on when names are equal (file_rules, Names).
 use mathlib.Core.Path.{_≡_, refl, sym, ap, ap₂, _∙_}
 use mathlib.Core.Bool.{true, false, not, cond, _&&_}
 use mathlib.Core.List.{List}
@@ -15,11 +15,11 @@ use Rattle.laws.specs.Laws.Cases.{by-test}
 use Rattle.laws.specs.Laws.Tests.{true-lt, cond-true, cond-false, and-left, and-right}
 use Rattle.laws.specs.Laws.All.{all-is}
 use Rattle.laws.specs.Laws.Tab.{tab-length, tab-in}
-use Rattle.laws.specs.Laws.Same.{same-eq}
 use Rattle.sector_rules.specs.Geometry.{imageBytes}
 use Rattle.file_rules.specs.Sizes.{slotCount, nameMost}
 use Rattle.file_rules.specs.Disk.{Disk, diskOf}
 use Rattle.file_rules.specs.Directory.{nameEq, nameOf, entryOf, slotName, held, dirEnd}
+use Rattle.file_rules.specs.Laws.Base.Names.{equal-length, equal-byte}
 use Rattle.files.specs.Laws.Loading.Slots.{Located, slotPlace, name-row, name-first, row-along}
 use Rattle.files.specs.Laws.Loading.Tally.{Tallied, tally-two}
 
@@ -59,8 +59,10 @@ hash-lt name = row-lt (λ (i : ℕ). getD name i 0) (length name)
 
 -- equal names have one hash; no other law here knows when names are equal
 pub hash-same : (a b : List ℕ) → nameEq a b ≡ true → nameHash a ≡ nameHash b
-unfolding nameEq
-hash-same a b t = ap nameHash (same-eq a b t)
+unfolding nameHash
+hash-same a b t =
+    row-cong (λ (i : ℕ). getD a i 0) (λ (i : ℕ). getD b i 0) (length a) (equal-byte a b t)
+    ∙ ap (rowHash (λ (i : ℕ). getD b i 0)) (equal-length a b t)
 
 hash-tab : (g : ℕ → ℕ) (n : ℕ) → nameHash (tab g n) ≡ rowHash g n
 unfolding nameHash

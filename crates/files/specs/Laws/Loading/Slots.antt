@@ -1,5 +1,5 @@
 -- The directory's blocks as the code holds them, and the slots as rows of 64 bytes in the image.
--- Rests on the disk's bytes (Blocks), on the loaded map (Loaded) and on the parts of files (Parts).
+-- Rests on the disk's bytes (Blocks), on the loaded map (Loaded), on the parts of files (Parts) and on when names are equal (file_rules, Names).
 use mathlib.Core.Path.{_≡_, refl, sym, ap, ap₂, _∙_}
 use mathlib.Core.Bool.{Bool, true, false, not, cond, _&&_}
 use mathlib.Core.List.{List}
@@ -12,11 +12,10 @@ use lib.Seq.{getD-set-same, getD-set-other, take-all}
 use Rattle.laws.specs.Lists.{tab, elementAt}
 use Rattle.laws.specs.Below.{all}
 use Rattle.laws.specs.Numbers.{at16, at32, bigEndian, highFirst}
-use Rattle.laws.specs.Laws.Cases.{by-order, by-equal}
+use Rattle.laws.specs.Laws.Cases.{by-order, by-equal, by-test}
 use Rattle.laws.specs.Laws.Tests.{lt-true, lt-false, cond-true, cond-false, and-false-right}
 use Rattle.laws.specs.Laws.Lowest.{lowest-some, lowest-none}
-use Rattle.laws.specs.Laws.Tab.{take-tab, tab-length, tab-in, tab-ext, eq-tab, getD-past}
-use Rattle.laws.specs.Laws.Same.{eq-same, ne-same}
+use Rattle.laws.specs.Laws.Tab.{take-tab, tab-length, tab-in, tab-ext, getD-past}
 use Rattle.laws.specs.Laws.Numbers.{high-row}
 use Rattle.sector_rules.specs.Geometry.{sectorBytes, blocks, imageBytes, running, toImageSector}
 use Rattle.file_rules.specs.declared.Entry.{Entry}
@@ -24,6 +23,7 @@ use Rattle.file_rules.specs.Sizes.{slotBytes, blockSlots, slotCount, nameMost}
 use Rattle.file_rules.specs.Disk.{Disk, imagePlace, diskOf}
 use Rattle.file_rules.specs.Map.{partBlock}
 use Rattle.file_rules.specs.Directory.{nameEq, entryOf, nameOf, slotByte, slotEntry, slotName, held, dirEnd, findName, vacantSlot}
+use Rattle.file_rules.specs.Laws.Base.Names.{equal-length, equal-byte, bytes-equal}
 use Rattle.files.specs.Laws.Loading.Blocks.{disk-in, disk-far}
 use Rattle.files.specs.Laws.Loading.Loaded.{MapLoaded, part-loaded}
 use Rattle.files.specs.Laws.Loading.Loops.{all-cong}
@@ -176,28 +176,34 @@ module _ (s : List ℕ) (at : ℕ) (name : List ℕ) where
 
   -- a name of another length is not equal
   pub name-other-length : (min (at16 row 14) nameMost ≡ length name → ⊥) → false ≡ nameEq (nameOf (entryOf row)) name
-  unfolding nameEq
   name-other-length h =
-      sym (ne-same (nameOf (entryOf row)) name
-      (λ e. h (sym (tab-length (λ (i : ℕ). row (16 + i)) (min (at16 row 14) nameMost)) ∙ ap length (sym (name-first row)) ∙ ap length e)))
+      sym (by-test (nameEq (nameOf (entryOf row)) name)
+      (λ t.
+      absurd (h (sym (tab-length (λ (i : ℕ). row (16 + i)) (min (at16 row 14) nameMost)) ∙ ap length (sym (name-first row))
+      ∙ equal-length (nameOf (entryOf row)) name t)))
+      (λ t. t))
 
   module _ (q : min (at16 row 14) nameMost ≡ length name) where
     name-of : nameOf (entryOf row) ≡ tab (elementAt s (at + 16)) (length name)
     name-of = name-first row ∙ ap (λ (n : ℕ). tab (λ (i : ℕ). row (16 + i)) n) q ∙ sym (row-along s at (length name))
 
+    length-of : length (nameOf (entryOf row)) ≡ length name
+    length-of = ap length name-of ∙ tab-length (elementAt s (at + 16)) (length name)
+
+    byte-of : (i : ℕ) → i < length name → getD (nameOf (entryOf row)) i 0 ≡ elementAt s (at + 16) i
+    byte-of i l = ap (λ (m : List ℕ). getD m i 0) name-of ∙ tab-in (elementAt s (at + 16)) (length name) i l
+
     -- a name with another byte is not equal
     pub name-other : (i : ℕ) → i < length name → (elementAt s (at + 16) i ≡ getD name i 0 → ⊥) → false ≡ nameEq (nameOf (entryOf row)) name
-    unfolding nameEq
     name-other i l h =
-        sym (ne-same (nameOf (entryOf row)) name
-        (λ e. h (sym (tab-in (elementAt s (at + 16)) (length name) i l) ∙ ap (λ (m : List ℕ). getD m i 0) (sym name-of ∙ e))))
+        sym (by-test (nameEq (nameOf (entryOf row)) name)
+        (λ t. absurd (h (sym (byte-of i l) ∙ equal-byte (nameOf (entryOf row)) name t i (rw length-of l)))) (λ t. t))
 
     -- a name of the same length and bytes is equal
     pub name-equal : ((i : ℕ) → i < length name → elementAt s (at + 16) i ≡ getD name i 0) → true ≡ nameEq (nameOf (entryOf row)) name
-    unfolding nameEq
     name-equal h =
-        sym (eq-same (nameOf (entryOf row)) name
-        (name-of ∙ sym (eq-tab name (elementAt s (at + 16)) (length name) refl (λ i l. sym (h i l)))))
+        sym (bytes-equal (nameOf (entryOf row)) name length-of
+        (λ i l. let l′ : i < length name = rw length-of at l in byte-of i l′ ∙ h i l′))
 
 -- two tests of which the second, looked at first, passes
 pub and-swap-true : (a b : Bool) → b ≡ true → a ≡ (a && b)
