@@ -1,5 +1,5 @@
 -- Laws that only proofs of code need. Some also define what contracts of private functions cite: the tie of a verdict (verdictOf), of a table
--- (MapLoaded, Located, Chained, Tallied, NamesTallied, PartsAt, InStep) or of a part of a call (Gave, Walked) to the definitions.
+-- (MapLoaded, Located, Chained, Tallied, HashesNoted, PartsAt, InStep) or of a part of a call (Gave, Walked) to the definitions.
 pub mod Loading
 pub mod Judging
 pub mod Writing

@@ -1,7 +1,7 @@
 // Whether the disk is sound: the judgements 8 to 11 that check, list, read, add and remove make first.
 ghost use mathlib.Core.Path.{_≡_};
-ghost use mathlib.Core.Bool.{true, _&&_};
-ghost use Prim.Native.Nat.{_≤_, _<_, min};
+ghost use mathlib.Core.Bool.{_&&_};
+ghost use Prim.Native.Nat.{_+_, _≤_, _<_};
 ghost use lib.Dec.{ltb};
 ghost use lib.ListN.{length};
 ghost use Rattle.sector_rules.specs.Geometry.{imageBytes};
@@ -13,6 +13,7 @@ ghost use Rattle.file_rules.specs.Calls as Calls;
 ghost use Rattle.files.specs.Laws.Judging.Verdict.{verdictOf};
 ghost use Rattle.files.specs.Laws.Loading.Loaded.{MapLoaded};
 ghost use Rattle.files.specs.Laws.Loading.Slots.{Located};
+ghost use Rattle.files.specs.Laws.Loading.NameHashes.{HashesNoted, TellsNew};
 ghost use Rattle.files.specs.Laws.Judging.Sound.{Tables, mapRefusal};
 use crate::Verdict;
 use crate::blocks::blocks_of;
@@ -30,9 +31,9 @@ use crate::map::count_free;
 use crate::map::load_map;
 use crate::map::map_fault;
 use crate::names::HASHES;
-use crate::names::NameTally;
+use crate::names::NotedHashes;
 use crate::names::new_by_hash;
-use crate::names::tally_names;
+use crate::names::note_hash;
 use crate::parts::file_blocks;
 use crate::parts::parts_right;
 use crate::records::NO_FILE;
@@ -54,10 +55,10 @@ fn entry_right(
     dir: &BlockRow,
     first: &FirstBlocks,
     next: &BlockRow,
-    names: &NameTally,
+    fresh: bool,
     k: usize,
 ) -> bool
-    requires { ⌜ Tables (now image) (now map) (now dir) (now first) (now next) (now names) × (k < slotCount) × ((ltb k (dirEnd (diskOf (now image))) && held (diskOf (now image)) k) ≡ true) ⌝ }
+    requires { ⌜ Tables (now image) (now map) (now dir) (now first) (now next) × (k < slotCount) × TellsNew fresh (diskOf (now image)) k ⌝ }
     ensures { λ r. ⌜ r ≡ entryRight (diskOf (now (image .entry))) k ⌝ }
 {
     let e = read_entry(image, slot_place(dir, k));
@@ -65,7 +66,7 @@ fn entry_right(
     let namelen = e.namelen as usize;
     let name = e.name;
     if (SLOT_BYTES <= length) & ((1 <= namelen) & (namelen <= NAME_MOST)) {
-        if new_by_hash(image, dir, names, k, &name, namelen) {
+        if new_by_hash(image, dir, fresh, k, &name, namelen) {
             return parts_right(map, first, next, k, blocks_of(length));
         }
     }
@@ -83,37 +84,32 @@ fn is_listed(image: &[u8], dir: &BlockRow, end: usize, f: usize) -> bool
     false
 }
 
-// Whether file f is sound: the directory, a held slot, or a number that no record may bear (§7.22).
+// Whether file f is sound: the directory, a held slot, or a number that no record may bear (§7.22). The hash of its
+// name is noted for those that follow.
 fn file_right(
     image: &[u8],
     map: &MapNumbers,
     dir: &BlockRow,
     first: &FirstBlocks,
     next: &BlockRow,
-    names: &NameTally,
+    noted: &mut NotedHashes,
     end: usize,
     f: usize,
 ) -> bool
-    requires { ⌜ Tables (now image) (now map) (now dir) (now first) (now next) (now names) × (f < slotCount) × (end ≡ dirEnd (diskOf (now image))) ⌝ }
-    ensures { λ r. ⌜ r ≡ fileRight (diskOf (now (image .entry))) f ⌝ }
+    requires { ⌜ Tables (now image) (now map) (now dir) (now first) (now next) × (f < slotCount) × (end ≡ dirEnd (diskOf (now image))) × HashesNoted (now noted) (diskOf (now image)) f ⌝ }
+    ensures { λ r. ⌜ (r ≡ fileRight (diskOf (now (image .entry))) f) × HashesNoted (now (noted .exit)) (diskOf (now (image .entry))) (f + 1) ⌝ }
 {
     if f == 0 {
         return parts_right(map, first, next, 0, blocks_of(dir_bytes(image)));
     }
     if is_listed(image, dir, end, f) {
-        return entry_right(image, map, dir, first, next, names, f);
+        let fresh = note_hash(image, dir, f, noted);
+        return entry_right(image, map, dir, first, next, fresh, f);
     }
     first_block(first, f) == Geometry::BLOCKS
 }
 
-// The end of the slots that are judged: no directory has more than every block's (§7.22).
-fn judged_end(end: usize) -> usize
-    ensures { λ r. ⌜ (r ≡ min end slotCount) × (r ≤ slotCount) ⌝ }
-{
-    if end < SLOT_COUNT { end } else { SLOT_COUNT }
-}
-
-// The lowest file that is not sound, or the number of slots (§7.10).
+// The lowest file that is not sound, or the number of slots (§7.10). No directory has more than every block's (§7.22).
 fn file_fault(image: &[u8], map: &MapNumbers) -> usize
     requires { ⌜ (length (now image) ≡ imageBytes) × MapLoaded (now map) (diskOf (now image)) ⌝ }
     ensures { λ r. ⌜ (r ≡ fileFault (diskOf (now (image .entry)))) × (r ≤ slotCount) ⌝ }
@@ -124,10 +120,9 @@ fn file_fault(image: &[u8], map: &MapNumbers) -> usize
     let mut next = [NO_BLOCK; Geometry::BLOCKS];
     load_chains(map, &mut first, &mut next);
     let end = dir_end(image);
-    let mut names = [0u8; HASHES + 1];
-    tally_names(image, &dir, judged_end(end), &mut names);
+    let mut noted = [0u8; HASHES];
     for f in 0..SLOT_COUNT {
-        if !file_right(image, map, &dir, &first, &next, &names, end, f) {
+        if !file_right(image, map, &dir, &first, &next, &mut noted, end, f) {
             return f;
         }
     }

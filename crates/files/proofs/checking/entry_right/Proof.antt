@@ -53,9 +53,8 @@ new-by-hash-requires c κs =
       start .pre .0 .loadedDirectory,
       sizes-name _ _ (read-entry .ensures)
           (then1 .if1 .taken),
-      start .pre .0 .talliedNames,
-      entry-name _ _ (read-entry .result) (entry-read after-read-entry),
       start .pre .2,
+      entry-name _ _ (read-entry .result) (entry-read after-read-entry),
     )
 
 blocks-of-requires : tie.Need-blocks-of-requires

@@ -1,12 +1,11 @@
 -- `file_fault` meets its contract: the files below f are sound.
--- Rests on: the laws in Loading/NameHashes, Loading/Tally, Loading/Parts, Loading/Chains, Loading/Slots and
--- Judging/Sound; the contracts of file_blocks, load_chains, dir_end, judged_end, tally_names and file_right.
+-- Rests on: the laws in Loading/NameHashes, Loading/Parts, Loading/Chains, Loading/Slots and Judging/Sound; the
+-- contracts of file_blocks, load_chains, dir_end and file_right.
 -- Assumes nothing.
 use borrow.Author.Count.{below-none, below-more}
 use Rattle.sector_rules.specs.Geometry.{blocks}
-use Rattle.files.specs.Laws.Loading.NameHashes.{hashCount}
+use Rattle.files.specs.Laws.Loading.NameHashes.{HashesNoted, hashes-none}
 use Rattle.file_rules.specs.Map.{sequences}
-use Rattle.files.specs.Laws.Loading.Tally.{tally-none}
 use Rattle.files.specs.Laws.Loading.Parts.{from-none}
 use Rattle.files.specs.Laws.Loading.Chains.{chain-none}
 use Rattle.files.specs.Laws.Loading.Slots.{located-directory}
@@ -23,10 +22,11 @@ use Rattle.files.proofs.checking.file_fault.Statement.{statement}
 use Rattle.files.proofs.checking.file_fault.Tie as tie
 
 abbrev Inv-loop : tie.InvT-loop
-Inv-loop image map dir first next end names f₀ f = (f ≤ slotCount) × ((j : ℕ) → j < f → not (fileRight (diskOf image) j) ≡ false)
+Inv-loop image map dir first next end noted₀ f₀ noted f =
+    (f ≤ slotCount) × ((j : ℕ) → j < f → not (fileRight (diskOf image) j) ≡ false) × HashesNoted noted (diskOf image) f
 
 abbrev μ-loop : tie.MeasureT-loop
-μ-loop image map dir first next end names f₀ f = slotCount - f
+μ-loop image map dir first next end noted₀ f₀ noted f = slotCount - f
 
 file-blocks-requires : tie.Need-file-blocks-requires Inv-loop μ-loop
 file-blocks-requires c κs = from-none _ _
@@ -37,31 +37,14 @@ load-chains-requires c κs = chain-none (suc sequences) blocks refl refl _
 dir-end-requires : tie.Need-dir-end-requires Inv-loop μ-loop
 dir-end-requires c κs = search needs
 
-judged-end-requires : tie.Need-judged-end-requires Inv-loop μ-loop
-judged-end-requires c κs = search needs
-
-tally-names-requires : tie.Need-tally-names-requires Inv-loop μ-loop
-tally-names-requires c κs =
-    let after-dir-end = c .before .before .before in
-    let after-load-chains = after-dir-end .before in
-    let after-file-blocks = after-load-chains .before .before .before in
-    let start = after-file-blocks .before .before .before in (
-      start .pre .0,
-      c .before .judged-end .ensures .1,
-      located-directory _ _ _ (start .pre .1)
-          (after-file-blocks .file-blocks .ensures),
-      tally-none (suc hashCount) _,
-    )
-
 loop-holds : tie.Need-loop-holds Inv-loop μ-loop
-loop-holds c = (omega arith, below-none _)
+loop-holds c = (omega arith, below-none _, hashes-none _)
 
 file-right-requires : tie.Need-file-right-requires Inv-loop μ-loop
 file-right-requires c κs =
-    let after-dir3 = c .before .before .before in
-    let after-tally-names = after-dir3 .before .before .before in
-    let after-judged-end = after-tally-names .before .before in
-    let after-dir-end = after-judged-end .before .before in
+    let after-dir2 = c .before .before .before in
+    let at-loop = after-dir2 .before .before in
+    let after-dir-end = at-loop .before in
     let dir-end = after-dir-end .dir-end in
     let after-load-chains = after-dir-end .before in
     let after-file-blocks = after-load-chains .before .before .before in
@@ -72,12 +55,11 @@ file-right-requires c κs =
         loadedDirectory = located-directory _ _ _ (start .pre .1)
             (after-file-blocks .file-blocks .ensures);
         loadedChains = after-load-chains .load-chains .ensures;
-        talliedNames = rw
-            (after-judged-end .judged-end .ensures .0, dir-end .ensures .0) at (after-tally-names .tally-names .ensures);
       },
       omega
           arith,
       dir-end .ensures .0,
+      at-loop .loop .inv .2,
     )
 
 returns : tie.Need-returns Inv-loop μ-loop
@@ -86,7 +68,7 @@ returns c =
     let after-first2 = after-file-right .before .before .before in
     let at-loop = after-first2 .before .before .before in (
       fault-here _ _ (omega arith) (at-loop .loop .inv .1)
-          (ap not (sym (after-file-right .file-right .ensures)) ∙ c .if1 .taken),
+          (ap not (sym (after-file-right .file-right .ensures .0)) ∙ c .if1 .taken),
       omega arith,
     )
 
@@ -103,7 +85,8 @@ loop-again c =
     let at-loop = after-first2 .before .before .before in (
       omega arith,
       below-more _ _ (at-loop .loop .inv .1)
-          (ap not (sym (after-file-right .file-right .ensures)) ∙ c .if1 .left),
+          (ap not (sym (after-file-right .file-right .ensures .0)) ∙ c .if1 .left),
+      after-file-right .file-right .ensures .1,
     )
 
 returns-2 : tie.Need-returns-2 Inv-loop μ-loop
@@ -118,8 +101,6 @@ file-fault-spec =
     file-blocks-requires
     load-chains-requires
     dir-end-requires
-    judged-end-requires
-    tally-names-requires
     loop-holds
     file-right-requires
     returns

@@ -34,7 +34,6 @@ use Rattle.file_rules.specs.Check.{freeRight, refusal8, refusal9, refusal10, re
 use Rattle.files.specs.Laws.Loading.Loaded.{loadedRecord, MapLoaded, record-loaded, fault-loaded}
 use Rattle.files.specs.Laws.Loading.Chains.{Chained, noRecordBearsIn}
 use Rattle.files.specs.Laws.Loading.Slots.{Located}
-use Rattle.files.specs.Laws.Loading.NameHashes.{NamesTallied}
 use Rattle.files.specs.Laws.Loading.Parts.{partsIn}
 use Rattle.files.specs.Laws.Loading.Loops.{all-cong}
 use Rattle.files.specs.Laws.Judging.Verdict.{verdictOf, verdict-or-some, verdict-or-none}
@@ -66,12 +65,11 @@ module _ (map : List ℕ) (d : Disk) (m : MapLoaded map d) where
 -- ---- what is read for the judgement of the files
 
 -- the image is whole, and the tables are those of its disk
-pub record Tables (image map dir first next names : List ℕ) : Type 0 where
+pub record Tables (image map dir first next : List ℕ) : Type 0 where
   pub long : length image ≡ imageBytes
   pub loadedMap : MapLoaded map (diskOf image)
   pub loadedDirectory : Located dir (diskOf image)
   pub loadedChains : Chained first next map 0
-  pub talliedNames : NamesTallied names (diskOf image)
 
 -- refusal 9 by a loaded map
 unfoldable pub mapRefusal : List ℕ → Option Reply

@@ -1,27 +1,28 @@
 -- Hashes of names: a number for each name, by which most names are told apart at once.
--- Rests on tallies (Tally), on the slots (Slots) and on when names are equal (file_rules, Names).
+-- Rests on the slots (Slots) and on when names are equal (file_rules, Names).
 use mathlib.Core.Path.{_≡_, refl, sym, ap, ap₂, _∙_}
-use mathlib.Core.Bool.{true, false, not, cond, _&&_}
+use mathlib.Core.Bool.{Bool, true, false, not, _&&_}
 use mathlib.Core.List.{List}
 use Prim.Native.Nat.{ℕ, zero, suc, _+_, _*_, _%_, _<_, min}
 use native.Mathlib.Numerals.{add-one}
 use native.Mathlib.Omega.{arith}
 use lib.Dec.{ltb}
-use lib.ListN.{length, getD}
+use lib.ListN.{length, getD, set, replicate, length-set, length-replicate}
+use lib.Seq.{getD-set-same, getD-set-other}
 use Rattle.laws.specs.Lists.{tab, elementAt}
 use Rattle.laws.specs.Below.{all}
 use Rattle.laws.specs.Numbers.{at16}
-use Rattle.laws.specs.Laws.Cases.{by-test}
-use Rattle.laws.specs.Laws.Tests.{true-lt, cond-true, cond-false, and-left, and-right}
+use Rattle.laws.specs.Laws.Cases.{by-test, by-equal}
+use Rattle.laws.specs.Laws.Tests.{true-lt, lt-true, true≢false, and-true, and-left, and-right, and-false-right}
 use Rattle.laws.specs.Laws.All.{all-is}
 use Rattle.laws.specs.Laws.Tab.{tab-length, tab-in}
 use Rattle.sector_rules.specs.Geometry.{imageBytes}
 use Rattle.file_rules.specs.Sizes.{slotCount, nameMost}
 use Rattle.file_rules.specs.Disk.{Disk, diskOf}
 use Rattle.file_rules.specs.Directory.{nameEq, nameOf, entryOf, slotName, held, dirEnd}
+use Rattle.file_rules.specs.Check.{newName}
 use Rattle.file_rules.specs.Laws.Base.Names.{equal-length, equal-byte}
 use Rattle.files.specs.Laws.Loading.Slots.{Located, slotPlace, name-row, name-first, row-along}
-use Rattle.files.specs.Laws.Loading.Tally.{Tallied, tally-two}
 
 -- how many hashes there are
 abbrev pub hashCount : ℕ
@@ -77,45 +78,80 @@ hash-row s at n m e q =
     q ∙ sym (hash-tab (elementAt s (at + 16)) n) ∙ ap nameHash (row-along s at n)
     ∙ ap (λ (k : ℕ). nameHash (tab (λ (i : ℕ). elementAt s at (16 + i)) k)) e ∙ ap nameHash (sym (name-first (elementAt s at)))
 
--- the hash of a held slot's name; a vacant slot has a number of its own
-unfoldable pub slotHash : Disk → ℕ → ℕ
-slotHash d k = cond (held d k) (nameHash (slotName d k)) hashCount
-
-module _ (d : Disk) (k : ℕ) where
-  -- a held slot has the hash of its name
-  pub hash-held : held d k ≡ true → slotHash d k ≡ nameHash (slotName d k)
-  unfolding slotHash
-  hash-held h = cond-true (nameHash (slotName d k)) hashCount h
-
-  -- a vacant slot has the number past all hashes
-  pub hash-vacant : held d k ≡ false → slotHash d k ≡ hashCount
-  unfolding slotHash
-  hash-vacant h = cond-false (nameHash (slotName d k)) hashCount h
-
 module _ (image dir : List ℕ) (k : ℕ) (long : length image ≡ imageBytes) (hk : k < slotCount) (l : Located dir (diskOf image))
     (at m : ℕ) (e : at ≡ slotPlace dir k) (q : m ≡ nameHash (nameOf (entryOf (elementAt image at)))) where
   -- the hash that is read at the slot's place is that of its name
   pub hash-place : m ≡ nameHash (slotName (diskOf image) k)
   hash-place = q ∙ ap (λ (x : ℕ). nameHash (nameOf (entryOf (elementAt image x)))) e ∙ ap nameHash (sym (name-row image dir k long hk l))
 
--- the slots that are judged are tallied by their hashes
-abbrev pub NamesTallied : List ℕ → Disk → Type 0
-NamesTallied names d = Tallied names (suc hashCount) (slotHash d) (min (dirEnd d) slotCount)
+-- whether slot k is one of the directory's and held
+abbrev pub listedSlot : Disk → ℕ → Bool
+listedSlot d k = ltb k (dirEnd d) && held d k
 
--- a hash that no other slot has tells that the name is new
-pub new-by-hash : (d : Disk) (names : List ℕ) (k : ℕ) (name : List ℕ) → NamesTallied names d → name ≡ slotName d k
-    → k < slotCount → (ltb k (dirEnd d) && held d k) ≡ true → getD names (nameHash (slotName d k)) 0 < 2
+-- the hashes of the names of all listed slots below k are noted
+pub record HashesNoted (noted : List ℕ) (d : Disk) (k : ℕ) : Type 0 where
+  pub long : length noted ≡ hashCount
+  pub below : (j : ℕ) → j < k → listedSlot d j ≡ true → getD noted (nameHash (slotName d j)) 0 ≡ 1
+
+-- what a fresh hash tells: the name of slot k is new
+abbrev pub TellsNew : Bool → Disk → ℕ → Type 0
+TellsNew fresh d k = fresh ≡ true → newName d k ≡ true
+
+-- at first none is noted
+pub hashes-none : (d : Disk) → HashesNoted (replicate hashCount 0) d 0
+hashes-none d = record { long = length-replicate {A = ℕ} hashCount 0; below = λ j h t. absurd (omega arith) }
+
+module _ (noted : List ℕ) (d : Disk) (k : ℕ) (m : HashesNoted noted d k) where
+  -- a slot that is not listed has no hash to note
+  pub hashes-skip : listedSlot d k ≡ false → HashesNoted noted d (k + 1)
+  hashes-skip t =
+      record {
+        long = m .long;
+        below = λ j h u.
+            by-equal j k (λ e. true≢false (listedSlot d j) u (ap (listedSlot d) e ∙ t)) (λ e. m .below j (omega arith) u);
+      }
+
+  module _ (hash : ℕ) (e : hash ≡ nameHash (slotName d k)) where
+    room : hash < length noted
+    room = omega (arith, m .long, hash-lt (slotName d k))
+
+    -- the hash of slot k is noted
+    pub hashes-more : HashesNoted (set noted hash 1) d (k + 1)
+    hashes-more =
+        record {
+          long = length-set noted hash 1 ∙ m .long;
+          below = λ j h u.
+              by-equal (nameHash (slotName d j)) hash
+              (λ q. ap (λ (x : ℕ). getD (set noted hash 1) x 0) q ∙ getD-set-same noted hash 1 0 room)
+              (λ q.
+              getD-set-other noted hash (nameHash (slotName d j)) 1 0 q
+              ∙ by-equal j k (λ i. absurd (q (ap (λ (x : ℕ). nameHash (slotName d x)) i ∙ sym e))) (λ i. m .below j (omega arith) u));
+        }
+
+    -- a hash that no lower slot has tells that the name is new
+    pub fresh-new : listedSlot d k ≡ true → getD noted hash 0 ≡ 0 → newName d k ≡ true
+    unfolding newName
+    fresh-new t z =
+        let end : k < dirEnd d = true-lt (and-left (ltb k (dirEnd d)) (held d k) t) in
+        all-is (λ (j : ℕ). not (held d j && nameEq (slotName d j) (slotName d k))) k
+        (λ j l.
+        by-test (held d j && nameEq (slotName d j) (slotName d k))
+        (λ u.
+        let listed : listedSlot d j ≡ true =
+        and-true (lt-true {a = j} {b = dirEnd d} (omega arith)) (and-left (held d j) (nameEq (slotName d j) (slotName d k)) u) in
+        let same : nameHash (slotName d j) ≡ hash =
+        hash-same (slotName d j) (slotName d k) (and-right (held d j) (nameEq (slotName d j) (slotName d k)) u) ∙ sym e in
+        let one : getD noted hash 0 ≡ 1 = ap (λ (x : ℕ). getD noted x 0) (sym same) ∙ m .below j l listed in
+        absurd (omega arith))
+        (λ u. ap not u))
+
+-- slot 0 is not listed
+pub zero-unlisted : (d : Disk) → listedSlot d 0 ≡ false
+unfolding held
+zero-unlisted d = and-false-right (ltb 0 (dirEnd d)) refl
+
+-- what the name of slot k tells holds of every list that it is
+pub new-so : (d : Disk) (k : ℕ) (name : List ℕ) → name ≡ slotName d k → newName d k ≡ true
     → true ≡ all (λ (j : ℕ). not (held d j && nameEq (slotName d j) name)) k
-new-by-hash d names k name m e hk t low =
-    let lk : k < dirEnd d = true-lt (and-left (ltb k (dirEnd d)) (held d k) t) in
-    let hold : held d k ≡ true = and-right (ltb k (dirEnd d)) (held d k) t in
-    sym (all-is (λ (j : ℕ). not (held d j && nameEq (slotName d j) name)) k
-    (λ j l. by-test (held d j && nameEq (slotName d j) name)
-    (λ u.
-    let hj : held d j ≡ true = and-left (held d j) (nameEq (slotName d j) name) u in
-    let same : nameHash (slotName d j) ≡ nameHash (slotName d k) =
-    hash-same (slotName d j) name (and-right (held d j) (nameEq (slotName d j) name) u) ∙ ap nameHash e in
-    absurd (tally-two names (suc hashCount) (slotHash d) (min (dirEnd d) slotCount) m (nameHash (slotName d k)) j k
-    (omega (arith, hash-lt (slotName d k))) low (omega arith) (omega arith) (λ z. omega arith)
-    (hash-held d j hj ∙ same) (hash-held d k hold)))
-    (λ u. ap not u)))
+unfolding newName
+new-so d k name e t = sym (ap (λ (l : List ℕ). all (λ (j : ℕ). not (held d j && nameEq (slotName d j) l)) k) e ∙ t)

@@ -10,12 +10,10 @@ use native.Mathlib.Omega.{arith}
 use lib.Dec.{eqb}
 use lib.ListN.{length, getD, set, replicate, length-set, length-replicate, getD-replicate}
 use lib.Seq.{getD-set-same, getD-set-other}
-use Rattle.laws.specs.Changes.{upd}
 use Rattle.laws.specs.Below.{all, count}
 use Rattle.laws.specs.Laws.Cases.{by-equal, by-test}
 use Rattle.laws.specs.Laws.Tests.{eq-true, eq-false, and-false-left}
-use Rattle.laws.specs.Laws.Changes.{upd-same, upd-other}
-use Rattle.laws.specs.Laws.Count.{count-yes, count-no, count-drop}
+use Rattle.laws.specs.Laws.Count.{count-yes, count-no}
 
 -- none, one or more, as 0, 1 and 2
 unfoldable pub cap : ℕ → ℕ
@@ -51,12 +49,6 @@ unfolding cap
 cap-one zero = refl
 cap-one (suc zero) = refl
 cap-one (suc (suc n)) = sym (eq-false {a = suc (suc n)} {b = 1} (λ e. omega arith))
-
-cap-low : (n : ℕ) → cap n < 2 → n < 2
-unfolding cap
-cap-low zero h = omega arith
-cap-low (suc zero) h = omega arith
-cap-low (suc (suc n)) h = absurd (omega arith)
 
 some-passes : (n : ℕ) → eqb (cap (suc n)) 0 ≡ false
 unfolding cap
@@ -118,16 +110,3 @@ module _ (t : List ℕ) (keys : ℕ) (key : ℕ → ℕ) (k : ℕ) (m : Tallied 
   -- a key is not tallied if no number has it
   pub tally-zero : (x : ℕ) → x < keys → eqb (getD t x 0) 0 ≡ all (λ (b : ℕ). not (eqb (key b) x)) k
   tally-zero x h = ap (λ (y : ℕ). eqb y 0) (m .counts x h) ∙ none-passes (λ (b : ℕ). eqb (key b) x) k
-
-  -- a key that two numbers have is tallied as more than one
-  pub tally-two : (x i j : ℕ) → x < keys → getD t x 0 < 2 → i < k → j < k → i ≢ j → key i ≡ x → key j ≡ x → ⊥
-  tally-two x i j h low hi hj d ei ej =
-      let p : ℕ → Bool = λ (b : ℕ). eqb (key b) x in
-      let q : ℕ → Bool = upd p i false in
-      let r : ℕ → Bool = upd q j false in
-      let a : count k p ≡ suc (count k q) =
-      count-drop k i p q hi (eq-true ei) (upd-same p i false i refl) (λ l b z. sym (upd-other p i false l z)) in
-      let c : count k q ≡ suc (count k r) =
-      count-drop k j q r hj (upd-other p i false j (λ z. d (sym z)) ∙ eq-true ej) (upd-same q j false j refl) (λ l b z. sym (upd-other q j false l z)) in
-      let e : cap (count k p) < 2 = rw (← m .counts x h) low in
-      omega (arith, cap-low (count k p) e)
