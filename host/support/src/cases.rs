@@ -2,6 +2,8 @@
 
 use crate::hex::from_hex;
 use crate::json::{parse_lines, Value};
+use crate::levels::{later_answer, LEVEL};
+use std::collections::BTreeMap;
 
 /// How many cases a random test runs: the usual number, or that of the
 /// environment variable `DHEG_CASES`.
@@ -12,24 +14,59 @@ pub fn cases(usual: u32) -> u32 {
     }
 }
 
-/// Outside answers: so many cases, a line of JSON each.
+/// Outside answers to what the project began with, level 0: a file of so many
+/// cases, a line of JSON each.
 pub struct Outside {
-    /// The lines.
+    /// The file's name.
+    pub file: &'static str,
+    /// Its lines.
     pub lines: &'static str,
     /// How many there have to be.
     pub count: usize,
+    /// Lines of JSON that say which lines of which file have other answers
+    /// once a change request is in. All others hold at every level.
+    pub base: &'static str,
 }
 
 impl Outside {
     /// Runs one case of `step`, from case `first` on, so that several tests
-    /// share the work.
+    /// share the work. Each has the answers that hold at the project's level.
     pub fn run(&self, first: usize, step: usize, run: impl Fn(&Value)) {
-        let cases = parse_lines(self.lines);
+        run_share(&self.at_level(LEVEL), first, step, run);
+    }
+
+    /// The cases with the answers that hold at a level.
+    fn at_level(&self, level: usize) -> Vec<Value> {
+        let mut cases = parse_lines(self.lines);
         assert_eq!(cases.len(), self.count);
-        for (index, case) in cases.iter().enumerate().skip(first).step_by(step) {
-            println!("case {index}");
-            run(case);
+        for (line, answers) in self.changed(level) {
+            let case = &mut cases[line - 1];
+            *case = case.replaced(&answers);
         }
+        cases
+    }
+
+    /// The lines, from 1, whose own answers hold no more at a level, each with
+    /// those that do.
+    pub fn changed(&self, level: usize) -> BTreeMap<usize, Value> {
+        let mut changed = BTreeMap::new();
+        for change in parse_lines(self.base) {
+            let [file, line, until, later] =
+                change.members(["file", "line", "holds_until", "later"]);
+            if file.text() == self.file {
+                let answers = later_answer(until, later, level);
+                changed.extend(answers.map(|answers| (line.size(), answers.clone())));
+            }
+        }
+        changed
+    }
+}
+
+/// Runs one case of `step`, from case `first` on.
+fn run_share(cases: &[Value], first: usize, step: usize, run: impl Fn(&Value)) {
+    for (index, case) in cases.iter().enumerate().skip(first).step_by(step) {
+        println!("case {index}");
+        run(case);
     }
 }
 
@@ -53,10 +90,15 @@ mod tests {
     use std::cell::RefCell;
 
     const CASES: Outside = Outside {
+        file: "own.jsonl",
         lines: "{\"reply\": [9, 1, 0, 0], \"patches\": [[1, \"0aff\"], [0, \"07\"]]}\n\
                 {\"reply\": [0, 0, 0, 0], \"patches\": []}\n\
                 {\"reply\": [1, 2, 0, 0], \"patches\": [[3, \"08\"]]}\n",
         count: 3,
+        base: "{\"file\": \"own.jsonl\", \"line\": 2, \"holds_until\": 50, \"later\": \
+               [{\"level\": 51, \"holds_until\": null, \"answer\": {\"reply\": [5, 0, 0, 0]}}]}\n\
+               {\"file\": \"other.jsonl\", \"line\": 1, \"holds_until\": 50, \"later\": \
+               [{\"level\": 51, \"holds_until\": null, \"answer\": {\"reply\": [6, 0, 0, 0]}}]}\n",
     };
 
     #[test]
@@ -89,7 +131,20 @@ mod tests {
     #[test]
     #[should_panic]
     fn another_count_is_a_failure() {
-        let lines = CASES.lines;
-        Outside { lines, count: 4 }.run(0, 1, |_| ());
+        let more = Outside { count: 4, ..CASES };
+        more.run(0, 1, |_| ());
+    }
+
+    /// From a level on a line of this file has other answers, and what it asks
+    /// stays; the other lines are as they were.
+    #[test]
+    fn answers_at_a_level() {
+        let own = CASES.at_level(0);
+        assert_eq!(CASES.at_level(50), own);
+        let changed = CASES.at_level(51);
+        assert_eq!([&changed[0], &changed[2]], [&own[0], &own[2]]);
+        assert_eq!(expected_reply(changed[1].get("reply")), [5, 0, 0, 0]);
+        assert_eq!(changed[1].get("patches"), own[1].get("patches"));
+        assert_eq!(CASES.changed(51).into_keys().collect::<Vec<_>>(), [2]);
     }
 }

@@ -41,13 +41,41 @@ pub fn parse(text: &str) -> Value {
 }
 
 impl Value {
+    /// The object's members; panics on anything else.
+    fn object(&self) -> &[(String, Value)] {
+        match self {
+            Value::Object(members) => members,
+            _ => panic!("not an object: {self:?}"),
+        }
+    }
+
     /// The member of this name; panics if there is none.
     pub fn get(&self, name: &str) -> &Value {
-        let Value::Object(members) = self else {
-            panic!("not an object: {self:?}");
-        };
-        let found = members.iter().find(|(key, _)| key == name);
+        let found = self.object().iter().find(|(key, _)| key == name);
         &found.unwrap_or_else(|| panic!("no member {name}")).1
+    }
+
+    /// The members of these names, in this order; panics if one is missing,
+    /// and if there is any other.
+    pub fn members<const N: usize>(&self, names: [&str; N]) -> [&Value; N] {
+        for (key, _) in self.object() {
+            assert!(names.contains(&key.as_str()), "unknown member {key}");
+        }
+        names.map(|name| self.get(name))
+    }
+
+    /// The object with the other's members in place of its own of the same
+    /// names; panics if it has not all of them.
+    pub fn replaced(&self, by: &Value) -> Value {
+        for (key, _) in by.object() {
+            self.get(key);
+        }
+        let own = self.object().iter();
+        let members = own.map(|(key, value)| {
+            let other = by.object().iter().find(|(name, _)| name == key);
+            (key.clone(), other.map_or(value, |(_, other)| other).clone())
+        });
+        Value::Object(members.collect())
     }
 
     /// The number; panics on anything else.
@@ -212,6 +240,44 @@ mod tests {
         assert_eq!(value.get("a").list()[4], Value::List(vec![]));
         assert_eq!(value.get("b").text(), "x\n\"y\"");
         assert_eq!(value.get("c"), &Value::Object(vec![]));
+    }
+
+    /// Members are given in the order in which they are asked for.
+    #[test]
+    fn members_by_name() {
+        let value = parse(r#"{"a": 1, "b": 2}"#);
+        let [b, a] = value.members(["b", "a"]);
+        assert_eq!((a.number(), b.number()), (1, 2));
+    }
+
+    /// A member that is not asked for is a failure.
+    #[test]
+    #[should_panic(expected = "unknown member b")]
+    fn no_other_members() {
+        parse(r#"{"a": 1, "b": 2}"#).members(["a"]);
+    }
+
+    /// So is one that is missing.
+    #[test]
+    #[should_panic(expected = "no member b")]
+    fn all_members() {
+        parse(r#"{"a": 1}"#).members(["a", "b"]);
+    }
+
+    /// Members are replaced by name, and the others stay.
+    #[test]
+    fn replaced_members() {
+        let value = parse(r#"{"a": 1, "b": 2, "c": 3}"#);
+        let by = parse(r#"{"c": [], "a": null}"#);
+        let expected = parse(r#"{"a": null, "b": 2, "c": []}"#);
+        assert_eq!(value.replaced(&by), expected);
+    }
+
+    /// What an object has not cannot be replaced.
+    #[test]
+    #[should_panic(expected = "no member d")]
+    fn replaced_member_is_there() {
+        parse(r#"{"a": 1}"#).replaced(&parse(r#"{"d": 4}"#));
     }
 
     #[test]

@@ -12,5 +12,6 @@ pub mod hex;
 mod huffman;
 pub mod inflate;
 pub mod json;
+pub mod levels;
 pub mod noise;
 pub mod sha256;

@@ -31,31 +31,35 @@ pub enum Call {
 pub type Answer = (Parts, Option<Vec<u8>>);
 
 impl Call {
+    /// The call of a case; panics if it is of another kind or has a member
+    /// that is not known.
     pub fn from_json(call: &Value) -> Call {
-        let name = || from_hex(call.get("name").text());
-        let pair = |member: &str| {
-            let pair = call.get(member).list();
-            (pair[0].number(), pair[1].size())
-        };
-        let buffer = || {
-            let (fill, len) = pair("buffer");
-            vec![u8::try_from(fill).unwrap(); len]
-        };
+        let name = |value: &Value| from_hex(value.text());
         match call.get("op").text() {
             "add" => {
-                let (seed, len) = pair("data");
+                let [_, own, date, data] = call.members(["op", "name", "date", "data"]);
+                let (seed, len) = pair(data);
                 Call::Add {
-                    name: name(),
-                    date: u32::try_from(call.get("date").number()).unwrap(),
+                    name: name(own),
+                    date: u32::try_from(date.number()).unwrap(),
                     data: noise(u32::try_from(seed).unwrap(), len),
                 }
             }
-            "remove" => Call::Remove { name: name() },
-            "read" => Call::Read {
-                name: name(),
-                buffer: buffer(),
-            },
-            "list" => Call::List { buffer: buffer() },
+            "remove" => {
+                let [_, own] = call.members(["op", "name"]);
+                Call::Remove { name: name(own) }
+            }
+            "read" => {
+                let [_, own, lent] = call.members(["op", "name", "buffer"]);
+                let (name, buffer) = (name(own), buffer(lent));
+                Call::Read { name, buffer }
+            }
+            "list" => {
+                let [_, lent] = call.members(["op", "buffer"]);
+                Call::List {
+                    buffer: buffer(lent),
+                }
+            }
             op => panic!("call {op}"),
         }
     }
@@ -79,6 +83,20 @@ impl Call {
             Call::List { buffer } => lent(buffer, |out| model.list(out)),
         }
     }
+}
+
+/// A number and a length.
+fn pair(value: &Value) -> (u64, usize) {
+    match value.list() {
+        [number, len] => (number.number(), len.size()),
+        _ => panic!("not a pair: {value:?}"),
+    }
+}
+
+/// A buffer of equal bytes, as it is lent.
+fn buffer(value: &Value) -> Vec<u8> {
+    let (fill, len) = pair(value);
+    vec![u8::try_from(fill).unwrap(); len]
 }
 
 fn filled((reply, buffer): (Parts, Vec<u8>)) -> Answer {

@@ -1,9 +1,9 @@
 //! Corrupted block images with the answers of an independent program.
 
-use super::answer::{add, check, first_track, first_track_text, list, read, remove, Parts};
+use super::answer::{add, list, read, remove, Parts};
 use super::build::fresh;
 use super::call::Call;
-use reference::geometry::TRACK_LEN;
+use super::outside::assert_judged;
 use support::cases::{expected_reply, lay_patches, Outside};
 use support::hex::from_hex;
 use support::json::Value;
@@ -11,8 +11,10 @@ use support::noise::noise;
 use support::sha256::sha256_hex;
 
 const CASES: Outside = Outside {
+    file: "corrupted.jsonl",
     lines: include_str!("../../data/corrupted.jsonl"),
     count: 200,
+    base: include_str!("../../data/requests/base.jsonl"),
 };
 
 /// The image of the case: a format, its calls, then its patches.
@@ -34,7 +36,7 @@ fn compare(case: &Value, call: &str, reply: Parts, hash: &str, lent: &[u8]) {
 fn run(case: &Value) {
     let image = corrupted_image(case);
     let name = from_hex(case.get("name").text());
-    assert_eq!(check(&image), *expected_reply(case.get("check")));
+    assert_judged(&image, case.get("check"), case.get("first_track"));
 
     let (reply, buffer) = list(&image, &[0xAA; 4000]);
     compare(case, "list", reply, "list_buffer", &buffer);
@@ -49,10 +51,6 @@ fn run(case: &Value) {
     let mut changed = image.clone();
     let reply = remove(&mut changed, &name);
     compare(case, "remove", reply, "remove_image", &changed);
-
-    let track = &image[..TRACK_LEN];
-    first_track(track);
-    assert_eq!(first_track_text(track), case.get("first_track").text());
 }
 
 #[test]
@@ -63,4 +61,12 @@ fn even_cases() {
 #[test]
 fn odd_cases() {
     CASES.run(1, 2, run);
+}
+
+/// Request Five changes what is said of 10 of these disks, Six of 20 others.
+#[test]
+fn answers_that_change_with_a_request() {
+    for (level, count) in [(0, 0), (4, 0), (5, 10), (6, 30), (14, 30)] {
+        assert_eq!(CASES.changed(level).len(), count, "level {level}");
+    }
 }

@@ -10,8 +10,10 @@ use support::noise::noise;
 use support::sha256::sha256_hex;
 
 const CASES: Outside = Outside {
+    file: "damaged.jsonl",
     lines: include_str!("../../data/damaged.jsonl"),
     count: 120,
+    base: include_str!("../../data/requests/base.jsonl"),
 };
 
 /// The noise image of the case, packed.
@@ -53,4 +55,12 @@ fn cases_from_2() {
 #[test]
 fn cases_from_3() {
     CASES.run(3, 4, run);
+}
+
+/// Request Fourteen changes what is said of four of these images.
+#[test]
+fn answers_that_change_with_a_request() {
+    for (level, count) in [(0, 0), (13, 0), (14, 4)] {
+        assert_eq!(CASES.changed(level).len(), count, "level {level}");
+    }
 }

@@ -1,0 +1,73 @@
+//! Levels of the outside answers: level n means that the change requests One
+//! to n are in, and no other.
+
+use crate::json::Value;
+
+/// The project's level: the requests One to this one are in. The tests take
+/// the answers that hold at it.
+pub const LEVEL: usize = 0;
+
+/// Whether an answer still holds at a level: `until` is the last level that it
+/// holds at, or null where it never changes.
+fn holds(until: &Value, level: usize) -> bool {
+    match until {
+        Value::Null => true,
+        last => level <= last.size(),
+    }
+}
+
+/// Of the answers that follow an answer, which holds until a level, the one
+/// that holds at `level`; none where the answer itself still does. Each of
+/// them holds from the level after the last one's end.
+pub fn later_answer<'a>(until: &'a Value, later: &'a Value, level: usize) -> Option<&'a Value> {
+    if holds(until, level) {
+        return None;
+    }
+    let mut last = until;
+    for next in later.list() {
+        let [from, until, answer] = next.members(["level", "holds_until", "answer"]);
+        assert_eq!(from.size(), last.size() + 1, "levels without an answer");
+        if holds(until, level) {
+            return Some(answer);
+        }
+        last = until;
+    }
+    panic!("no answer at level {level}");
+}
+
+#[cfg(test)]
+mod tests {
+    use super::*;
+    use crate::json::parse;
+
+    /// An answer until 4, one for 5 to 11, and one from 12 on.
+    const LATER: &str = r#"[
+        {"level": 5, "holds_until": 11, "answer": "second"},
+        {"level": 12, "holds_until": null, "answer": "third"}
+    ]"#;
+
+    /// Each level has one answer, from the level after the last one's end.
+    #[test]
+    fn one_answer_at_each_level() {
+        let (until, later) = (Value::Number(4), parse(LATER));
+        let at = |level| later_answer(&until, &later, level).map(Value::text);
+        assert_eq!((at(0), at(4)), (None, None));
+        assert_eq!((at(5), at(11)), (Some("second"), Some("second")));
+        assert_eq!((at(12), at(99)), (Some("third"), Some("third")));
+        assert_eq!(later_answer(&Value::Null, &Value::List(vec![]), 99), None);
+    }
+
+    /// Levels between two answers are a failure.
+    #[test]
+    #[should_panic(expected = "levels without an answer")]
+    fn no_level_is_left_out() {
+        later_answer(&Value::Number(3), &parse(LATER), 5);
+    }
+
+    /// So are levels after the last answer.
+    #[test]
+    #[should_panic(expected = "no answer at level 6")]
+    fn last_answer_holds_for_ever() {
+        later_answer(&Value::Number(5), &parse("[]"), 6);
+    }
+}
