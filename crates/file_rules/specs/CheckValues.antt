@@ -1,14 +1,18 @@
--- check-values: the places that 9 and 10 name (§7.9, §7.10), by value: what the check says of a formatted disk of which one record of the map is another.
+-- check-values: the places that 9 and 10 name (§7.9, §7.10), by value: what the check says of a formatted disk of which one record of the map is another,
+-- and of a disk with two spellings of one name.
 -- Assumes nothing: these are definitions. The proof is `check-values` in Laws/Values/CheckValues.antt.
-use mathlib.Core.List.{List}
+use mathlib.Core.List.{List, [], _∷_}
+use mathlib.Core.Option.{none, some}
 use mathlib.Core.Path.{_≡_, _∙_}
 use Prim.Native.Nat.{ℕ, _≤_, _<_}
 use lib.ListN.{length, set}
+use Rattle.laws.specs.Changes.{upd}
 use Rattle.sector_rules.specs.Geometry.{imageBytes}
 use Rattle.sector_rules.specs.Replies.{replyWith}
 use Rattle.file_rules.specs.Arguments.{FormatArguments}
 use Rattle.file_rules.specs.Calls.{format, check}
-use Rattle.file_rules.specs.Disk.{Disk}
+use Rattle.file_rules.specs.Disk.{imageOf}
+use Rattle.file_rules.specs.Model.{Model, FilledSlot, modelDisk}
 use Rattle.file_rules.specs.Sizes.{titleMost}
 
 -- ---- what is promised
@@ -23,6 +27,27 @@ pub record RecordsJudged (image : List ℕ) : Type 0 where
   pub directory-part : check (set image 101 1) ≡ replyWith 10 0 0 0
   pub no-slot : check (set (set (set image 102 0x00) 103 0x50) 104 0x00) ≡ replyWith 10 5 0 0
 
--- check-values: so of every formatted disk (§7.9 §7.10)
-abbrev pub CheckValues : Type 0
-CheckValues = (old : List ℕ) (args : FormatArguments) → length old ≡ imageBytes → length (args .title) ≤ titleMost → RecordsJudged (format old args .image)
+-- Reel_one, and REEL_ONE (§6.14)
+unfoldable pub reelOne : List ℕ
+reelOne = 0x52 ∷ 0x65 ∷ 0x65 ∷ 0x6C ∷ 0x5F ∷ 0x6F ∷ 0x6E ∷ 0x65 ∷ []
+
+-- the same name in capitals (§6.14)
+unfoldable pub reelCapitals : List ℕ
+reelCapitals = 0x52 ∷ 0x45 ∷ 0x45 ∷ 0x4C ∷ 0x5F ∷ 0x4F ∷ 0x4E ∷ 0x45 ∷ []
+
+-- a slot with a file of this name, without data, in block b (§9.2)
+unfoldable pub emptyFile : List ℕ → ℕ → FilledSlot
+emptyFile name b = record { file = record { name = name; date = 0; content = [] }; taken = b ∷ [] }
+
+-- a disk with a file in slot 1 and one in slot 2; no history makes it if their names are equal (§9.2)
+unfoldable pub twoFiles : FormatArguments → List ℕ → List ℕ → Model
+twoFiles args a b =
+    record { arguments = args; updates = 2; peak = 2; slots = upd (upd (λ (k : ℕ). none) 1 (some (emptyFile a 2))) 2 (some (emptyFile b 3)); dir = 1 ∷ [] }
+
+-- check-values (§7.9 §7.10 §7.21)
+pub record CheckValues : Type 0 where
+  -- records are judged so on every formatted disk
+  pub records-judged : (old : List ℕ) (args : FormatArguments) → length old ≡ imageBytes → length (args .title) ≤ titleMost
+      → RecordsJudged (format old args .image)
+  -- 10 at the higher of two slots whose names differ in their capitals alone
+  pub spellings-judged : (args : FormatArguments) → check (imageOf (modelDisk (twoFiles args reelOne reelCapitals))) ≡ replyWith 10 2 0 0

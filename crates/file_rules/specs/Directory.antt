@@ -1,7 +1,7 @@
 -- Directory entries, slots and names (docs/RULES.md, section 6).
 -- Assumes nothing: these are definitions.
-use mathlib.Core.Bool.{Bool, not, _&&_}
-use mathlib.Core.List.{List}
+use mathlib.Core.Bool.{Bool, not, cond, _&&_}
+use mathlib.Core.List.{List, map}
 use Prim.Native.Nat.{ℕ, _+_, _*_, _/_, _%_}
 use lib.Dec.{leb, ltb, eqb}
 use lib.ListN.{length, getD, take}
@@ -16,9 +16,13 @@ use Rattle.file_rules.specs.Map.{partBlock}
 
 -- ---- names
 
--- whether two names are equal: their lengths and their bytes are (§6.14)
+-- a byte of a name as it is compared: A to Z, 41 to 5A (hex), are read as a to z, 61 to 7A, and every other byte as it is (§6.14)
+unfoldable pub lowered : ℕ → ℕ
+lowered x = cond (leb 0x41 x && leb x 0x5A) (x + 0x20) x
+
+-- whether two names are equal: so read, they have the same bytes in the same order, and so the same length (§6.14)
 unfoldable pub nameEq : List ℕ → List ℕ → Bool
-nameEq a b = same a b
+nameEq a b = same (map lowered a) (map lowered b)
 
 -- whether a file's name has 1 to 36 bytes (§6.15)
 unfoldable pub nameRight : List ℕ → Bool

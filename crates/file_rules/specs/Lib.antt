@@ -9,6 +9,7 @@ pub mod Written
 pub mod Calls
 pub mod FirstTrack
 pub mod Model
+pub mod NamesEqual
 pub mod Histories
 pub mod History
 pub mod Refusals

@@ -10,7 +10,7 @@ ghost use Rattle.laws.specs.Numbers.{at16};
 ghost use Rattle.sector_rules.specs.Geometry.{imageBytes};
 ghost use Rattle.file_rules.specs.Sizes.{slotBytes, slotCount, nameMost};
 ghost use Rattle.file_rules.specs.Disk.{diskOf};
-ghost use Rattle.file_rules.specs.Directory.{nameEq, entryOf, nameOf, slotName, held, dirEnd, findName, vacantSlot};
+ghost use Rattle.file_rules.specs.Directory.{lowered, nameEq, entryOf, nameOf, slotName, held, dirEnd, findName, vacantSlot};
 ghost use Rattle.files.specs.Laws.Loading.Slots.{slotPlace, Located};
 use crate::blocks::block_number;
 use crate::blocks::byte_place;
@@ -96,7 +96,27 @@ pub fn name_length(image: &[u8], at: usize) -> usize
     }
 }
 
-// Whether the slot at a place has this name: the same length and the same bytes (§6.14).
+// A byte of a name as it is compared: A to Z are read as a to z (§6.14).
+pub fn lowered_byte(x: u8) -> u8
+    ensures { λ r. ⌜ r ≡ lowered x ⌝ }
+{
+    if (0x41 <= x) & (x <= 0x5A) {
+        return x + 0x20;
+    }
+    x
+}
+
+// Whether two bytes of names agree once they are lowered (§6.14). Most that agree are the same byte, so that is asked first.
+fn bytes_agree(x: u8, y: u8) -> bool
+    ensures { λ r. ⌜ r ≡ eqb (lowered x) (lowered y) ⌝ }
+{
+    if x == y {
+        return true;
+    }
+    lowered_byte(x) == lowered_byte(y)
+}
+
+// Whether the slot at a place has this name: the same length, and at each place bytes that agree (§6.14).
 fn entry_has_name(image: &[u8], at: usize, name: &[u8]) -> bool
     requires { ⌜ at ≤ imageBytes ⌝ }
     ensures { λ r. ⌜ r ≡ nameEq (nameOf (entryOf (elementAt (now (image .entry)) at))) (now (name .entry)) ⌝ }
@@ -105,7 +125,7 @@ fn entry_has_name(image: &[u8], at: usize, name: &[u8]) -> bool
         return false;
     }
     for i in 0..name.len() {
-        if fields::byte(image, at + 16, i) != name[i] {
+        if !bytes_agree(fields::byte(image, at + 16, i), name[i]) {
             return false;
         }
     }

@@ -12,6 +12,7 @@ ghost use Rattle.file_rules.specs.Disk.{diskOf};
 ghost use Rattle.file_rules.specs.Directory.{nameEq, nameOf, entryOf, slotName, held, dirEnd};
 ghost use Rattle.files.specs.Laws.Loading.Slots.{Located};
 ghost use Rattle.files.specs.Laws.Loading.NameHashes.{hashCount, nameHash, HashesNoted, TellsNew};
+use crate::directory::lowered_byte;
 use crate::directory::name_length;
 use crate::directory::slot_has_name;
 use crate::directory::slot_place;
@@ -30,7 +31,8 @@ fn wide(x: u8) -> usize
     x as usize
 }
 
-// The hash of the name in the slot at a place.
+// The hash of the name in the slot at a place: that of its bytes once they are lowered, so that equal names have one
+// hash (§6.14).
 fn name_hash(image: &[u8], at: usize) -> usize
     requires { ⌜ at ≤ imageBytes ⌝ }
     ensures { λ r. ⌜ (r ≡ nameHash (nameOf (entryOf (elementAt (now (image .entry)) at)))) × (r < hashCount) ⌝ }
@@ -38,7 +40,7 @@ fn name_hash(image: &[u8], at: usize) -> usize
     let n = name_length(image, at);
     let mut hash = 0;
     for i in 0..n {
-        hash = (hash * 33 + wide(fields::byte(image, at + 16, i))) % HASHES;
+        hash = (hash * 33 + wide(lowered_byte(fields::byte(image, at + 16, i)))) % HASHES;
     }
     hash
 }

@@ -8,7 +8,7 @@
 //! - Cell layer: `cells`, `mfm`, `crc`, `header`, `field`, `sector`,
 //!   `written`.
 //! - Sector layer: `geometry`, `hfe`, `track_table`, `unpack`, `pack`.
-//! - File layer: `layout`, `disk`, `disk_header`, `map`, `directory`,
+//! - File layer: `layout`, `disk`, `disk_header`, `map`, `directory`, `names`,
 //!   `sound`, `volume`, `buffer`, and a file for each call.
 //! - Beside it: `model`, which gives the answers of a whole history without
 //!   looking at an image.
@@ -35,6 +35,7 @@ pub mod list;
 pub mod map;
 pub mod mfm;
 pub mod model;
+pub mod names;
 pub mod pack;
 pub mod read;
 pub mod remove;

@@ -5,6 +5,7 @@ use crate::disk::Disk;
 use crate::geometry::BLOCK_LEN;
 use crate::layout::entry::{Entry, SLOT_LEN};
 use crate::layout::record::{Record, FILE_NUMBERS};
+use crate::names::lowered;
 use crate::reply::Refusal;
 use std::collections::HashSet;
 
@@ -34,8 +35,8 @@ fn are_sequences_of(sequences: &[usize], file_len: usize) -> bool {
 /// that no file holds (§7.22).
 ///
 /// Without the directory's own blocks its slots cannot be read, so file 0 is
-/// judged first. A name is noted when its slot is judged; the second slot of
-/// the same name is the one at fault.
+/// judged first. A name is noted when its slot is judged; of two slots with
+/// equal names the higher is the one at fault.
 pub fn judge_directory(
     disk: &Disk,
     records: &[Record],
@@ -61,12 +62,12 @@ pub fn judge_directory(
 }
 
 /// Whether a held slot is sound, given the sequences of its file (§7.20) and
-/// the names of lower slots (§7.21).
+/// the names of lower slots, as they are compared (§7.21).
 fn is_file_sound(slot: &[u8], sequences: &[usize], names: &mut HashSet<Vec<u8>>) -> bool {
     let entry = Entry::read(slot);
     let len = entry.len as usize;
     let Some(name) = entry.name() else {
         return false;
     };
-    len >= SLOT_LEN && are_sequences_of(sequences, len) && names.insert(name.to_vec())
+    len >= SLOT_LEN && are_sequences_of(sequences, len) && names.insert(lowered(name))
 }

@@ -9,6 +9,7 @@ use crate::layout::header::{FREE, UPDATES};
 use crate::layout::record::Record;
 use crate::layout::{long_at, set_long, set_word};
 use crate::map::{free_sectors, judge_free_word, judge_map, set_record};
+use crate::names::lowered;
 use crate::reply::Refusal;
 use crate::sound::judge_directory;
 
@@ -46,10 +47,11 @@ impl Volume {
         numbered.filter(|(number, slot)| is_held(*number, *slot))
     }
 
-    /// The held slot of this name: same length, same bytes (§6.14).
+    /// The held slot whose name is equal to this one (§6.14).
     pub fn slot_of(&self, name: &[u8]) -> Option<usize> {
+        let wanted = Some(lowered(name));
         self.held_slots()
-            .find(|(_, slot)| Entry::read(*slot).name() == Some(name))
+            .find(|(_, slot)| Entry::read(*slot).name().map(lowered) == wanted)
             .map(|(number, _)| number)
     }
 

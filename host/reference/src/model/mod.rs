@@ -1,14 +1,16 @@
 //! The model: what a history of calls must give, told from the arguments of
 //! format and calls alone. It never looks at an image.
 //!
-//! It shares no decision with the calls on images, only the layout of header,
-//! entry and record, and the numbers and the placement of the disk.
+//! It shares no decision with the calls on images but which names are equal,
+//! and else only the layout of header, entry and record, and the numbers and
+//! the placement of the disk.
 
 mod blocks;
 mod image;
 
 use crate::geometry::BLOCK_LEN;
 use crate::layout::entry::{Entry, SLOT_LEN};
+use crate::names::lowered;
 use crate::reply::Reply;
 use blocks::{blocks_for, word};
 
@@ -18,7 +20,7 @@ const SLOTS_PER_BLOCK: usize = BLOCK_LEN / SLOT_LEN;
 /// A file that is present (§9.6).
 #[derive(Clone, Debug, PartialEq, Eq)]
 pub struct File {
-    /// Its name.
+    /// Its name, as the add spelled it.
     pub name: Vec<u8>,
     /// Its date.
     pub date: u32,
@@ -147,11 +149,12 @@ impl Model {
         deliver(&entries, buffer)
     }
 
-    /// The slot of the file of this name.
+    /// The slot of the file whose name is equal to this one (§6.14).
     fn slot_of(&self, name: &[u8]) -> Option<usize> {
+        let wanted = lowered(name);
         let mut files = self.files();
         files
-            .find(|(_, file)| file.name == name)
+            .find(|(_, file)| lowered(&file.name) == wanted)
             .map(|(slot, _)| slot)
     }
 

@@ -1,49 +1,82 @@
--- Names (§6.14, §6.15): when they are equal, byte by byte; their equality is an equivalence, and the model accepts those that the calls accept.
+-- Names (§6.14, §6.15): the proof of names-equal (NamesEqual.antt), and the model accepts those that the calls accept.
 -- No other file unfolds the equality, and only what reads names byte by byte (files, Loading) uses more than that it is an equivalence.
 -- Rests on the equality of lists (laws, Same).
-use mathlib.Core.Path.{_≡_, refl, sym, ap, _∙_}
+use mathlib.Core.Path.{_≡_, refl, sym, ap, subst, _∙_}
 use mathlib.Core.Bool.{Bool, true}
-use mathlib.Core.List.{List}
-use Prim.Native.Nat.{ℕ, _≤_, _<_}
+use mathlib.Core.List.{List, [], _∷_, map}
+use Prim.Native.Nat.{ℕ, zero, suc, _≤_, _<_}
+use native.Mathlib.Nat.{le-of-suc-le-suc, not-suc-le-zero}
 use lib.Dec.{leb}
-use lib.ListN.{length, getD}
+use lib.ListN.{length, getD, length-map}
 use lib.Seq.{ext-getD}
 use Rattle.laws.specs.Laws.Tests.{le-true, true-le, and-true, and-left, and-right}
 use Rattle.laws.specs.Laws.Same.{same-eq, eq-same}
-use Rattle.file_rules.specs.Directory.{nameEq, nameRight}
+use Rattle.laws.specs.Lists.{tab, same}
+use Rattle.file_rules.specs.Directory.{lowered, nameEq, nameRight}
 use Rattle.file_rules.specs.Model.{acceptable}
+use Rattle.file_rules.specs.NamesEqual.{smallLetters, bytesCompared, AgreeLowered, NamesEqual}
 use Rattle.file_rules.specs.Sizes.{nameMost}
 
+map-at : (f : ℕ → ℕ) (a : List ℕ) (i : ℕ) → i < length a → getD (map f a) i 0 ≡ f (getD a i 0)
+map-at f [] i h = absurd (not-suc-le-zero h)
+map-at f (x ∷ xs) zero h = refl
+map-at f (x ∷ xs) (suc i) h = map-at f xs i (le-of-suc-le-suc h)
+
+lowered-all : tab lowered 256 ≡ bytesCompared
+unfolding tab lowered bytesCompared smallLetters
+lowered-all = refl
+
 module _ (a b : List ℕ) where
+  compared : nameEq a b ≡ same (map lowered a) (map lowered b)
+  unfolding nameEq
+  compared = refl
+
+  compared-equal : map lowered a ≡ map lowered b → nameEq a b ≡ true
+  compared-equal e = compared ∙ eq-same (map lowered a) (map lowered b) e
+
+  as-compared : nameEq a b ≡ true → map lowered a ≡ map lowered b
+  as-compared t = same-eq (map lowered a) (map lowered b) (sym compared ∙ t)
+
   -- equal names have the same length
   pub equal-length : nameEq a b ≡ true → length a ≡ length b
-  unfolding nameEq
-  equal-length t = ap length (same-eq a b t)
+  equal-length t = sym (length-map a lowered) ∙ ap length (as-compared t) ∙ length-map b lowered
 
-  -- equal names have the same byte at each place
-  pub equal-byte : nameEq a b ≡ true → (i : ℕ) → i < length a → getD a i 0 ≡ getD b i 0
-  unfolding nameEq
-  equal-byte t i h = ap (λ (l : List ℕ). getD l i 0) (same-eq a b t)
+  -- equal names have the same byte at each place, once it is lowered
+  pub equal-byte : nameEq a b ≡ true → (i : ℕ) → i < length a → lowered (getD a i 0) ≡ lowered (getD b i 0)
+  equal-byte t i h =
+      sym (map-at lowered a i h) ∙ ap (λ (l : List ℕ). getD l i 0) (as-compared t) ∙ map-at lowered b i (subst (λ (n : ℕ). i < n) (equal-length t) h)
 
-  -- names of the same length and bytes are equal
-  pub bytes-equal : length a ≡ length b → ((i : ℕ) → i < length a → getD a i 0 ≡ getD b i 0) → nameEq a b ≡ true
-  unfolding nameEq
-  bytes-equal l e = eq-same a b (ext-getD 0 a b l e)
+  -- names of the same length whose bytes are the same, once they are lowered, are equal
+  pub bytes-equal : length a ≡ length b → ((i : ℕ) → i < length a → lowered (getD a i 0) ≡ lowered (getD b i 0)) → nameEq a b ≡ true
+  bytes-equal l e =
+      compared-equal (ext-getD 0 (map lowered a) (map lowered b) (length-map a lowered ∙ l ∙ sym (length-map b lowered))
+      (λ i h.
+      let h′ : i < length a = subst (λ (n : ℕ). i < n) (length-map a lowered) h in
+      map-at lowered a i h′ ∙ e i h′ ∙ sym (map-at lowered b i (subst (λ (n : ℕ). i < n) l h′))))
 
 -- a name equals itself
 pub name-refl : (a : List ℕ) → nameEq a a ≡ true
-unfolding nameEq
-name-refl a = eq-same a a refl
+name-refl a = compared-equal a a refl
 
 -- if a name equals another, that one equals it
 pub name-sym : (a b : List ℕ) → nameEq a b ≡ true → nameEq b a ≡ true
-unfolding nameEq
-name-sym a b e = eq-same b a (sym (same-eq a b e))
+name-sym a b e = compared-equal b a (sym (as-compared a b e))
 
 -- names that equal the same name are equal
 pub name-trans : (a b c : List ℕ) → nameEq a b ≡ true → nameEq b c ≡ true → nameEq a c ≡ true
-unfolding nameEq
-name-trans a b c e f = eq-same a c (same-eq a b e ∙ same-eq b c f)
+name-trans a b c e f = compared-equal a c (as-compared a b e ∙ as-compared b c f)
+
+-- names-equal: when names are equal, that this is an equivalence, and which bytes are read as others
+pub names-equal : NamesEqual
+names-equal =
+    record {
+      equal-agree = λ a b t. (equal-length a b t, equal-byte a b t);
+      agree-equal = λ a b w. bytes-equal a b (w .0) (w .1);
+      reflexive = name-refl;
+      symmetric = name-sym;
+      transitive = name-trans;
+      lowered-bytes = lowered-all;
+    }
 
 -- a name that the calls accept has 1 to 36 bytes
 pub name-bounds : (a : List ℕ) → nameRight a ≡ true → (1 ≤ length a) × (length a ≤ nameMost)

@@ -12,38 +12,45 @@ use Rattle.laws.specs.Laws.Changes.{upd-other, upd₂-same, upd₂-other}
 use Rattle.laws.specs.Laws.Cases.{by-equal}
 use Rattle.laws.specs.Laws.Tests.{eq-true, lt-false, cond-true, cond-false, and-false-left, and-false-right}
 use Rattle.laws.specs.Lists.{same, bytesAre, tab}
-use Rattle.laws.specs.Numbers.{at16, bigEndian, highByte, quotientUp}
+use Rattle.laws.specs.Numbers.{at16, at32, bigEndian, highByte, quotientUp}
 use Rattle.laws.specs.Options.{orElse}
 use Rattle.sector_rules.specs.declared.Reply.{Reply}
 use Rattle.sector_rules.specs.Faults.{faultBelow}
 use Rattle.sector_rules.specs.Geometry.{blocks, sidePlace, backward, toImageSector}
-use Rattle.sector_rules.specs.Replies.{done}
+use Rattle.sector_rules.specs.Replies.{done, replyWith}
+use Rattle.file_rules.specs.declared.Record.{Record}
 use Rattle.file_rules.specs.Arguments.{FormatArguments}
 use Rattle.file_rules.specs.Calls.{ImageChanged, unless, imageRight, onSound, freshOwner, formatDisk, format, check}
 use Rattle.file_rules.specs.Check.{diskSignature, lengthRight, dimensionsFault, diskHeaderFault, recordFault, mapFault}
-use Rattle.file_rules.specs.Check.{partsRight, noRecordBears, fileRight, fileFault, refusal8, refusal9, refusal10, refusal11, diskRefusal}
-use Rattle.file_rules.specs.Directory.{held, dirBytes, dirEnd}
+use Rattle.file_rules.specs.Check.{partsRight, noRecordBears, newName, entryRight, fileRight, fileFault}
+use Rattle.file_rules.specs.Check.{refusal8, refusal9, refusal10, refusal11, diskRefusal}
+use Rattle.file_rules.specs.Directory.{lowered, nameEq, entryOf, entryByte, nameOf, entryFor, slotByte, slotEntry, slotName, held, dirBytes, dirEnd}
 use Rattle.file_rules.specs.Disk.{Disk, imagePlace, imageOf, setByte}
 use Rattle.file_rules.specs.Laws.Base.Disk.{length-image, disk-image, image-set}
 use Rattle.file_rules.specs.Laws.OnImages.Run.{format-done}
-use Rattle.file_rules.specs.Map.{decode, encode, numberOf, numberAt, recordAt, isSystem, isOther, bears, isPart, within}
+use Rattle.file_rules.specs.Map.{decode, encode, numberOf, numberAt, recordAt, isSystem, isOther, bears, isPart, within, partBlock}
+use Rattle.file_rules.specs.Model.{Model, fileOf, takenBy, slotOf, dirByte, content, position, orRecord, slotRecord, modelRecord, modelHeader, modelDisk}
 use Rattle.file_rules.specs.Sizes.{blockBytes}
 use Rattle.file_rules.specs.Written.{fixedByte, diskHeaderByte, diskWith}
-use Rattle.file_rules.specs.CheckValues.{RecordsJudged, CheckValues}
+use Rattle.file_rules.specs.CheckValues.{RecordsJudged, CheckValues, reelOne, reelCapitals, emptyFile, twoFiles}
 
 -- a disk has nothing outside its blocks (§1.3)
 pub record NothingOutside (d : Disk) : Type 0 where
   pub far : (b o : ℕ) → blocks ≤ b → d b o ≡ 0
   pub out : (b o : ℕ) → blockBytes ≤ o → d b o ≡ 0
 
--- a fresh disk has nothing outside its blocks
-pub fresh-nothing-outside : (args : FormatArguments) → NothingOutside (formatDisk args)
-unfolding formatDisk diskWith
-fresh-nothing-outside args =
+with-nothing-outside : (header : ℕ → ℕ) (owner : ℕ → Record) (content : Record → ℕ → ℕ) → NothingOutside (diskWith header owner content)
+unfolding diskWith
+with-nothing-outside header owner content =
     record {
       far = λ b o h. cond-false _ _ (and-false-left (ltb o blockBytes) (lt-false h));
       out = λ b o h. cond-false _ _ (and-false-right (ltb b blocks) (lt-false h));
     }
+
+-- a fresh disk has nothing outside its blocks
+pub fresh-nothing-outside : (args : FormatArguments) → NothingOutside (formatDisk args)
+unfolding formatDisk
+fresh-nothing-outside args = with-nothing-outside _ _ _
 
 -- a disk of which a byte of block 0 is another has nothing outside its blocks
 pub set-nothing-outside : (d : Disk) (o v : ℕ) → o < blockBytes → NothingOutside d → NothingOutside (setByte d 0 o v)
@@ -94,6 +101,26 @@ judged-is args =
           ∙ changed-is d₂ (set-nothing-outside d₁ 103 0x50 (lit< tt) (set-nothing-outside fresh 102 0x00 (lit< tt) inside)) 104 0x00 refl (lit< tt);
     }
 
--- check-values: these hold of every formatted disk
+-- a model's disk has nothing outside its blocks
+model-nothing-outside : (m : Model) → NothingOutside (modelDisk m)
+unfolding modelDisk
+model-nothing-outside m = with-nothing-outside _ _ _
+
+spellings-are : (args : FormatArguments) → judgedReply (modelDisk (twoFiles args reelOne reelCapitals)) ≡ replyWith 10 2 0 0
+unfolding judgedReply diskRefusal refusal8 refusal9 refusal10 refusal11 diskHeaderFault dimensionsFault lengthRight dirBytes mapFault recordAt numberAt
+    modelDisk modelHeader modelRecord content dirByte slotOf position orRecord slotRecord twoFiles emptyFile reelOne reelCapitals fileOf takenBy
+    diskWith diskHeaderByte fixedByte patch highByte diskSignature sidePlace backward bytesAre same tab at16 at32 bigEndian lowest count
+    decode encode numberOf recordFault isSystem isOther faultBelow unless orElse upd
+    fileFault fileRight entryRight newName nameEq lowered slotEntry slotName slotByte partBlock entryOf entryByte entryFor nameOf
+    partsRight dirEnd all within isPart quotientUp held
+spellings-are args = refl
+
+-- check-values: these hold
 pub check-values : CheckValues
-check-values old args long short = subst RecordsJudged (sym (ap (λ (w : ImageChanged). w .image) (format-done old args long short))) (judged-is args)
+check-values =
+    record {
+      records-judged = λ old args long short.
+          subst RecordsJudged (sym (ap (λ (w : ImageChanged). w .image) (format-done old args long short))) (judged-is args);
+      spellings-judged = λ args.
+          let m : Model = twoFiles args reelOne reelCapitals in check-is (modelDisk m) (model-nothing-outside m) ∙ spellings-are args;
+    }

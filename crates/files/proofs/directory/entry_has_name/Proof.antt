@@ -1,19 +1,22 @@
--- `entry_has_name` meets its contract: the first i bytes are equal.
--- Rests on: the laws in Loading/Slots; the contracts of name_length and fields::byte.
+-- `entry_has_name` meets its contract: the first i bytes are equal once they are lowered.
+-- Rests on: the laws in Loading/Slots; the contracts of name_length, fields::byte and bytes_agree.
 -- Assumes nothing.
-use mathlib.Core.Path.{_≡_, sym, _∙_}
+use mathlib.Core.Path.{_≡_, sym, ap, _∙_}
 use Prim.Native.Nat.{ℕ, _+_, _-_, _≤_, _<_}
 use native.Mathlib.Omega.{arith}
 use lib.ListN.{length, getD}
 use borrow.Author.Needs.{needs}
 use borrow.Author.Count.{below-none, below-more}
+use borrow.Author.Tests.{not-true, not-false}
 use Rattle.laws.specs.Lists.{elementAt}
+use Rattle.laws.specs.Laws.Tests.{eq-true, true-eq, true≢false}
+use Rattle.file_rules.specs.Directory.{lowered}
 use Rattle.files.specs.Laws.Loading.Slots.{name-other-length, name-other, name-equal}
 use Rattle.files.proofs.directory.entry_has_name.Statement.{statement}
 use Rattle.files.proofs.directory.entry_has_name.Tie as tie
 
 abbrev Inv-loop : tie.InvT-loop
-Inv-loop image at name i₀ i-end i = (i ≤ length name) × ((j : ℕ) → j < i → elementAt image (at + 16) j ≡ getD name j 0)
+Inv-loop image at name i₀ i-end i = (i ≤ length name) × ((j : ℕ) → j < i → lowered (elementAt image (at + 16) j) ≡ lowered (getD name j 0))
 
 abbrev μ-loop : tie.MeasureT-loop
 μ-loop image at name i₀ i-end i = length name - i
@@ -33,20 +36,25 @@ add-byte c = search needs
 byte-requires : tie.Need-byte-requires Inv-loop μ-loop
 byte-requires c κs = search needs
 
-shared-slice-read-if2 : tie.Need-shared-slice-read-if2 Inv-loop μ-loop
-shared-slice-read-if2 c = search needs
+shared-slice-read-bytes-agree : tie.Need-shared-slice-read-bytes-agree Inv-loop μ-loop
+shared-slice-read-bytes-agree c = search needs
+
+bytes-agree-requires : tie.Need-bytes-agree-requires Inv-loop μ-loop
+bytes-agree-requires c κs = search needs
 
 returns-2 : tie.Need-returns-2 Inv-loop μ-loop
 unfolding elementAt
 returns-2 c =
-    let after-byte = c .before .before in
+    let after-agree = c .before in
+    let after-byte = after-agree .before .before in
     let at-loop = after-byte .before .before in
     let else1 = at-loop .before in
     let after-name-length = else1 .before in
     let start = after-name-length .before .before .before in
     name-other (start .args .image .now) (start .args .at) (start .args .name .now)
     (sym (after-name-length .name-length .ensures) ∙ else1 .if1 .left) (at-loop .loop .i) (omega arith)
-    (λ e. c .if2 .taken (after-byte .byte .ensures ∙ e))
+    (λ e.
+    true≢false _ (eq-true (ap lowered (after-byte .byte .ensures) ∙ e)) (sym (after-agree .bytes-agree .ensures) ∙ not-true _ (c .if2 .taken)))
 
 add-i : tie.Need-add-i Inv-loop μ-loop
 add-i c = search needs
@@ -57,9 +65,13 @@ loop-less c = omega arith
 loop-again : tie.Need-loop-again Inv-loop μ-loop
 unfolding elementAt
 loop-again c =
-    let after-byte = c .before .before in
-    let at-loop = after-byte .before .before in
-    (omega arith, below-more _ _ (at-loop .loop .inv .1) (sym (after-byte .byte .ensures) ∙ c .if2 .left))
+    let after-agree = c .before in
+    let after-byte = after-agree .before .before in
+    let at-loop = after-byte .before .before in (
+      omega arith,
+      below-more _ _ (at-loop .loop .inv .1)
+          (sym (ap lowered (after-byte .byte .ensures)) ∙ true-eq (sym (after-agree .bytes-agree .ensures) ∙ not-false _ (c .if2 .left))),
+    )
 
 returns-3 : tie.Need-returns-3 Inv-loop μ-loop
 returns-3 c =
@@ -77,7 +89,8 @@ entry-has-name-spec =
     loop-holds
     add-byte
     byte-requires
-    shared-slice-read-if2
+    shared-slice-read-bytes-agree
+    bytes-agree-requires
     returns-2
     add-i
     loop-less

@@ -1,11 +1,12 @@
 -- `name_hash` meets its contract: the hash of the first i bytes.
--- Rests on: the laws in Loading/NameHashes; the contracts of name_length, fields::byte and wide.
+-- Rests on: the laws in Loading/NameHashes; the contracts of name_length, fields::byte, lowered_byte and wide.
 -- Assumes nothing.
-use mathlib.Core.Path.{_≡_, refl, _∙_}
+use mathlib.Core.Path.{_≡_, refl, ap, _∙_}
 use Prim.Native.Nat.{_-_, _≤_, _<_, _+_}
 use native.Mathlib.Omega.{arith}
 use borrow.Author.Needs.{needs}
 use Rattle.laws.specs.Lists.{elementAt}
+use Rattle.file_rules.specs.Directory.{lowered}
 use Rattle.files.specs.Laws.Loading.NameHashes.{rowHash, hash-more, hash-row, hashCount}
 use Rattle.files.proofs.names.name_hash.Statement.{statement}
 use Rattle.files.proofs.names.name_hash.Tie as tie
@@ -32,6 +33,9 @@ add-byte c = search needs
 byte-requires : tie.Need-byte-requires Inv-loop μ-loop
 byte-requires c κs = search needs
 
+lowered-byte-requires : tie.Need-lowered-byte-requires Inv-loop μ-loop
+lowered-byte-requires c κs = search needs
+
 wide-requires : tie.Need-wide-requires Inv-loop μ-loop
 wide-requires c κs = search needs
 
@@ -45,7 +49,15 @@ loop-less : tie.Need-loop-less Inv-loop μ-loop
 loop-less c = omega arith
 
 loop-again : tie.Need-loop-again Inv-loop μ-loop
-loop-again c = (omega arith, omega arith, hash-more _ _ _ _ _ (c .before .before .before .loop .inv .2) (c .wide .ensures .0 ∙ c .before .byte .ensures))
+loop-again c =
+    let after-lowered-byte = c .before in
+    let after-byte = after-lowered-byte .before in
+    let at-loop = after-byte .before .before in (
+      omega arith,
+      omega arith,
+      hash-more _ _ _ _ _ (at-loop .loop .inv .2)
+          (c .wide .ensures .0 ∙ after-lowered-byte .lowered-byte .ensures ∙ ap lowered (after-byte .byte .ensures)),
+    )
 
 returns : tie.Need-returns Inv-loop μ-loop
 returns c =
@@ -63,6 +75,7 @@ name-hash-spec =
     mul-hash
     add-byte
     byte-requires
+    lowered-byte-requires
     wide-requires
     add-hash
     add-i

@@ -19,7 +19,7 @@ use Rattle.laws.specs.Laws.Tab.{tab-length, tab-in}
 use Rattle.sector_rules.specs.Geometry.{imageBytes}
 use Rattle.file_rules.specs.Sizes.{slotCount, nameMost}
 use Rattle.file_rules.specs.Disk.{Disk, diskOf}
-use Rattle.file_rules.specs.Directory.{nameEq, nameOf, entryOf, slotName, held, dirEnd}
+use Rattle.file_rules.specs.Directory.{lowered, nameEq, nameOf, entryOf, slotName, held, dirEnd}
 use Rattle.file_rules.specs.Check.{newName}
 use Rattle.file_rules.specs.Laws.Base.Names.{equal-length, equal-byte}
 use Rattle.files.specs.Laws.Loading.Slots.{Located, slotPlace, name-row, name-first, row-along}
@@ -28,22 +28,22 @@ use Rattle.files.specs.Laws.Loading.Slots.{Located, slotPlace, name-row,
 abbrev pub hashCount : ℕ
 hashCount = 16384
 
--- the hash of the first n bytes of g
+-- the hash of the first n bytes of g, once they are lowered
 unfoldable pub rowHash : (ℕ → ℕ) → ℕ → ℕ
 rowHash g zero = 0
-rowHash g (suc n) = (rowHash g n * 33 + g n) % hashCount
+rowHash g (suc n) = (rowHash g n * 33 + lowered (g n)) % hashCount
 
 -- the hash of a name
 unfoldable pub nameHash : List ℕ → ℕ
 nameHash name = rowHash (λ (i : ℕ). getD name i 0) (length name)
 
 -- one byte more of a hash
-pub hash-more : (s : List ℕ) (at n m v : ℕ) → m ≡ rowHash (elementAt s at) n → v ≡ getD s (at + n) 0
+pub hash-more : (s : List ℕ) (at n m v : ℕ) → m ≡ rowHash (elementAt s at) n → v ≡ lowered (getD s (at + n) 0)
     → (m * 33 + v) % hashCount ≡ rowHash (elementAt s at) (n + 1)
 unfolding rowHash elementAt
 hash-more s at n m v e q = rw (add-one, e, q)
 
-row-cong : (f g : ℕ → ℕ) (n : ℕ) → ((i : ℕ) → i < n → f i ≡ g i) → rowHash f n ≡ rowHash g n
+row-cong : (f g : ℕ → ℕ) (n : ℕ) → ((i : ℕ) → i < n → lowered (f i) ≡ lowered (g i)) → rowHash f n ≡ rowHash g n
 unfolding rowHash
 row-cong f g zero e = refl
 row-cong f g (suc n) e = ap₂ (λ (x y : ℕ). (x * 33 + y) % hashCount) (row-cong f g n (λ i h. e i (omega arith))) (e n (omega arith))
@@ -69,7 +69,7 @@ hash-tab : (g : ℕ → ℕ) (n : ℕ) → nameHash (tab g n) ≡ rowHash g n
 unfolding nameHash
 hash-tab g n =
     ap (rowHash (λ (i : ℕ). getD (tab g n) i 0)) (tab-length g n)
-    ∙ row-cong (λ (i : ℕ). getD (tab g n) i 0) g n (λ i h. tab-in g n i h)
+    ∙ row-cong (λ (i : ℕ). getD (tab g n) i 0) g n (λ i h. ap lowered (tab-in g n i h))
 
 -- the hash of the name in the row of a slot
 pub hash-row : (s : List ℕ) (at n m : ℕ) → n ≡ min (at16 (elementAt s at) 14) nameMost → m ≡ rowHash (elementAt s (at + 16)) n

@@ -22,7 +22,7 @@ use Rattle.file_rules.specs.declared.Entry.{Entry}
 use Rattle.file_rules.specs.Sizes.{slotBytes, blockSlots, slotCount, nameMost}
 use Rattle.file_rules.specs.Disk.{Disk, imagePlace, diskOf}
 use Rattle.file_rules.specs.Map.{partBlock}
-use Rattle.file_rules.specs.Directory.{nameEq, entryOf, nameOf, slotByte, slotEntry, slotName, held, dirEnd, findName, vacantSlot}
+use Rattle.file_rules.specs.Directory.{lowered, nameEq, entryOf, nameOf, slotByte, slotEntry, slotName, held, dirEnd, findName, vacantSlot}
 use Rattle.file_rules.specs.Laws.Base.Names.{equal-length, equal-byte, bytes-equal}
 use Rattle.files.specs.Laws.Loading.Blocks.{disk-in, disk-far}
 use Rattle.files.specs.Laws.Loading.Loaded.{MapLoaded, part-loaded}
@@ -194,16 +194,18 @@ module _ (s : List ℕ) (at : ℕ) (name : List ℕ) where
     byte-of i l = ap (λ (m : List ℕ). getD m i 0) name-of ∙ tab-in (elementAt s (at + 16)) (length name) i l
 
     -- a name with another byte is not equal
-    pub name-other : (i : ℕ) → i < length name → (elementAt s (at + 16) i ≡ getD name i 0 → ⊥) → false ≡ nameEq (nameOf (entryOf row)) name
+    pub name-other : (i : ℕ) → i < length name → (lowered (elementAt s (at + 16) i) ≡ lowered (getD name i 0) → ⊥)
+        → false ≡ nameEq (nameOf (entryOf row)) name
     name-other i l h =
         sym (by-test (nameEq (nameOf (entryOf row)) name)
-        (λ t. absurd (h (sym (byte-of i l) ∙ equal-byte (nameOf (entryOf row)) name t i (rw length-of l)))) (λ t. t))
+        (λ t. absurd (h (ap lowered (sym (byte-of i l)) ∙ equal-byte (nameOf (entryOf row)) name t i (rw length-of l)))) (λ t. t))
 
-    -- a name of the same length and bytes is equal
-    pub name-equal : ((i : ℕ) → i < length name → elementAt s (at + 16) i ≡ getD name i 0) → true ≡ nameEq (nameOf (entryOf row)) name
+    -- a name of the same length whose bytes agree once they are lowered is equal
+    pub name-equal : ((i : ℕ) → i < length name → lowered (elementAt s (at + 16) i) ≡ lowered (getD name i 0))
+        → true ≡ nameEq (nameOf (entryOf row)) name
     name-equal h =
         sym (bytes-equal (nameOf (entryOf row)) name length-of
-        (λ i l. let l′ : i < length name = rw length-of at l in byte-of i l′ ∙ h i l′))
+        (λ i l. let l′ : i < length name = rw length-of at l in ap lowered (byte-of i l′) ∙ h i l′))
 
 -- two tests of which the second, looked at first, passes
 pub and-swap-true : (a b : Bool) → b ≡ true → a ≡ (a && b)

@@ -99,6 +99,25 @@ pub fn long_directory(blocks: usize) -> Vec<u8> {
     image
 }
 
+/// A disk as another program may leave it: a file in each slot from 1 on, with
+/// these names, whatever they are. Its data are its name; it has block 479 or
+/// the highest below that is left.
+pub fn named_files(names: &[&[u8]]) -> Vec<u8> {
+    let end = names.len() + 1;
+    let mut image = long_directory(end.div_ceil(24));
+    set_word(&mut image, 34, end / 24);
+    set_word(&mut image, 36, 64 * (end % 24));
+    for (index, name) in names.iter().enumerate() {
+        let (slot, block) = (index + 1, 479 - index);
+        let entry = entry(64 + name.len() as u32, name.len() as u16, name);
+        patch(&mut image, 1 + slot / 24, 64 * (slot % 24), &entry);
+        patch(&mut image, block, 64, name);
+        set_record(&mut image, block, record(slot, 0));
+    }
+    count_free(&mut image);
+    image
+}
+
 /// A directory of two blocks, 300 before 20, with a file in slots 1 and 24;
 /// the file in slot 24 has its blocks in backward order.
 pub fn scattered() -> Vec<u8> {

@@ -90,18 +90,6 @@ fn own_tests_come_in_order() {
     assert_eq!(image, three_files());
 }
 
-/// Equal names have the same length and bytes (§6.14);
-/// a name that no slot has is refused with 14 (§7.14).
-#[test]
-fn names_differ_by_case_and_length() {
-    let mut image = three_files();
-    for name in [&b"F1"[..], b"f", b"f1\0", b"f1 ", b"1"] {
-        assert_eq!(remove(&mut image, name), [14, 0, 0, 0]);
-        assert_eq!(add(&mut image, name, 5, name), [0; 4]);
-    }
-    assert_eq!(add(&mut image, b"f1\0", 0, &[]), [13, 6, 0, 0]);
-}
-
 /// 16 says the bytes needed (§7.16);
 /// the bytes after a result are left as they were (§8.8).
 #[test]

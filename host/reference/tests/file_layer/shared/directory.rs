@@ -3,7 +3,8 @@
 use super::all_calls::all_calls;
 use super::answer::check;
 use super::build::{
-    count_free, entry, long_directory, patch, record, set_record, set_word, three_files, FREE,
+    count_free, entry, long_directory, named_files, patch, record, set_record, set_word,
+    three_files, FREE,
 };
 
 type Change<'a> = &'a dyn Fn(&mut Vec<u8>);
@@ -119,12 +120,16 @@ fn higher_slot_of_two_equal_names_is_at_fault() {
     }
 }
 
-/// Equal names have the same length and bytes (§6.14).
+/// Equal names have the same length, and the same bytes once A to Z are read
+/// as a to z (§6.14).
 #[test]
 fn names_are_compared_by_length_and_bytes() {
-    // `f2` becomes `f` and `F3`; bytes after the name do not matter.
+    // `f2` becomes `f`, then `F3`; bytes after the name do not matter.
     assert_eq!(with(|image| patch(image, 1, 2 * 64 + 15, &[1])), [0; 4]);
-    assert_eq!(with(|image| patch(image, 1, 2 * 64 + 16, b"F3")), [0; 4]);
+    for name in [b"F3", b"f3"] {
+        let reply = with(|image| patch(image, 1, 2 * 64 + 16, name));
+        assert_eq!(reply, [10, 3, 0, 0]);
+    }
     let reply = with(|image| patch(image, 1, 2 * 64 + 17, b"3xyz"));
     assert_eq!(reply, [10, 3, 0, 0]);
     // `f2` and `f3` with one byte more each, both zero.
@@ -133,8 +138,13 @@ fn names_are_compared_by_length_and_bytes() {
         patch(image, 1, 3 * 64 + 15, &[3]);
     });
     assert_eq!(reply, [0; 4]);
-    // Names of 36 bytes that differ in the last one, or not at all.
-    for (last, expected) in [(b"x", [0; 4]), (b"y", [10, 3, 0, 0])] {
+    // Names of 36 bytes that differ in the last one, in its case, or not at all.
+    for (last, expected) in [
+        (b"x", [0; 4]),
+        (b"X", [0; 4]),
+        (b"Y", [10, 3, 0, 0]),
+        (b"y", [10, 3, 0, 0]),
+    ] {
         let reply = with(|image| {
             for (slot, byte) in [(2, b"y"), (3, last)] {
                 patch(image, 1, slot * 64 + 14, &[0, 36]);
@@ -143,6 +153,44 @@ fn names_are_compared_by_length_and_bytes() {
             }
         });
         assert_eq!(reply, expected);
+    }
+}
+
+/// A disk with both spellings of a name, as another program may leave it, is
+/// refused by each call at the higher slot (§7.21 §6.14), and accepted where
+/// the names differ in a byte that is no letter.
+#[test]
+fn both_spellings_on_one_disk() {
+    let cases: [(&[&[u8]], [usize; 4]); 7] = [
+        (&[b"Reel_one", b"REEL_ONE"], [10, 2, 0, 0]),
+        (&[b"REEL_ONE", b"boot", b"Reel_one"], [10, 3, 0, 0]),
+        // Two pairs: the lowest slot that is the higher of its pair.
+        (&[b"a", b"B", b"b", b"A"], [10, 3, 0, 0]),
+        (&[b"a", b"B", b"A", b"b"], [10, 3, 0, 0]),
+        (&[b"Reel_one", b"REEL ONE"], [0; 4]),
+        (&[b"Reel[one", b"REEL{ONE"], [0; 4]),
+        (&[b"Reel_one\xE1", b"REEL_ONE\xC1"], [0; 4]),
+    ];
+    for (names, expected) in cases {
+        let image = named_files(names);
+        for name in names.iter().chain(&[&b"none"[..]]) {
+            assert_eq!(all_calls(&image, name), expected, "{names:?}");
+        }
+    }
+}
+
+/// The same where the slots stand in different blocks of the directory, with
+/// many between them (§7.21 §6.14).
+#[test]
+fn both_spellings_in_a_long_directory() {
+    for (last, expected) in [(b"FILE 1 ", [0; 4]), (b"FILE 0\0", [10, 60, 0, 0])] {
+        let mut names: Vec<[u8; 7]> = Vec::new();
+        for index in 0..59 {
+            names.push([b'f', b'i', b'l', b'e', b' ', b'0', index]);
+        }
+        names.push(*last);
+        let names: Vec<&[u8]> = names.iter().map(|name| &name[..]).collect();
+        assert_eq!(all_calls(&named_files(&names), b"file 0\0"), expected);
     }
 }
 
