@@ -53,7 +53,8 @@ fn random_bytes(generator: &mut Generator, len: usize) -> Vec<u8> {
     }
 }
 
-/// A name, most often of one of the files that may be there.
+/// A name, most often of one of the files that may be there, in either
+/// spelling (§6.14), or of bytes next to the letters.
 fn random_name(generator: &mut Generator) -> Vec<u8> {
     match generator.below(10) {
         0 => {
@@ -62,7 +63,7 @@ fn random_name(generator: &mut Generator) -> Vec<u8> {
         }
         1 => Vec::new(),
         2 => vec![b'n'; 36 + generator.below(2)],
-        _ => vec![b'a' + generator.below(12) as u8],
+        _ => vec![*generator.choice(b"abcdefgzABCDEFGZ@`[{")],
     }
 }
 

@@ -67,6 +67,16 @@ fn names_of_up_to_ten_bytes() {
     }
 }
 
+/// A disk's name keeps its bytes, capitals too (§6.2).
+#[test]
+fn names_in_capitals() {
+    for name in [b"REEL@one", b"reel@ONE", b"reel`one"] {
+        let image = formatted(name, 7);
+        assert_eq!(image[4..14], *[&name[..], b"  "].concat());
+        assert!(image == Model::format(name, 7).unwrap().image());
+    }
+}
+
 /// The number of the disk (§6.2).
 #[test]
 fn numbers() {

@@ -21,6 +21,7 @@ mod growth;
 mod histories;
 mod history;
 mod map;
+mod names;
 mod outside;
 mod random_histories;
 mod secrets;

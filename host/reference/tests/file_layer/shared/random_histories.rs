@@ -8,6 +8,9 @@ use reference::model::Model;
 use std::collections::{BTreeMap, BTreeSet};
 use support::noise::{noise, Generator};
 
+/// What names begin with; these are equal (§6.14).
+const SPELLINGS: [&str; 4] = ["name", "Name", "NAME", "nAmE"];
+
 /// What a history is made of.
 struct Kind {
     /// How many different names there are.
@@ -53,7 +56,7 @@ const MANY: Kind = Kind {
     lengths: &[1, 1472, 1473, 3000],
     adds: 94,
     removes: 3,
-    calls: 500,
+    calls: 560,
 };
 
 /// Almost only removes and reads of what is not there.
@@ -66,14 +69,15 @@ const REFUSED: Kind = Kind {
 };
 
 impl Kind {
-    /// A name of the kind; now and then one of a wrong or extreme length.
+    /// A name of the kind, in one of its spellings; now and then one of a wrong
+    /// or extreme length.
     fn name(&self, generator: &mut Generator) -> Vec<u8> {
         let index = generator.below(self.names);
         match generator.below(40) {
             0 => Vec::new(),
             1 => vec![b'n'; 37 + index],
-            2 => vec![index as u8; 36],
-            _ => format!("name {index}").into_bytes(),
+            2 => [&[b'n'; 35][..], &[*generator.choice(b"aA@`")]].concat(),
+            _ => format!("{} {index}", generator.choice(&SPELLINGS)).into_bytes(),
         }
     }
 
@@ -106,24 +110,50 @@ impl Kind {
     }
 }
 
-/// The files that accepted calls leave, how many there were at most, and how
-/// many were added.
+/// A file as it was added.
+struct Added {
+    name: Vec<u8>,
+    date: u32,
+    data: Vec<u8>,
+}
+
+/// The files that accepted calls leave, by their names in small letters
+/// (§6.14), how many there were at most, and how many were added.
 #[derive(Default)]
 struct Present {
-    files: BTreeMap<Vec<u8>, (u32, Vec<u8>)>,
+    files: BTreeMap<Vec<u8>, Added>,
     most: usize,
     added: usize,
 }
 
 impl Present {
+    fn file(&self, name: &[u8]) -> Option<&Added> {
+        self.files.get(&name.to_ascii_lowercase())
+    }
+
+    /// Asserts that an add gives 13 if its name is that of a file present and
+    /// not else, and that a remove or a read finds a file in the same case.
+    /// Gives whether the file present has another spelling.
+    fn judge(&self, call: &Call, number: usize) -> bool {
+        let (name, found) = match call {
+            Call::Add { name, .. } => (name, number == 13),
+            Call::Remove { name } | Call::Read { name, .. } => (name, ![12, 14].contains(&number)),
+            Call::List { .. } => return false,
+        };
+        let present = self.file(name);
+        assert_eq!(found, present.is_some());
+        present.is_some_and(|file| file.name != *name)
+    }
+
     fn accept(&mut self, call: &Call) {
-        match call {
+        match call.clone() {
             Call::Add { name, date, data } => {
-                self.files.insert(name.clone(), (*date, data.clone()));
+                let key = name.to_ascii_lowercase();
+                self.files.insert(key, Added { name, date, data });
                 self.added += 1;
             }
             Call::Remove { name } => {
-                self.files.remove(name);
+                self.files.remove(&name.to_ascii_lowercase());
             }
             _ => (),
         }
@@ -134,15 +164,16 @@ impl Present {
         let blocks = self
             .files
             .values()
-            .map(|(_, data)| (64 + data.len()).div_ceil(1536));
+            .map(|file| (64 + file.data.len()).div_ceil(1536));
         3 * (479 - (1 + self.most / 24) - blocks.sum::<usize>())
     }
 
     fn assert_same_files(&self, model: &Model) {
         assert_eq!(model.files().count(), self.files.len());
         for (_, file) in model.files() {
-            let (date, data) = &self.files[&file.name];
-            assert!(file.date == *date && file.data == *data);
+            let added = self.file(&file.name).unwrap();
+            assert_eq!((&file.name, file.date), (&added.name, added.date));
+            assert!(file.data == added.data);
         }
     }
 }
@@ -156,6 +187,8 @@ struct Shown {
     slots: usize,
     /// Most adds of a history that took a slot for the second time or later.
     again: usize,
+    /// Calls that named a file present by another spelling.
+    respelled: usize,
     /// Whether there were as many as usual.
     enough: bool,
 }
@@ -182,8 +215,10 @@ impl Shown {
             let call = kind.call(&mut generator);
             let answer = call.on_image(&mut disk.image);
             assert!(answer == call.in_model(&mut disk.model), "call {index}");
-            self.numbers.insert(answer.0[0]);
-            if answer.0[0] == 0 {
+            let [number, ..] = answer.0;
+            self.numbers.insert(number);
+            self.respelled += usize::from(present.judge(&call, number));
+            if number == 0 {
                 present.accept(&call);
             }
             assert_eq!(disk.free(), present.free_word());
@@ -198,15 +233,19 @@ impl Shown {
     }
 
     /// Asserts that these numbers were given, that a directory had so many
-    /// blocks and that so many slots were taken again. Too few histories need
-    /// not show all that.
+    /// blocks, that so many slots were taken again and that files were named by
+    /// other spellings. Too few histories need not show all that.
     fn assert(&self, numbers: &[usize], blocks: usize, again: usize) {
-        let Shown { slots, .. } = self;
+        let Shown {
+            slots, respelled, ..
+        } = self;
         println!("{:?}, {slots} slots, {} again", self.numbers, self.again);
+        println!("{respelled} calls by another spelling");
         if self.enough {
             assert!(numbers.iter().all(|number| self.numbers.contains(number)));
             assert!(slots.div_ceil(24) >= blocks);
             assert!(self.again >= again);
+            assert!(*respelled >= 10);
         }
     }
 }
