@@ -2,7 +2,7 @@
 
 use crate::hex::from_hex;
 use crate::json::{parse_lines, Value};
-use crate::levels::{later_answer, LEVEL};
+use crate::levels::{later_answer, of_request, LEVEL};
 use std::collections::BTreeMap;
 
 /// How many cases a random test runs: the usual number, or that of the
@@ -59,6 +59,27 @@ impl Outside {
             }
         }
         changed
+    }
+}
+
+/// Outside answers to a change request: so many cases, a line of JSON each.
+pub struct Requested {
+    /// The lines.
+    pub lines: &'static str,
+    /// How many there have to be.
+    pub count: usize,
+}
+
+impl Requested {
+    /// Runs one case of `step`, from case `first` on, with the answer that
+    /// holds at the project's level.
+    pub fn run(&self, first: usize, step: usize, run: impl Fn(&Value, &Value)) {
+        let lines = parse_lines(self.lines);
+        assert_eq!(lines.len(), self.count);
+        run_share(&lines, first, step, |line| {
+            let (case, answer) = of_request(line, LEVEL);
+            run(case, answer);
+        });
     }
 }
 

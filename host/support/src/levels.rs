@@ -35,10 +35,23 @@ pub fn later_answer<'a>(until: &'a Value, later: &'a Value, level: usize) -> Opt
     panic!("no answer at level {level}");
 }
 
+/// The case of a request's line, and the answer to it that holds at a level;
+/// panics where that is below the request's own.
+pub fn of_request(line: &Value, level: usize) -> (&Value, &Value) {
+    let [own, until, case, answer, later] =
+        line.members(["level", "holds_until", "case", "answer", "later"]);
+    assert!(own.size() <= level, "level {level} is below the request");
+    (case, later_answer(until, later, level).unwrap_or(answer))
+}
+
 #[cfg(test)]
 mod tests {
     use super::*;
     use crate::json::parse;
+
+    /// A line of request Three, whose answer changes with Six.
+    const LINE: &str = r#"{"level": 3, "holds_until": 5, "case": "asked", "answer": "own",
+        "later": [{"level": 6, "holds_until": null, "answer": "later"}]}"#;
 
     /// An answer until 4, one for 5 to 11, and one from 12 on.
     const LATER: &str = r#"[
@@ -55,6 +68,23 @@ mod tests {
         assert_eq!((at(5), at(11)), (Some("second"), Some("second")));
         assert_eq!((at(12), at(99)), (Some("third"), Some("third")));
         assert_eq!(later_answer(&Value::Null, &Value::List(vec![]), 99), None);
+    }
+
+    /// A line's own answer holds until another does.
+    #[test]
+    fn answers_to_a_request() {
+        let line = parse(LINE);
+        for (level, expected) in [(3, "own"), (5, "own"), (6, "later"), (14, "later")] {
+            let (case, answer) = of_request(&line, level);
+            assert_eq!((case.text(), answer.text()), ("asked", expected));
+        }
+    }
+
+    /// A request that is not in has no answer.
+    #[test]
+    #[should_panic(expected = "level 2 is below the request")]
+    fn no_answer_before_the_request() {
+        of_request(&parse(LINE), 2);
     }
 
     /// Levels between two answers are a failure.

@@ -24,5 +24,6 @@ mod map;
 mod names;
 mod outside;
 mod random_histories;
+mod requests;
 mod secrets;
 mod values;

@@ -1,0 +1,121 @@
+//! Histories and disks of the change requests, with the answers of an
+//! independent program at the project's level.
+
+use super::call::Call;
+use super::history::History;
+use super::outside::{assert_answer, assert_judged};
+use reference::geometry::IMAGE_LEN;
+use support::cases::Requested;
+use support::hex::from_hex;
+use support::json::Value;
+use support::noise::noise;
+use support::sha256::sha256_hex;
+
+const ONE: Requested = Requested {
+    lines: include_str!("../../data/requests/one.jsonl"),
+    count: 70,
+};
+
+/// A history, then what check and the program say of its last image.
+fn history<'a>(case: &'a Value, answer: &'a Value) -> (History<'a>, [&'a Value; 2]) {
+    let [_, arguments, calls] = case.members(["kind", "format", "calls"]);
+    let [name, number, old] = arguments.members(["name", "number", "old"]);
+    let [format, replies, buffers, image, checked, printed] = answer.members([
+        "format",
+        "replies",
+        "buffers",
+        "image",
+        "check",
+        "first_track",
+    ]);
+    let history = History {
+        name,
+        number,
+        old,
+        calls,
+        format,
+        replies,
+        buffers,
+        image,
+    };
+    (history, [checked, printed])
+}
+
+fn run_history(case: &Value, answer: &Value) {
+    let (history, [checked, printed]) = history(case, answer);
+    assert_judged(&history.on_image(), checked, printed);
+}
+
+/// The image of a recipe: zeros, then its patches in order.
+fn image_of(recipe: &Value) -> Vec<u8> {
+    let mut image = vec![0; IMAGE_LEN];
+    for patch in recipe.list() {
+        let (at, bytes) = match patch.list() {
+            [at, Value::Text(hex)] => (at, from_hex(hex)),
+            [at, Value::Text(hex), times] => (at, from_hex(hex).repeat(times.size())),
+            [at, Value::Number(seed), count] => {
+                let seed = u32::try_from(*seed).unwrap();
+                (at, noise(seed, count.size()))
+            }
+            _ => panic!("patch {patch:?}"),
+        };
+        let at = at.size();
+        image[at..at + bytes.len()].copy_from_slice(&bytes);
+    }
+    image
+}
+
+/// Each call is made on the image of the recipe.
+fn run_disk(case: &Value, answer: &Value) {
+    let [_, recipe, calls] = case.members(["kind", "recipe", "calls"]);
+    let [checked, printed, answers] = answer.members(["check", "first_track", "calls"]);
+    let image = image_of(recipe);
+    assert_judged(&image, checked, printed);
+    assert_eq!(calls.list().len(), answers.list().len());
+    for (index, (call, expected)) in calls.list().iter().zip(answers.list()).enumerate() {
+        println!("call {index}");
+        let [reply, buffer, after] = expected.list() else {
+            panic!("answer {expected:?}");
+        };
+        let mut image = image.clone();
+        let answer = Call::from_json(call).on_image(&mut image);
+        assert_answer(answer, reply, buffer);
+        assert_eq!(sha256_hex(&image), after.text());
+    }
+}
+
+fn run(case: &Value, answer: &Value) {
+    match case.get("kind").text() {
+        "history" => run_history(case, answer),
+        "disk" => run_disk(case, answer),
+        kind => panic!("kind {kind}"),
+    }
+}
+
+/// The model is asked for histories, which begin with a format.
+fn run_in_model(case: &Value, answer: &Value) {
+    match case.get("kind").text() {
+        "history" => history(case, answer).0.in_model(),
+        "disk" => (),
+        kind => panic!("kind {kind}"),
+    }
+}
+
+/// Names in both spellings: on disks of other makers (§7.21), and in histories
+/// (§9.1), where 13 and 14 go by equal names (§6.14).
+#[test]
+fn even_cases_of_one() {
+    ONE.run(0, 2, run);
+}
+
+/// The same for the other half (§6.14).
+#[test]
+fn odd_cases_of_one() {
+    ONE.run(1, 2, run);
+}
+
+/// The model gives the same from the arguments alone (§9.2 §9.4).
+#[test]
+fn one_in_the_model() {
+    ONE.run(0, 1, run_in_model);
+}
