@@ -11,6 +11,10 @@
  *   from number 1 upwards and the first that fails is the answer. A place that is not named is 0.
  * - A refused call changes nothing: every lent byte is as it was.
  * - Any contents and any lengths may be passed; what cannot be done is refused.
+ * - File names are equal if they have the same length and agree once the bytes 41 to 5A hex (A to Z)
+ *   are read as 61 to 7A (a to z); all other bytes are compared as they are. So `Reel_one` and
+ *   `REEL_ONE` are one name. A disk keeps the spelling that the file was added with. Disk names are
+ *   not compared.
  * - Memory is lent for the time of the call. No pointer is kept, nothing is allocated, nothing
  *   stays to be freed. A pointer must be good for the length after it; where that is 0 the pointer
  *   is not used and may be NULL. Memory that a call writes must not overlap anything else that is
@@ -83,16 +87,16 @@ enum dheg_number {
      * such block. */
     DHEG_MAP_RECORD = 9,
     /* The directory is not sound. `first` is the lowest file number at fault, 0 for the directory
-     * itself. */
+     * itself. Of two files with equal names, in any spelling, the higher is at fault. */
     DHEG_DIRECTORY = 10,
     /* The free-sector word is not three times the free records. */
     DHEG_FREE_WORD = 11,
     /* A file name has not 1 to 36 bytes, a disk name has over 10, or a block or sector number is
      * out of range. */
     DHEG_ARGUMENT = 12,
-    /* The name to add is present. `first` is its slot. */
+    /* A file has the name to add, in this or another spelling. `first` is its slot. */
     DHEG_NAME_PRESENT = 13,
-    /* No file has the name. */
+    /* No file has the name, in any spelling. */
     DHEG_NO_SUCH_NAME = 14,
     /* The file to add needs more blocks than are free. */
     DHEG_TOO_FEW_BLOCKS = 15,
@@ -179,7 +183,8 @@ dheg_reply dheg_format(uint8_t *image, size_t image_len, const uint8_t *name, si
  *   1      `first`: 2 `image` has not 737,280 bytes
  *   8      `first`: offset of the lowest wrong field of the disk header (34: directory's length)
  *   9      `first`: lowest block whose map record is wrong
- *   10     `first`: lowest file number at fault, 0 for the directory itself
+ *   10     `first`: lowest file number at fault, 0 for the directory itself; of two files whose names
+ *          are equal once A to Z are read as a to z, the higher
  *   11     the free word is not three times the free records; no place is named
  *
  * `image` is only read, until the call returns; no state is kept, and several threads may judge the
@@ -190,7 +195,7 @@ dheg_reply dheg_check(const uint8_t *image, size_t image_len);
 /*
  * Writes the directory entries of the files present into `out`, 64 bytes each, in slot order, as
  * they stand. An entry has, highest byte first: 0-3 the length of the file (64 more than its data),
- * 14-15 the length of the name, 16-51 the name, 52-55 the date.
+ * 14-15 the length of the name, 16-51 the name in the spelling that the disk keeps, 52-55 the date.
  *
  * Done: `first` is the count of bytes written; those after them are left as they were. An exact fit
  * is enough; an empty list fits an empty buffer. Refused: nothing is changed, and
@@ -204,8 +209,8 @@ dheg_reply dheg_check(const uint8_t *image, size_t image_len);
 dheg_reply dheg_list(const uint8_t *image, size_t image_len, uint8_t *out, size_t out_len);
 
 /*
- * Writes the data of a file into `out`. The name has 1 to 36 bytes, of any value, and is compared
- * byte by byte.
+ * Writes the data of a file into `out`. The name has 1 to 36 bytes, of any value; A to Z in it count
+ * as a to z.
  *
  * Done: `first` is the count of bytes written; those after them are left as they were. An exact fit
  * is enough; an empty file fits an empty buffer. Refused: nothing is changed, and
@@ -225,14 +230,15 @@ dheg_reply dheg_read(const uint8_t *image, size_t image_len, const uint8_t *name
 /*
  * Adds a file with this name, date and data to a disk. The file takes the lowest vacant slot and
  * the lowest free blocks, (64 + data_len) / 1536 rounded up, and a block more where the directory
- * grows. The data may have any length.
+ * grows. The data may have any length. The disk keeps the name as it is spelled here; compared with
+ * those of other files, A to Z in it count as a to z.
  *
  * Done: map records, the slot, the blocks taken, update count, free word and the directory's length
  * are written to `image`; the places are 0. Refused: nothing is changed, and
  *
  *   1, 8 to 11   as dheg_check says
  *   12           the name has not 1 to 36 bytes; no place is named
- *   13           `first`: slot of the file that has the name
+ *   13           `first`: slot of the file that has the name; its spelling stays
  *   15           too few blocks are free; no place is named
  *
  * `name` and `data` are only read. All three are used until the call returns; no state is kept, and
@@ -243,7 +249,7 @@ dheg_reply dheg_add(uint8_t *image, size_t image_len, const uint8_t *name, size_
 
 /*
  * Removes a file from a disk. Its blocks and its slot are filled with zero bytes, and its records
- * are free.
+ * are free. A to Z in the name count as a to z.
  *
  * Done: map records, the slot, the file's blocks, update count and free word are written to `image`;
  * the places are 0. Refused: nothing is changed, and

@@ -62,7 +62,8 @@ pub fn check(image: &[u8]) -> Result<(), Refusal> {
 /// bytes; those after them are left as they were.
 ///
 /// An entry has, highest byte first: 0-3 the length of the file (64 more than
-/// its data), 14-15 the length of the name, 16-51 the name, 52-55 the date.
+/// its data), 14-15 the length of the name, 16-51 the name in the spelling that
+/// the disk keeps, 52-55 the date.
 ///
 /// Refused as [`check`], then with 16:
 /// [`BufferTooShort`](Refusal::BufferTooShort).
@@ -91,7 +92,7 @@ pub fn list(image: &[u8], out: &mut [u8]) -> Result<usize, Refusal> {
 
 /// Writes the data of a file into the buffer. Gives the count of bytes; those
 /// after them are left as they were. A name has 1 to [`FILE_NAME_LEN`] bytes
-/// of any value and is compared byte by byte.
+/// of any value; A to Z in it count as a to z.
 ///
 /// Refused as [`check`], then with 12, 14, 16:
 /// [`Argument`](Refusal::Argument), [`NoSuchName`](Refusal::NoSuchName),
@@ -105,9 +106,9 @@ pub fn list(image: &[u8], out: &mut [u8]) -> Result<usize, Refusal> {
 /// add(&mut image, b"letter_txt", 0, b"Dear client")?;
 ///
 /// let mut out = [0; 100];
-/// let count = read(&image, b"letter_txt", &mut out)?;
+/// let count = read(&image, b"LETTER_txt", &mut out)?;
 /// assert_eq!(out[..count], *b"Dear client");
-/// assert_eq!(read(&image, b"LETTER_TXT", &mut out), Err(Refusal::NoSuchName));
+/// assert_eq!(read(&image, b"letter.txt", &mut out), Err(Refusal::NoSuchName));
 /// # Ok::<(), Refusal>(())
 /// ```
 pub fn read(image: &[u8], name: &[u8], out: &mut [u8]) -> Result<usize, Refusal> {
@@ -116,7 +117,8 @@ pub fn read(image: &[u8], name: &[u8], out: &mut [u8]) -> Result<usize, Refusal>
 
 /// Adds a file to a disk. It takes the lowest vacant slot and the lowest free
 /// blocks, (64 + bytes of data) / 1536 rounded up, and a block more where the
-/// directory grows.
+/// directory grows. The disk keeps the name as it is spelled here; compared
+/// with those of other files, A to Z in it count as a to z.
 ///
 /// Refused as [`check`], then with 12, 13, 15:
 /// [`Argument`](Refusal::Argument), [`NamePresent`](Refusal::NamePresent),
@@ -129,7 +131,7 @@ pub fn read(image: &[u8], name: &[u8], out: &mut [u8]) -> Result<usize, Refusal>
 /// format(&mut image, b"WORK", 1)?;
 /// add(&mut image, b"letter_txt", 0x1234_5678, b"Dear client")?;
 /// assert_eq!(
-///     add(&mut image, b"letter_txt", 0, b"again"),
+///     add(&mut image, b"LETTER_TXT", 0, b"again"),
 ///     Err(Refusal::NamePresent { slot: 1 })
 /// );
 /// assert_eq!(
@@ -143,7 +145,8 @@ pub fn add(image: &mut [u8], name: &[u8], date: u32, data: &[u8]) -> Result<(), 
 }
 
 /// Removes a file from a disk. Its blocks and its slot are filled with zero
-/// bytes: none of its bytes stays in the image.
+/// bytes: none of its bytes stays in the image. A to Z in the name count as
+/// a to z.
 ///
 /// Refused as [`check`], then with 12, 14: [`Argument`](Refusal::Argument),
 /// [`NoSuchName`](Refusal::NoSuchName).

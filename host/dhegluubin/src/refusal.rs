@@ -84,7 +84,8 @@ pub enum Refusal {
         /// The lowest such block.
         block: usize,
     },
-    /// 10: the directory is not sound.
+    /// 10: the directory is not sound. Of two files whose names are equal once
+    /// A to Z are read as a to z, the higher is at fault.
     Directory {
         /// The lowest file number at fault.
         file: usize,
@@ -94,12 +95,12 @@ pub enum Refusal {
     /// 12: a file name has not 1 to 36 bytes, a disk name has over 10, or a
     /// block or sector number is out of range.
     Argument,
-    /// 13: a file of the name to add is present.
+    /// 13: a file of the name to add is present, in this or another spelling.
     NamePresent {
         /// Its slot.
         slot: usize,
     },
-    /// 14: no file has the name.
+    /// 14: no file has the name, in any spelling.
     NoSuchName,
     /// 15: the file to add needs more blocks than are free.
     TooFewBlocks,

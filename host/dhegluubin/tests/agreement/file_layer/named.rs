@@ -59,6 +59,7 @@ fn own_refusals() {
     assert_eq!(read(&image, b"", &mut []), Err(Refusal::Argument));
     let present = Err(Refusal::NamePresent { slot: 3 });
     assert_eq!(add(&mut image, b"f3", 0, &[]), present);
+    assert_eq!(add(&mut image, b"F3", 0, &[]), present);
     assert_eq!(remove(&mut image, b"f4"), Err(Refusal::NoSuchName));
     let long = vec![0; IMAGE_LEN];
     assert_eq!(add(&mut image, b"f4", 0, &long), Err(Refusal::TooFewBlocks));
