@@ -3,6 +3,8 @@
 //! `\xHH` stands for the byte with this hexadecimal value, `\\` for a
 //! backslash; every other character stands for its own bytes, those of UTF-8
 //! where it is not ASCII. What is shown can be given back as it is.
+//!
+//! The tool compares no names: which of them are equal the library judges.
 
 use std::ffi::OsStr;
 

@@ -15,8 +15,8 @@ pub const COMMAND: Command = Command {
     about: "copy a file out of a block image",
     details: "\
 Writes the data of the file NAME to OUT, which is replaced if it is there.
-\\xHH in NAME stands for the byte with this hexadecimal value, \\\\ for a
-backslash.
+A to Z in NAME count as a to z. \\xHH stands for the byte with this hexadecimal
+value, \\\\ for a backslash.
 ",
     example: "dheg get work.img letter_txt letter.txt\n",
     run,

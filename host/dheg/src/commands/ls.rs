@@ -15,9 +15,9 @@ pub const COMMAND: Command = Command {
     arguments: "IMG...",
     about: "list the files in each block image",
     details: "\
-A line tells of the disk, then one of each file: bytes of data, date, name. An
-image that is refused is told of on standard error; with several images a last
-line gives the counts.
+A line tells of the disk, then one of each file: bytes of data, date, name in
+the spelling that the disk keeps. An image that is refused is told of on
+standard error; with several images a last line gives the counts.
 ",
     example: "dheg ls work.img games.img\n",
     run,

@@ -14,8 +14,9 @@ pub const COMMAND: Command = Command {
     arguments: "IMG NAME FILE [--date D]",
     about: "add a file to a block image",
     details: "\
-Adds the bytes of FILE under NAME. \\xHH in NAME stands for the byte with this
-hexadecimal value, \\\\ for a backslash.
+Adds the bytes of FILE under NAME, which the disk keeps as it is spelled. It is
+refused if a file has the name; there A to Z count as a to z. \\xHH in NAME
+stands for the byte with this hexadecimal value, \\\\ for a backslash.
 
   --date D   QL date: seconds since 1961-01-01 00:00:00, or
              YYYY-MM-DD HH:MM:SS, or now; 0 unless given

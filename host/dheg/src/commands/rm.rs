@@ -14,8 +14,8 @@ pub const COMMAND: Command = Command {
     arguments: "IMG NAME",
     about: "remove a file from a block image",
     details: "\
-No byte of the file stays in the image. \\xHH in NAME stands for the byte with
-this hexadecimal value, \\\\ for a backslash.
+No byte of the file stays in the image. A to Z in NAME count as a to z. \\xHH
+stands for the byte with this hexadecimal value, \\\\ for a backslash.
 ",
     example: "dheg rm work.img letter_txt\n",
     run,

@@ -59,6 +59,19 @@ fn over_itself() {
     assert!(bench.read("back") == bench.read("one"));
 }
 
+/// A step finds a file by any spelling of its name (§6.14), and a later one may
+/// put it anew in its own.
+#[test]
+fn steps_in_another_spelling() {
+    let bench = bench();
+    bench.quiet("edit in.hfe out.hfe -- rm OLD put Old one");
+    bench.quiet("unpack out.hfe out.img");
+    let listed = bench.line("ls out.img").out;
+    assert!(listed.ends_with("  Old\n"), "{listed}");
+    bench.quiet("get out.img oLD back");
+    assert!(bench.read("back") == bench.read("one"));
+}
+
 #[test]
 fn refused_steps_write_nothing() {
     let bench = bench();
@@ -67,6 +80,10 @@ fn refused_steps_write_nothing() {
         (
             "put new one put old one",
             "old: refused 13: name already present in slot 1",
+        ),
+        (
+            "put OLD one",
+            "OLD: refused 13: name already present in slot 1",
         ),
         (
             "rm old rm old put new one",

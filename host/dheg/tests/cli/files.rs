@@ -80,6 +80,35 @@ fn any_bytes_in_names() {
     }
 }
 
+/// A file is found by any spelling of its name (§6.14), a put of another one is
+/// refused with its slot (§7.13), and a list shows the one that it was put with.
+#[test]
+fn names_in_another_spelling() {
+    let bench = Bench::with_disk();
+    bench.write("data", b"data");
+    bench.write("other", b"other");
+    bench.quiet("put disk.img Reel_one data");
+    for name in ["REEL_ONE", "reel_one", "Reel_one"] {
+        bench.fails(
+            &format!("put disk.img {name} other"),
+            1,
+            &format!("disk.img: {name}: refused 13: name already present in slot 1"),
+        );
+        bench.quiet(&format!("get disk.img {name} back"));
+        assert_eq!(bench.read("back"), b"data");
+    }
+    let listed = || bench.line("ls disk.img").out;
+    assert!(listed().ends_with("  Reel_one\n"), "{}", listed());
+    bench.quiet("rm disk.img rEEL_oNE");
+    bench.fails(
+        "rm disk.img Reel_one",
+        1,
+        "disk.img: Reel_one: refused 14: no file of this name",
+    );
+    bench.quiet("put disk.img REEL_ONE other");
+    assert!(listed().ends_with("  REEL_ONE\n"), "{}", listed());
+}
+
 #[test]
 fn names_that_look_like_options() {
     let bench = Bench::with_disk();

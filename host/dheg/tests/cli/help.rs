@@ -36,6 +36,20 @@ fn each_command() {
     }
 }
 
+/// That case does not count in names of files is said by the overview and by
+/// each command that looks one up.
+#[test]
+fn case_in_names() {
+    let bench = Bench::new();
+    let overview = bench.line("--help").out;
+    assert!(overview.contains("Reel_one and REEL_ONE\nare one file."));
+    assert!(overview.contains("keeps the spelling"));
+    for command in ["get", "put", "rm"] {
+        let help = bench.line(&format!("{command} --help")).out;
+        assert!(help.contains("A to Z"), "{command}");
+    }
+}
+
 #[test]
 fn examples_work() {
     let bench = Bench::new();
