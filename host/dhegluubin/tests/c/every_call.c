@@ -132,6 +132,7 @@ static void files(void)
     refused("read: short image", dheg_read(image, sizeof image - 1, text("first"), 5, out, 10),
             DHEG_LENGTH, 2, 0, 0);
     refused("add: name present", add("second", data, 1), DHEG_NAME_PRESENT, 2, 0, 0);
+    refused("add: name present in capitals", add("SECOND", data, 1), DHEG_NAME_PRESENT, 2, 0, 0);
     refused("add: long name", add("a name of more than thirty-six bytes.", data, 1), DHEG_ARGUMENT,
             0, 0, 0);
     refused("add: no image", dheg_add(NULL, 0, text("x"), 1, 0, data, 1), DHEG_LENGTH, 2, 0, 0);
