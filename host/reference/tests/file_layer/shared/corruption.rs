@@ -9,6 +9,11 @@ use reference::geometry::IMAGE_LEN;
 use std::collections::BTreeMap;
 use support::noise::{noise, Generator};
 
+/// The name of a file, in one of its spellings.
+fn name(generator: &mut Generator, index: usize) -> [u8; 2] {
+    [*generator.choice(b"fF"), index as u8]
+}
+
 /// A disk with some files, some of them removed again.
 fn random_disk(generator: &mut Generator) -> Vec<u8> {
     match generator.below(4) {
@@ -18,12 +23,13 @@ fn random_disk(generator: &mut Generator) -> Vec<u8> {
     }
     let mut image = fresh();
     for index in 0..generator.below(30) {
-        let name = [b'f', index as u8];
+        let name = name(generator, index);
         let data = noise(index as u32, generator.below(6000));
         reference::add(&mut image, &name, 1, &data);
     }
     for _ in 0..generator.below(5) {
-        reference::remove(&mut image, &[b'f', generator.below(30) as u8]);
+        let index = generator.below(30);
+        reference::remove(&mut image, &name(generator, index));
     }
     image
 }
@@ -32,7 +38,7 @@ fn random_disk(generator: &mut Generator) -> Vec<u8> {
 fn corrupt(generator: &mut Generator, image: &mut [u8]) {
     let block = generator.below(40) * (1 + 11 * generator.below(2));
     let slot = 64 * generator.below(24);
-    match generator.below(12) {
+    match generator.below(13) {
         0 => image[generator.below(96)] ^= 1 << generator.below(8),
         1 => set_word(image, 34, generator.below(4)),
         2 => set_word(image, 36, 64 * generator.below(26)),
@@ -51,7 +57,11 @@ fn corrupt(generator: &mut Generator, image: &mut [u8]) {
             let len = generator.below(5000) as u32;
             patch(image, 1, slot, &len.to_be_bytes());
         }
-        _ => patch(image, 1, slot + 14, &[0, generator.below(40) as u8]),
+        11 => patch(image, 1, slot + 14, &[0, generator.below(40) as u8]),
+        _ => {
+            let index = generator.below(30);
+            patch(image, 1, slot + 16, &name(generator, index));
+        }
     }
 }
 
@@ -71,7 +81,8 @@ fn random_faults() {
             1 => (),
             _ => count_free(&mut image),
         }
-        let name = [b'f', generator.below(20) as u8];
+        let index = generator.below(20);
+        let name = name(&mut generator, index);
         println!("case {case}");
         let [number, ..] = all_calls(&image, &name);
         *numbers.entry(number).or_insert(0) += 1;

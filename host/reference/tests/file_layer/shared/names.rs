@@ -20,8 +20,9 @@ fn bytes_but(left_out: &[u8]) -> Vec<u8> {
 }
 
 /// Every byte as a name, against every other: it finds the file of an equal
-/// name (§6.14), and an add of it is refused with that file's slot (§7.13). The
-/// disk has each name once, in capitals or in small letters.
+/// name (§6.14), and an add of it is refused with that file's slot (§7.13). A
+/// disk has all names in capitals, another all in small letters; none of them
+/// is that of a lower slot (§7.21).
 #[test]
 fn every_byte_against_all_others() {
     for left_out in [CAPITALS, SMALL] {
@@ -65,8 +66,25 @@ fn bytes_that_differ_by_20_hex() {
     assert_eq!(equal, 2 * 52);
 }
 
+/// Every capital and every small letter, as names on one disk: they are equal
+/// if they are the same letter (§6.14 §7.21).
+#[test]
+fn capitals_against_small_letters() {
+    for capital in CAPITALS.chunks(1) {
+        for small in SMALL.chunks(1) {
+            let expected = match are_equal(capital[0], small[0]) {
+                true => [10, 2, 0, 0],
+                false => [0; 4],
+            };
+            for names in [[capital, small], [small, capital]] {
+                assert_eq!(check(&named_files(&names)), expected, "{names:?}");
+            }
+        }
+    }
+}
+
 /// Bytes next to the letters are different names, in longer names too; so are
-/// the accented letters C1 and E1 (§6.14).
+/// C1 and E1 (hex), letters in other character sets (§6.14).
 #[test]
 fn bytes_next_to_the_letters() {
     for (one, other) in [
