@@ -145,7 +145,7 @@ fn last_of_36_bytes_in_capitals() {
     assert_eq!(check(&image), [0; 4]);
 }
 
-/// A list of these entries, of files without data that Disk adds.
+/// The entries of files without data, as the disk adds them.
 fn entries(names: &[&[u8]]) -> Vec<u8> {
     let mut entries = Vec::new();
     for name in names {
@@ -160,6 +160,9 @@ fn entries(names: &[&[u8]]) -> Vec<u8> {
 fn assert_lists(disk: &Disk, names: &[&[u8]]) {
     let expected = entries(names);
     let len = expected.len();
+    let mut out = vec![0; len];
+    assert_eq!(disk.model.list(&mut out).parts(), [0, len, 0, 0]);
+    assert_eq!(out, expected);
     let (reply, listed) = list(&disk.image, &vec![0; len]);
     assert_eq!((reply, listed), ([0, len, 0, 0], expected));
     disk.assert_is_the_models();
