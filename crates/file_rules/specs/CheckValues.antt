@@ -1,6 +1,7 @@
 -- check-values: the places that 9 and 10 name (§7.9, §7.10), by value: what the check says of a formatted disk of which one record of the map is another,
 -- and of a disk with two spellings of one name.
 -- Assumes nothing: these are definitions. The proof is `check-values` in Laws/Values/CheckValues.antt.
+use mathlib.Core.Bool.{true}
 use mathlib.Core.List.{List, [], _∷_}
 use mathlib.Core.Option.{none, some}
 use mathlib.Core.Path.{_≡_, _∙_}
@@ -11,8 +12,10 @@ use Rattle.sector_rules.specs.Geometry.{imageBytes}
 use Rattle.sector_rules.specs.Replies.{replyWith}
 use Rattle.file_rules.specs.Arguments.{FormatArguments}
 use Rattle.file_rules.specs.Calls.{format, check}
+use Rattle.file_rules.specs.Check.{fileRight}
 use Rattle.file_rules.specs.Disk.{imageOf}
 use Rattle.file_rules.specs.Model.{Model, FilledSlot, modelDisk}
+use Rattle.file_rules.specs.NamesEqual.{reelOne, reelCapitals, reelOther}
 use Rattle.file_rules.specs.Sizes.{titleMost}
 
 -- ---- what is promised
@@ -26,14 +29,6 @@ pub record RecordsJudged (image : List ℕ) : Type 0 where
   -- 10: block 1 is the directory's second, and there is no first; block 2 is that of file 5, which has no slot
   pub directory-part : check (set image 101 1) ≡ replyWith 10 0 0 0
   pub no-slot : check (set (set (set image 102 0x00) 103 0x50) 104 0x00) ≡ replyWith 10 5 0 0
-
--- Reel_one, and REEL_ONE (§6.14)
-unfoldable pub reelOne : List ℕ
-reelOne = 0x52 ∷ 0x65 ∷ 0x65 ∷ 0x6C ∷ 0x5F ∷ 0x6F ∷ 0x6E ∷ 0x65 ∷ []
-
--- the same name in capitals (§6.14)
-unfoldable pub reelCapitals : List ℕ
-reelCapitals = 0x52 ∷ 0x45 ∷ 0x45 ∷ 0x4C ∷ 0x5F ∷ 0x4F ∷ 0x4E ∷ 0x45 ∷ []
 
 -- a slot with a file of this name, without data, in block b (§9.2)
 unfoldable pub emptyFile : List ℕ → ℕ → FilledSlot
@@ -49,5 +44,6 @@ pub record CheckValues : Type 0 where
   -- records are judged so on every formatted disk
   pub records-judged : (old : List ℕ) (args : FormatArguments) → length old ≡ imageBytes → length (args .title) ≤ titleMost
       → RecordsJudged (format old args .image)
-  -- 10 at the higher of two slots whose names differ in their capitals alone
+  -- 10 at slot 2, where slot 1 has Reel_one and slot 2 REEL_ONE; with another name there file 2 is sound
   pub spellings-judged : (args : FormatArguments) → check (imageOf (modelDisk (twoFiles args reelOne reelCapitals))) ≡ replyWith 10 2 0 0
+  pub other-sound : (args : FormatArguments) → fileRight (modelDisk (twoFiles args reelOne reelOther)) 2 ≡ true

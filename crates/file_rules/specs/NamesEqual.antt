@@ -2,7 +2,7 @@
 -- Calls, model and history share the equality; this says what it is.
 -- Assumes nothing: these are definitions. The proof is `names-equal` in Laws/Base/Names.antt.
 use mathlib.Core.Path.{_≡_}
-use mathlib.Core.Bool.{true}
+use mathlib.Core.Bool.{true, false}
 use mathlib.Core.List.{List, [], _∷_, _++_}
 use Prim.Native.Nat.{ℕ, _+_, _<_}
 use lib.ListN.{length, getD}
@@ -19,6 +19,18 @@ smallLetters =
 unfoldable pub bytesCompared : List ℕ
 bytesCompared = tab (λ (i : ℕ). i) 0x41 ++ (smallLetters ++ tab (λ (i : ℕ). 0x5B + i) 0xA5)
 
+-- Reel_one (§6.14)
+unfoldable pub reelOne : List ℕ
+reelOne = 0x52 ∷ 0x65 ∷ 0x65 ∷ 0x6C ∷ 0x5F ∷ 0x6F ∷ 0x6E ∷ 0x65 ∷ []
+
+-- REEL_ONE, the same name in capitals (§6.14)
+unfoldable pub reelCapitals : List ℕ
+reelCapitals = 0x52 ∷ 0x45 ∷ 0x45 ∷ 0x4C ∷ 0x5F ∷ 0x4F ∷ 0x4E ∷ 0x45 ∷ []
+
+-- another name: it has 7F (hex) where Reel_one has 5F, which is no letter (§6.14)
+unfoldable pub reelOther : List ℕ
+reelOther = 0x52 ∷ 0x65 ∷ 0x65 ∷ 0x6C ∷ 0x7F ∷ 0x6F ∷ 0x6E ∷ 0x65 ∷ []
+
 -- two names agree: their lengths are the same, and so is each byte once it is lowered (§6.14)
 abbrev pub AgreeLowered : List ℕ → List ℕ → Type 0
 AgreeLowered a b = (length a ≡ length b) × ((i : ℕ) → i < length a → lowered (getD a i 0) ≡ lowered (getD b i 0))
@@ -34,3 +46,7 @@ pub record NamesEqual : Type 0 where
   pub transitive : (a b c : List ℕ) → nameEq a b ≡ true → nameEq b c ≡ true → nameEq a c ≡ true
   -- 41 to 5A (hex) are lowered and no other byte, by all 256
   pub lowered-bytes : tab lowered 256 ≡ bytesCompared
+  -- by value, in either order: two spellings of one name; another name; a name and its beginning
+  pub spellings : (nameEq reelOne reelCapitals ≡ true) × (nameEq reelCapitals reelOne ≡ true)
+  pub other-bytes : (nameEq reelOne reelOther ≡ false) × (nameEq reelOther reelOne ≡ false)
+  pub other-lengths : (nameEq (0x61 ∷ []) (0x61 ∷ 0x61 ∷ []) ≡ false) × (nameEq (0x61 ∷ 0x61 ∷ []) (0x61 ∷ []) ≡ false)

@@ -3,8 +3,8 @@
 
 -- refusals-keep: a call that is refused changes no lent byte, for every entry point of the library that is lent bytes to write. Refusals.antt
 pub use Rattle.file_rules.specs.Laws.Theorem.Refusals.{refusals-keep}
--- names-equal: names are equal exactly where their lengths agree and each byte agrees once A to Z are read as a to z; an equivalence; the bytes so read.
--- NamesEqual.antt
+-- names-equal: two names are equal if and only if they have the same length and, capitals counting as small letters, the same bytes; this is an equivalence;
+-- all 256 bytes as they are compared. NamesEqual.antt
 pub use Rattle.file_rules.specs.Laws.Base.Names.{names-equal}
 -- history: for every history of calls after a format, each reply, each result buffer and the whole final image are the model's. History.antt
 pub use Rattle.file_rules.specs.Laws.Theorem.History.{history}

@@ -1,8 +1,9 @@
 -- Names (§6.14, §6.15): the proof of names-equal (NamesEqual.antt), and the model accepts those that the calls accept.
--- No other file unfolds the equality, and only what reads names byte by byte (files, Loading) uses more than that it is an equivalence.
+-- No other law unfolds the equality, but for values that are computed (Values/CheckValues); and only what reads names byte by byte (files, Loading) uses
+-- more than that it is an equivalence.
 -- Rests on the equality of lists (laws, Same).
 use mathlib.Core.Path.{_≡_, refl, sym, ap, subst, _∙_}
-use mathlib.Core.Bool.{Bool, true}
+use mathlib.Core.Bool.{Bool, true, false}
 use mathlib.Core.List.{List, [], _∷_, map}
 use Prim.Native.Nat.{ℕ, zero, suc, _≤_, _<_}
 use native.Mathlib.Nat.{le-of-suc-le-suc, not-suc-le-zero}
@@ -14,7 +15,7 @@ use Rattle.laws.specs.Laws.Same.{same-eq, eq-same}
 use Rattle.laws.specs.Lists.{tab, same}
 use Rattle.file_rules.specs.Directory.{lowered, nameEq, nameRight}
 use Rattle.file_rules.specs.Model.{acceptable}
-use Rattle.file_rules.specs.NamesEqual.{smallLetters, bytesCompared, AgreeLowered, NamesEqual}
+use Rattle.file_rules.specs.NamesEqual.{smallLetters, bytesCompared, reelOne, reelCapitals, reelOther, NamesEqual}
 use Rattle.file_rules.specs.Sizes.{nameMost}
 
 map-at : (f : ℕ → ℕ) (a : List ℕ) (i : ℕ) → i < length a → getD (map f a) i 0 ≡ f (getD a i 0)
@@ -26,16 +27,26 @@ lowered-all : tab lowered 256 ≡ bytesCompared
 unfolding tab lowered bytesCompared smallLetters
 lowered-all = refl
 
-module _ (a b : List ℕ) where
-  compared : nameEq a b ≡ same (map lowered a) (map lowered b)
-  unfolding nameEq
-  compared = refl
+spellings-are : (nameEq reelOne reelCapitals ≡ true) × (nameEq reelCapitals reelOne ≡ true)
+unfolding nameEq lowered same reelOne reelCapitals
+spellings-are = (refl, refl)
 
+other-bytes-are : (nameEq reelOne reelOther ≡ false) × (nameEq reelOther reelOne ≡ false)
+unfolding nameEq lowered same reelOne reelOther
+other-bytes-are = (refl, refl)
+
+other-lengths-are : (nameEq (0x61 ∷ []) (0x61 ∷ 0x61 ∷ []) ≡ false) × (nameEq (0x61 ∷ 0x61 ∷ []) (0x61 ∷ []) ≡ false)
+unfolding nameEq lowered same
+other-lengths-are = (refl, refl)
+
+module _ (a b : List ℕ) where
   compared-equal : map lowered a ≡ map lowered b → nameEq a b ≡ true
-  compared-equal e = compared ∙ eq-same (map lowered a) (map lowered b) e
+  unfolding nameEq
+  compared-equal e = eq-same (map lowered a) (map lowered b) e
 
   as-compared : nameEq a b ≡ true → map lowered a ≡ map lowered b
-  as-compared t = same-eq (map lowered a) (map lowered b) (sym compared ∙ t)
+  unfolding nameEq
+  as-compared t = same-eq (map lowered a) (map lowered b) t
 
   -- equal names have the same length
   pub equal-length : nameEq a b ≡ true → length a ≡ length b
@@ -76,6 +87,9 @@ names-equal =
       symmetric = name-sym;
       transitive = name-trans;
       lowered-bytes = lowered-all;
+      spellings = spellings-are;
+      other-bytes = other-bytes-are;
+      other-lengths = other-lengths-are;
     }
 
 -- a name that the calls accept has 1 to 36 bytes

@@ -1,5 +1,6 @@
 -- 9 and 10 by value: the proof of check-values (CheckValues.antt).
 -- Rests on: the laws of the disk in block order (Base/Disk), and that a format is accepted (OnImages/Run); all else is computed.
+use mathlib.Core.Bool.{true}
 use mathlib.Core.List.{List}
 use mathlib.Core.Path.{_≡_, refl, sym, ap, _∙_, subst}
 use Prim.Native.Nat.{ℕ, _≤_, _<_}
@@ -32,7 +33,8 @@ use Rattle.file_rules.specs.Map.{decode, encode, numberOf, numberAt, rec
 use Rattle.file_rules.specs.Model.{Model, fileOf, takenBy, slotOf, dirByte, content, position, orRecord, slotRecord, modelRecord, modelHeader, modelDisk}
 use Rattle.file_rules.specs.Sizes.{blockBytes}
 use Rattle.file_rules.specs.Written.{fixedByte, diskHeaderByte, diskWith}
-use Rattle.file_rules.specs.CheckValues.{RecordsJudged, CheckValues, reelOne, reelCapitals, emptyFile, twoFiles}
+use Rattle.file_rules.specs.CheckValues.{RecordsJudged, CheckValues, emptyFile, twoFiles}
+use Rattle.file_rules.specs.NamesEqual.{reelOne, reelCapitals, reelOther}
 
 -- a disk has nothing outside its blocks (§1.3)
 pub record NothingOutside (d : Disk) : Type 0 where
@@ -106,14 +108,22 @@ model-nothing-outside : (m : Model) → NothingOutside (modelDisk m)
 unfolding modelDisk
 model-nothing-outside m = with-nothing-outside _ _ _
 
-spellings-are : (args : FormatArguments) → judgedReply (modelDisk (twoFiles args reelOne reelCapitals)) ≡ replyWith 10 2 0 0
+spellings-found : (args : FormatArguments) → judgedReply (modelDisk (twoFiles args reelOne reelCapitals)) ≡ replyWith 10 2 0 0
 unfolding judgedReply diskRefusal refusal8 refusal9 refusal10 refusal11 diskHeaderFault dimensionsFault lengthRight dirBytes mapFault recordAt numberAt
     modelDisk modelHeader modelRecord content dirByte slotOf position orRecord slotRecord twoFiles emptyFile reelOne reelCapitals fileOf takenBy
     diskWith diskHeaderByte fixedByte patch highByte diskSignature sidePlace backward bytesAre same tab at16 at32 bigEndian lowest count
     decode encode numberOf recordFault isSystem isOther faultBelow unless orElse upd
     fileFault fileRight entryRight newName nameEq lowered slotEntry slotName slotByte partBlock entryOf entryByte entryFor nameOf
     partsRight dirEnd all within isPart quotientUp held
-spellings-are args = refl
+spellings-found args = refl
+
+other-found : (args : FormatArguments) → fileRight (modelDisk (twoFiles args reelOne reelOther)) 2 ≡ true
+unfolding dirBytes recordAt numberAt
+    modelDisk modelHeader modelRecord content dirByte slotOf position orRecord slotRecord twoFiles emptyFile reelOne reelOther fileOf takenBy
+    diskWith diskHeaderByte fixedByte patch highByte same tab at16 at32 bigEndian lowest count decode encode numberOf upd
+    fileRight entryRight newName nameEq lowered slotEntry slotName slotByte partBlock entryOf entryByte entryFor nameOf
+    partsRight dirEnd all within isPart quotientUp held
+other-found args = refl
 
 -- check-values: these hold
 pub check-values : CheckValues
@@ -121,6 +131,7 @@ check-values =
     record {
       records-judged = λ old args long short.
           subst RecordsJudged (sym (ap (λ (w : ImageChanged). w .image) (format-done old args long short))) (judged-is args);
+      other-sound = other-found;
       spellings-judged = λ args.
-          let m : Model = twoFiles args reelOne reelCapitals in check-is (modelDisk m) (model-nothing-outside m) ∙ spellings-are args;
+          let m : Model = twoFiles args reelOne reelCapitals in check-is (modelDisk m) (model-nothing-outside m) ∙ spellings-found args;
     }
