@@ -11,10 +11,10 @@
  *   from number 1 upwards and the first that fails is the answer. A place that is not named is 0.
  * - A refused call changes nothing: every lent byte is as it was.
  * - Any contents and any lengths may be passed; what cannot be done is refused.
- * - File names are equal if they have the same length and agree once the bytes 41 to 5A hex (A to Z)
- *   are read as 61 to 7A (a to z); all other bytes are compared as they are. So `Reel_one` and
- *   `REEL_ONE` are one name. A disk keeps the spelling that the file was added with. Disk names are
- *   not compared.
+ * - File names are equal if they have the same length and the same bytes, where a capital letter
+ *   counts as its small one: the bytes 41 to 5A hex, A to Z, as 61 to 7A, a to z. No other byte counts
+ *   as another. So `Reel_one` and `REEL_ONE` are one name. A disk keeps the spelling that the file was
+ *   added with. Disk names are not compared.
  * - Memory is lent for the time of the call. No pointer is kept, nothing is allocated, nothing
  *   stays to be freed. A pointer must be good for the length after it; where that is 0 the pointer
  *   is not used and may be NULL. Memory that a call writes must not overlap anything else that is
@@ -87,7 +87,7 @@ enum dheg_number {
      * such block. */
     DHEG_MAP_RECORD = 9,
     /* The directory is not sound. `first` is the lowest file number at fault, 0 for the directory
-     * itself. Of two files with equal names, in any spelling, the higher is at fault. */
+     * itself. Of two files with equal names the one with the higher number is at fault. */
     DHEG_DIRECTORY = 10,
     /* The free-sector word is not three times the free records. */
     DHEG_FREE_WORD = 11,
@@ -183,8 +183,8 @@ dheg_reply dheg_format(uint8_t *image, size_t image_len, const uint8_t *name, si
  *   1      `first`: 2 `image` has not 737,280 bytes
  *   8      `first`: offset of the lowest wrong field of the disk header (34: directory's length)
  *   9      `first`: lowest block whose map record is wrong
- *   10     `first`: lowest file number at fault, 0 for the directory itself; of two files whose names
- *          are equal once A to Z are read as a to z, the higher
+ *   10     `first`: lowest file number at fault, 0 for the directory itself; of two files with equal
+ *          names, in whatever spelling, the one with the higher number is at fault
  *   11     the free word is not three times the free records; no place is named
  *
  * `image` is only read, until the call returns; no state is kept, and several threads may judge the

@@ -55,10 +55,10 @@ fn entry_right(
     dir: &BlockRow,
     first: &FirstBlocks,
     next: &BlockRow,
-    fresh: bool,
+    unnoted: bool,
     k: usize,
 ) -> bool
-    requires { ⌜ Tables (now image) (now map) (now dir) (now first) (now next) × (k < slotCount) × TellsNew fresh (diskOf (now image)) k ⌝ }
+    requires { ⌜ Tables (now image) (now map) (now dir) (now first) (now next) × (k < slotCount) × TellsNew unnoted (diskOf (now image)) k ⌝ }
     ensures { λ r. ⌜ r ≡ entryRight (diskOf (now (image .entry))) k ⌝ }
 {
     let e = read_entry(image, slot_place(dir, k));
@@ -66,7 +66,7 @@ fn entry_right(
     let namelen = e.namelen as usize;
     let name = e.name;
     if (SLOT_BYTES <= length) & ((1 <= namelen) & (namelen <= NAME_MOST)) {
-        if new_by_hash(image, dir, fresh, k, &name, namelen) {
+        if new_by_hash(image, dir, unnoted, k, &name, namelen) {
             return parts_right(map, first, next, k, blocks_of(length));
         }
     }
@@ -103,8 +103,8 @@ fn file_right(
         return parts_right(map, first, next, 0, blocks_of(dir_bytes(image)));
     }
     if is_listed(image, dir, end, f) {
-        let fresh = note_hash(image, dir, f, noted);
-        return entry_right(image, map, dir, first, next, fresh, f);
+        let unnoted = note_hash(image, dir, f, noted);
+        return entry_right(image, map, dir, first, next, unnoted, f);
     }
     first_block(first, f) == Geometry::BLOCKS
 }

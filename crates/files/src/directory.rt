@@ -96,7 +96,7 @@ pub fn name_length(image: &[u8], at: usize) -> usize
     }
 }
 
-// A byte of a name as it is compared: A to Z are read as a to z (§6.14).
+// A byte of a name as it is compared: a capital letter, A to Z, counts as its small one (§6.14).
 pub fn lowered_byte(x: u8) -> u8
     ensures { λ r. ⌜ r ≡ lowered x ⌝ }
 {
@@ -106,7 +106,8 @@ pub fn lowered_byte(x: u8) -> u8
     x
 }
 
-// Whether two bytes of names agree once they are lowered (§6.14). Most that agree are the same byte, so that is asked first.
+// Whether two bytes of names agree once they are lowered (§6.14). Most that agree are the same byte, so that is asked
+// first.
 fn bytes_agree(x: u8, y: u8) -> bool
     ensures { λ r. ⌜ r ≡ eqb (lowered x) (lowered y) ⌝ }
 {

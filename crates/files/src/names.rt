@@ -51,9 +51,9 @@ pub fn note_hash(image: &[u8], dir: &BlockRow, k: usize, noted: &mut NotedHashes
     ensures { λ r. ⌜ TellsNew r (diskOf (now (image .entry))) k × HashesNoted (now (noted .exit)) (diskOf (now (image .entry))) (k + 1) ⌝ }
 {
     let hash = name_hash(image, slot_place(dir, k));
-    let fresh = noted[hash] == 0;
+    let unnoted = noted[hash] == 0;
     noted[hash] = 1;
-    fresh
+    unnoted
 }
 
 // Whether no slot below k is held and has this name (§7.21): `newName`, for the name of slot k.
@@ -69,19 +69,19 @@ fn new_name(image: &[u8], dir: &BlockRow, k: usize, name: &[u8]) -> bool
     true
 }
 
-// The same for the first n bytes of a name, which are those of slot k (§7.21); a fresh hash tells at once.
+// The same for the first n bytes of a name, which are those of slot k (§7.21); a hash not noted before tells at once.
 pub fn new_by_hash(
     image: &[u8],
     dir: &BlockRow,
-    fresh: bool,
+    unnoted: bool,
     k: usize,
     name: &[u8],
     n: usize,
 ) -> bool
-    requires { ⌜ (length (now image) ≡ imageBytes) × (k < slotCount) × Located (now dir) (diskOf (now image)) × (n ≤ length (now name)) × TellsNew fresh (diskOf (now image)) k × (take n (now name) ≡ slotName (diskOf (now image)) k) ⌝ }
+    requires { ⌜ (length (now image) ≡ imageBytes) × (k < slotCount) × Located (now dir) (diskOf (now image)) × (n ≤ length (now name)) × TellsNew unnoted (diskOf (now image)) k × (take n (now name) ≡ slotName (diskOf (now image)) k) ⌝ }
     ensures { λ r. ⌜ r ≡ all (λ (j : ℕ). not (held (diskOf (now (image .entry))) j && nameEq (slotName (diskOf (now (image .entry))) j) (take n (now (name .entry))))) k ⌝ }
 {
-    if fresh {
+    if unnoted {
         return true;
     }
     new_name(image, dir, k, &name[0..n])

@@ -8,9 +8,9 @@
 //! - [`first_track`] judges the first track alone, and [`place`] tells where a
 //!   sector of a block stands in a block image.
 //!
-//! File names are equal if they have the same length and agree once A to Z are
-//! read as a to z; all other bytes are compared as they are. A disk keeps the
-//! spelling that a file was added with.
+//! File names are equal if they have the same length and the same bytes, where
+//! a capital letter, A to Z, counts as its small one; no other byte counts as
+//! another. A disk keeps the spelling that a file was added with.
 //!
 //! All memory is lent by the caller and used only during the call. The
 //! library keeps no state, so that several threads may call it at once, each

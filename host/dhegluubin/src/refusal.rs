@@ -84,8 +84,8 @@ pub enum Refusal {
         /// The lowest such block.
         block: usize,
     },
-    /// 10: the directory is not sound. Of two files whose names are equal once
-    /// A to Z are read as a to z, the higher is at fault.
+    /// 10: the directory is not sound. Of two files with equal names, in
+    /// whatever spelling, the one with the higher number is at fault.
     Directory {
         /// The lowest file number at fault.
         file: usize,

@@ -1,5 +1,5 @@
-//! Levels of the outside answers: level n means that the change requests One
-//! to n are in, and no other.
+//! Levels of the outside answers: at level n the first n change requests are
+//! in.
 
 use crate::json::Value;
 

@@ -55,7 +55,7 @@ hexadecimal value and \\ for a backslash. Whatever begins with a dash is an
 option; after -- nothing is.
 
 In the names of files on a disk A to Z count as a to z: Reel_one and REEL_ONE
-are one file. The disk keeps the spelling that the file was put with.
+are one name. The disk keeps the spelling that the file was put with.
 
 Dates are QL dates, seconds since 1961-01-01 00:00:00. They are given as that
 number, as YYYY-MM-DD HH:MM:SS or as now (UTC).

@@ -37,12 +37,12 @@ fn each_command() {
 }
 
 /// That case does not count in names of files is said by the overview and by
-/// each command that looks one up.
+/// get, put and rm.
 #[test]
 fn case_in_names() {
     let bench = Bench::new();
     let overview = bench.line("--help").out;
-    assert!(overview.contains("Reel_one and REEL_ONE\nare one file."));
+    assert!(overview.contains("Reel_one and REEL_ONE\nare one name."));
     assert!(overview.contains("keeps the spelling"));
     for command in ["get", "put", "rm"] {
         let help = bench.line(&format!("{command} --help")).out;

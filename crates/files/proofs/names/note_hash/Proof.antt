@@ -6,7 +6,7 @@ use borrow.Author.Needs.{needs}
 use Rattle.laws.specs.Laws.Tests.{true-eq}
 use Rattle.file_rules.specs.Disk.{diskOf}
 use Rattle.file_rules.specs.Directory.{slotName}
-use Rattle.files.specs.Laws.Loading.NameHashes.{nameHash, hash-place, fresh-new, hashes-more}
+use Rattle.files.specs.Laws.Loading.NameHashes.{nameHash, hash-place, unnoted-new, hashes-more}
 use Rattle.files.proofs.names.note_hash.Statement.{statement}
 use Rattle.files.proofs.names.note_hash.Tie as tie
 
@@ -25,8 +25,8 @@ slot-place-requires c κs = search needs
 name-hash-requires : tie.Need-name-hash-requires
 name-hash-requires c κs = search needs
 
-element-copy-out-fresh : tie.Need-element-copy-out-fresh
-element-copy-out-fresh c = search needs
+element-copy-out-unnoted : tie.Need-element-copy-out-unnoted
+element-copy-out-unnoted c = search needs
 
 element-write-noted : tie.Need-element-write-noted
 element-write-noted c = search needs
@@ -35,10 +35,10 @@ returns : tie.Need-returns
 returns c =
     let after-name-hash = c .before in
     let start = after-name-hash .before .before .before in (
-      λ t. fresh-new _ _ _ (start .pre .4) _ (hash-is after-name-hash) (start .pre .3) (true-eq t),
+      λ t. unnoted-new _ _ _ (start .pre .4) _ (hash-is after-name-hash) (start .pre .3) (true-eq t),
       hashes-more _ _ _ (start .pre .4) _ (hash-is after-name-hash),
     )
 
 pub note-hash-spec : {M : Type 1} → statement M
 note-hash-spec =
-    tie.close (tie.spec slot-place-requires name-hash-requires element-copy-out-fresh element-write-noted returns)
+    tie.close (tie.spec slot-place-requires name-hash-requires element-copy-out-unnoted element-write-noted returns)

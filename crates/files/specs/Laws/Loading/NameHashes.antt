@@ -93,9 +93,9 @@ pub record HashesNoted (noted : List ℕ) (d : Disk) (k : ℕ) : Type 0 where
   pub long : length noted ≡ hashCount
   pub below : (j : ℕ) → j < k → listedSlot d j ≡ true → getD noted (nameHash (slotName d j)) 0 ≡ 1
 
--- what a fresh hash tells: the name of slot k is new
+-- what a hash that was not noted tells: the name of slot k is new
 abbrev pub TellsNew : Bool → Disk → ℕ → Type 0
-TellsNew fresh d k = fresh ≡ true → newName d k ≡ true
+TellsNew unnoted d k = unnoted ≡ true → newName d k ≡ true
 
 -- at first none is noted
 pub hashes-none : (d : Disk) → HashesNoted (replicate hashCount 0) d 0
@@ -129,9 +129,9 @@ module _ (noted : List ℕ) (d : Disk) (k : ℕ) (m : HashesNoted noted d k) whe
         }
 
     -- a hash that no lower slot has tells that the name is new
-    pub fresh-new : listedSlot d k ≡ true → getD noted hash 0 ≡ 0 → newName d k ≡ true
+    pub unnoted-new : listedSlot d k ≡ true → getD noted hash 0 ≡ 0 → newName d k ≡ true
     unfolding newName
-    fresh-new t z =
+    unnoted-new t z =
         let end : k < dirEnd d = true-lt (and-left (ltb k (dirEnd d)) (held d k) t) in
         all-is (λ (j : ℕ). not (held d j && nameEq (slotName d j) (slotName d k))) k
         (λ j l.

@@ -120,11 +120,11 @@ fn higher_slot_of_two_equal_names_is_at_fault() {
     }
 }
 
-/// Equal names have the same length, and the same bytes once A to Z are read
-/// as a to z (§6.14).
+/// Equal names have the same length and the same bytes, where a capital letter
+/// counts as its small one (§6.14).
 #[test]
 fn names_are_compared_by_length_and_bytes() {
-    // `f2` becomes `f`, then `F3`; bytes after the name do not matter.
+    // `f2` becomes `f`, then `F3`, then `f3`; bytes after the name do not matter.
     assert_eq!(with(|image| patch(image, 1, 2 * 64 + 15, &[1])), [0; 4]);
     for name in [b"F3", b"f3"] {
         let reply = with(|image| patch(image, 1, 2 * 64 + 16, name));

@@ -14,7 +14,7 @@ fn are_equal(one: u8, other: u8) -> bool {
     one == other || pairs.any(|(&a, &b)| (one, other) == (a, b) || (one, other) == (b, a))
 }
 
-/// All bytes, but for those of a case.
+/// All bytes but these.
 fn bytes_but(left_out: &[u8]) -> Vec<u8> {
     (0..=255).filter(|byte| !left_out.contains(byte)).collect()
 }
@@ -126,23 +126,27 @@ fn names_of_different_lengths() {
     disk.assert_is_the_models();
 }
 
-/// All bytes of a name count, the last of 36 too (§6.14).
+/// Each of the 36 bytes of a name counts, and at each a capital letter counts
+/// as its small one (§6.14), by a search and by check (§7.21).
 #[test]
-fn last_of_36_bytes_in_capitals() {
+fn each_of_36_bytes() {
     let small = [b'n'; 36];
-    let mut capital = small;
-    capital[35] = b'N';
-    let mut other = small;
-    other[35] = b'.';
-    let mut image = fresh();
-    assert_eq!(add(&mut image, &capital, 0, b"data"), [0; 4]);
-    assert_eq!(add(&mut image, &small, 0, &[]), [13, 1, 0, 0]);
-    assert_eq!(add(&mut image, &other, 0, &[]), [0; 4]);
-    let (reply, data) = read(&image, &small, &[0; 4]);
-    assert_eq!((reply, data), ([0, 4, 0, 0], b"data".to_vec()));
-    assert_eq!(remove(&mut image, &small), [0; 4]);
-    assert_eq!(remove(&mut image, &capital), [14, 0, 0, 0]);
-    assert_eq!(check(&image), [0; 4]);
+    for place in 0..36 {
+        let mut capital = small;
+        capital[place] = b'N';
+        let mut other = small;
+        other[place] = b'.';
+        assert_eq!(check(&named_files(&[&capital, &small])), [10, 2, 0, 0]);
+        assert_eq!(check(&named_files(&[&capital, &other])), [0; 4]);
+        let mut image = fresh();
+        assert_eq!(add(&mut image, &capital, 0, b"data"), [0; 4]);
+        assert_eq!(add(&mut image, &small, 0, &[]), [13, 1, 0, 0]);
+        assert_eq!(add(&mut image, &other, 0, &[]), [0; 4]);
+        let (reply, data) = read(&image, &small, &[0; 4]);
+        assert_eq!((reply, data), ([0, 4, 0, 0], b"data".to_vec()));
+        assert_eq!(remove(&mut image, &small), [0; 4]);
+        assert_eq!(remove(&mut image, &capital), [14, 0, 0, 0]);
+    }
 }
 
 /// The entries of files without data, as the disk adds them.

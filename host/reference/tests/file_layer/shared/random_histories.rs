@@ -132,7 +132,7 @@ impl Present {
     }
 
     /// Asserts that an add gives 13 if its name is that of a file present and
-    /// not else, and that a remove or a read finds a file in the same case.
+    /// not else, and that a remove or a read finds a file exactly then.
     /// Gives whether the file present has another spelling.
     fn judge(&self, call: &Call, number: usize) -> bool {
         let (name, found) = match call {

@@ -65,7 +65,7 @@ fn image_of(recipe: &Value) -> Vec<u8> {
     image
 }
 
-/// Each call is made on the image of the recipe.
+/// The calls do not follow one another: each is on the recipe's image.
 fn run_disk(case: &Value, answer: &Value) {
     let [_, recipe, calls] = case.members(["kind", "recipe", "calls"]);
     let [checked, printed, answers] = answer.members(["check", "first_track", "calls"]);
