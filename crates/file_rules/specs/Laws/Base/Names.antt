@@ -5,10 +5,9 @@
 use mathlib.Core.Path.{_≡_, refl, sym, ap, subst, _∙_}
 use mathlib.Core.Bool.{Bool, true, false}
 use mathlib.Core.List.{List, [], _∷_, map}
-use Prim.Native.Nat.{ℕ, zero, suc, _≤_, _<_}
-use native.Mathlib.Nat.{le-of-suc-le-suc, not-suc-le-zero}
+use Prim.Native.Nat.{ℕ, _≤_, _<_}
 use lib.Dec.{leb}
-use lib.ListN.{length, getD, length-map}
+use lib.ListN.{length, getD, length-map, List·getD-map}
 use lib.Seq.{ext-getD}
 use Rattle.laws.specs.Laws.Tests.{le-true, true-le, and-true, and-left, and-right}
 use Rattle.laws.specs.Laws.Same.{same-eq, eq-same}
@@ -17,11 +16,6 @@ use Rattle.file_rules.specs.Directory.{lowered, nameEq, nameRight}
 use Rattle.file_rules.specs.Model.{acceptable}
 use Rattle.file_rules.specs.NamesEqual.{smallLetters, bytesCompared, reelOne, reelCapitals, reelOther, NamesEqual}
 use Rattle.file_rules.specs.Sizes.{nameMost}
-
-map-at : (f : ℕ → ℕ) (a : List ℕ) (i : ℕ) → i < length a → getD (map f a) i 0 ≡ f (getD a i 0)
-map-at f [] i h = absurd (not-suc-le-zero h)
-map-at f (x ∷ xs) zero h = refl
-map-at f (x ∷ xs) (suc i) h = map-at f xs i (le-of-suc-le-suc h)
 
 lowered-all : tab lowered 256 ≡ bytesCompared
 unfolding tab lowered bytesCompared smallLetters
@@ -54,16 +48,13 @@ module _ (a b : List ℕ) where
 
   -- equal names have the same byte at each place, once it is lowered
   pub equal-byte : nameEq a b ≡ true → (i : ℕ) → i < length a → lowered (getD a i 0) ≡ lowered (getD b i 0)
-  equal-byte t i h =
-      sym (map-at lowered a i h) ∙ ap (λ (l : List ℕ). getD l i 0) (as-compared t) ∙ map-at lowered b i (subst (λ (n : ℕ). i < n) (equal-length t) h)
+  equal-byte t i h = sym (List·getD-map lowered a i 0) ∙ ap (λ (l : List ℕ). getD l i (lowered 0)) (as-compared t) ∙ List·getD-map lowered b i 0
 
   -- names of the same length whose bytes are the same, once they are lowered, are equal
   pub bytes-equal : length a ≡ length b → ((i : ℕ) → i < length a → lowered (getD a i 0) ≡ lowered (getD b i 0)) → nameEq a b ≡ true
   bytes-equal l e =
-      compared-equal (ext-getD 0 (map lowered a) (map lowered b) (length-map a lowered ∙ l ∙ sym (length-map b lowered))
-      (λ i h.
-      let h′ : i < length a = subst (λ (n : ℕ). i < n) (length-map a lowered) h in
-      map-at lowered a i h′ ∙ e i h′ ∙ sym (map-at lowered b i (subst (λ (n : ℕ). i < n) l h′))))
+      compared-equal (ext-getD (lowered 0) (map lowered a) (map lowered b) (length-map a lowered ∙ l ∙ sym (length-map b lowered))
+      (λ i h. List·getD-map lowered a i 0 ∙ e i (subst (λ (n : ℕ). i < n) (length-map a lowered) h) ∙ sym (List·getD-map lowered b i 0)))
 
 -- a name equals itself
 pub name-refl : (a : List ℕ) → nameEq a a ≡ true

@@ -1,6 +1,6 @@
 -- `file_right` meets its contract.
--- Rests on: the laws in Loading/Chains and Judging/Sound; the contracts of dir_bytes, blocks_of, parts_right,
--- is_listed, note_hash, entry_right and first_block.
+-- Rests on: the laws in Loading/Chains, Loading/NameHashes and Judging/Sound; the contracts of dir_bytes, blocks_of,
+-- parts_right, is_listed, note_hash, entry_right and first_block.
 -- Assumes nothing.
 use mathlib.Core.Path.{_≡_, sym, ap, _∙_}
 use mathlib.Core.Bool.{Bool, true, false, _&&_}

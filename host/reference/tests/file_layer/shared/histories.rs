@@ -12,19 +12,9 @@ const CASES: Outside = Outside {
 };
 
 fn history(case: &Value) -> History<'_> {
-    let [name, number, old, format, calls, replies, buffers, image] = case.members([
-        "name", "number", "old", "format", "calls", "replies", "buffers", "image",
-    ]);
-    History {
-        name,
-        number,
-        old,
-        calls,
-        format,
-        replies,
-        buffers,
-        image,
-    }
+    History::of(case.members([
+        "name", "number", "old", "calls", "format", "replies", "buffers", "image",
+    ]))
 }
 
 fn run_on_image(case: &Value) {

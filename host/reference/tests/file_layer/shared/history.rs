@@ -27,7 +27,23 @@ pub struct History<'a> {
     pub image: &'a Value,
 }
 
-impl History<'_> {
+impl<'a> History<'a> {
+    /// The history of these members: name, number and seed of the format, the
+    /// calls, then the answers, the image's hash last.
+    pub fn of(members: [&'a Value; 8]) -> History<'a> {
+        let [name, number, old, calls, format, replies, buffers, image] = members;
+        History {
+            name,
+            number,
+            old,
+            calls,
+            format,
+            replies,
+            buffers,
+            image,
+        }
+    }
+
     /// Name and number for the format.
     fn arguments(&self) -> (Vec<u8>, u16) {
         let name = from_hex(self.name.text());

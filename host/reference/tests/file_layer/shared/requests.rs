@@ -28,17 +28,8 @@ fn history<'a>(case: &'a Value, answer: &'a Value) -> (History<'a>, [&'a Value; 
         "check",
         "first_track",
     ]);
-    let history = History {
-        name,
-        number,
-        old,
-        calls,
-        format,
-        replies,
-        buffers,
-        image,
-    };
-    (history, [checked, printed])
+    let members = [name, number, old, calls, format, replies, buffers, image];
+    (History::of(members), [checked, printed])
 }
 
 fn run_history(case: &Value, answer: &Value) {
