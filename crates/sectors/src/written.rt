@@ -6,7 +6,7 @@ ghost use lib.ListN.{length, getD};
 ghost use Rattle.cells.specs.Written.{bitBefore};
 ghost use Rattle.laws.specs.Lists.{window};
 ghost use Rattle.laws.specs.Changes.{overlay};
-ghost use Rattle.sector_rules.specs.Geometry.{tracks, sides, sectors, sectorBytes, trackSectors, imageBytes};
+ghost use Rattle.sector_rules.specs.Geometry.{tracks, sides, sectors, sectorBytes, trackSectors, allSectors, imageBytes};
 ghost use Rattle.sector_rules.specs.Search.{dataMark};
 ghost use Rattle.sector_rules.specs.Packed.{headerItems, fieldItems, fieldStart, leadItems, imageSectorOf, withCrc, headerRow, sectorItem, sectorData, imageSide, sideItems};
 ghost use Rattle.sectors.specs.Laws.Packing.Runs.{itemsByte};
@@ -59,12 +59,20 @@ const FIELD_END: usize = FIELD_START + 1 + Geometry::SECTOR_BYTES + 2;
 // Items of a sector (§5.1).
 const SECTOR_ITEMS: usize = FIELD_END + 84;
 
+// The image sector of sector R of a side (§1.2).
+pub fn image_sector(t: usize, s: usize, r: usize) -> usize
+    requires { ⌜ (t < tracks) × (s < sides) × (1 ≤ r) × (r ≤ sectors) ⌝ }
+    ensures { λ k. ⌜ (k ≡ imageSectorOf t s r) × (k < allSectors) ⌝ }
+{
+    Geometry::TRACK_SECTORS * t + Geometry::SECTORS * s + (r - 1)
+}
+
 // Where sector R of a side begins in the block image (§1.2).
 fn sector_start(t: usize, s: usize, r: usize) -> usize
     requires { ⌜ (t < tracks) × (s < sides) × (1 ≤ r) × (r ≤ sectors) ⌝ }
     ensures { λ k. ⌜ k ≡ sectorBytes * imageSectorOf t s r ⌝ }
 {
-    Geometry::SECTOR_BYTES * (Geometry::TRACK_SECTORS * t + Geometry::SECTORS * s + (r - 1))
+    Geometry::SECTOR_BYTES * image_sector(t, s, r)
 }
 
 // Byte k of a header from its mark on, with its CRC (§5.1 §3.9).
@@ -94,7 +102,7 @@ fn sector_header_byte(t: usize, s: usize, r: usize, k: usize) -> u8
 }
 
 // Byte k of a data field from its mark on, with its CRC; its 512 bytes stand in the image from `at` on (§5.1 §3.9).
-fn field_byte(image: &[u8], at: usize, k: usize) -> u8
+pub fn field_byte(image: &[u8], at: usize, k: usize) -> u8
     requires { ⌜ (at + sectorBytes ≤ length (now image)) × (k < fieldItems) ⌝ }
     ensures { λ x. ⌜ x ≡ getD (withCrc (dataMark ∷ window (now (image .entry)) at sectorBytes)) k 0 ⌝ }
 {

@@ -14,11 +14,13 @@ bitOf-bit : (x k : ℕ) → bitOf x k < 2
 unfolding bitOf
 bitOf-bit x k = mod-lt _ (zero-lt-suc 1)
 
-cond-bit : (t : Bool) (a b : ℕ) → a < 2 → b < 2 → cond t a b < 2
+-- a conditional of two values that are 0 or 1 is 0 or 1
+pub cond-bit : (t : Bool) (a b : ℕ) → a < 2 → b < 2 → cond t a b < 2
 cond-bit true a b h l = h
 cond-bit false a b h l = l
 
-clock-bit : (a b : ℕ) → clock a b < 2
+-- every clock cell is 0 or 1
+pub clock-bit : (a b : ℕ) → clock a b < 2
 unfolding clock
 clock-bit a b = cond-bit (eqb b 0 && eqb a 0) 1 0 (lit< tt) (lit< tt)
 

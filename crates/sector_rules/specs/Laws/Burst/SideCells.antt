@@ -30,7 +30,8 @@ module _ (t s : ℕ) (dd : ℕ → List ℕ) where
   unfolding writtenSide
   side-long = written-length (sideItem t s dd) sideItems
 
-  cell-is : (k : ℕ) → k < 100000 → getD (writtenSide t s dd) k 0 ≡ writtenCell (sideItem t s dd) k
+  -- each cell of a written side is that of its items
+  pub cell-is : (k : ℕ) → k < 100000 → getD (writtenSide t s dd) k 0 ≡ writtenCell (sideItem t s dd) k
   unfolding writtenSide written
   cell-is k h = tab-in (writtenCell (sideItem t s dd)) 100000 k h
 

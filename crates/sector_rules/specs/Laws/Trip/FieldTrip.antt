@@ -21,7 +21,7 @@ use Rattle.cells.specs.Laws.Stream.{from-zero}
 use Rattle.cells.specs.Laws.Number.{bytes-list}
 use Rattle.sector_rules.specs.declared.Found.the-variants.{One}
 use Rattle.sector_rules.specs.declared.Sector.the-variants.{Delivered, NoField}
-use Rattle.sector_rules.specs.Search.{crcHolds, dataMark, headerCells, gapCells, headerAt, placesBelow, foundOf}
+use Rattle.sector_rules.specs.Search.{crcHolds, dataMark, headerCells, gapCells, headerAt, placesBelow, foundOf, first}
 use Rattle.sector_rules.specs.Search.{findSector, fieldAt, fieldOf, sectorFound, sectorOf, sectorByte, deliveredBytes}
 use Rattle.sector_rules.specs.Packed.{fieldCrc, withCrc, sectorItem, sideItem}
 use Rattle.sector_rules.specs.Laws.Base.Search.{crc-two, first-is}
@@ -44,7 +44,7 @@ places-one p m e u (suc n) = go (p n) refl (places-one p m e u n)
     go false h (inr a) = inr (omega arith, rw (h, a .1))
 
 -- the search finds each sector of a written side
-found : (t s : ℕ) → t < 256 → s < 256 → (d : ℕ → List ℕ) (k : ℕ) → k < 9
+pub found : (t s : ℕ) → t < 256 → s < 256 → (d : ℕ → List ℕ) (k : ℕ) → k < 9
     → findSector (writtenSide t s d) t s (k + 1) ≡ One (16 * (146 + 658 * k + 12))
 unfolding findSector foundOf place
 found t s ht hs d k hk =
@@ -148,19 +148,27 @@ module _ (t s : ℕ) (d : ℕ → List ℕ) (k : ℕ) (hk : k < 9) (len : length
       let lo : dataByte f 8272 ≡ sum % 256 = field-byte 514 (lit< tt) (rw el (omega arith)) (16 * (146 + 658 * k + 56)) 8272 (omega arith) ∙ el in
       rw (crc-two f 516, hi, lo, field-list) (eq-eqb sum (sum / 256 * 256 + sum % 256) (omega arith))
 
+  -- the first run after the header of a sector is that of its field
+  pub first-run : {A : Type 0} (g : ℕ → A) (none : A)
+      → first (λ (j : ℕ). threeSync (from (writtenSide t s d) j)) g none (gapCells + 1) (16 * (146 + 658 * k + 12) + headerCells)
+      ≡ g (16 * (146 + 658 * k + 56))
+  unfolding f c start
+  first-run g none =
+      let e : 16 * (146 + 658 * k + 12) + 160 + 544 ≡ 16 * (146 + 658 * k + 56) = omega arith in
+      first-is (λ (j : ℕ). threeSync (from (writtenSide t s d) j)) g none (gapCells + 1) (16 * (146 + 658 * k + 12) + headerCells) 544 (lit< tt) gap
+      (rw e three-here)
+      ∙ ap g e
+
   -- the field of the header is the one that was written, and its CRC holds
   field-back : fieldOf c (16 * (146 + 658 * k + 12)) ≡ Delivered (16 * (146 + 658 * k + 60))
   unfolding fieldOf fieldAt f c start xs
   field-back =
-      let e : 16 * (146 + 658 * k + 12) + 160 + 544 ≡ 16 * (146 + 658 * k + 56) = omega arith in
       let l : 8288 ≤ length (from (writtenSide t s d) (16 * (146 + 658 * k + 56))) = rw (room t s d (16 * (146 + 658 * k + 56))) (omega arith) in
       let m : dataByte (from (writtenSide t s d) (16 * (146 + 658 * k + 56))) 48 ≡ dataMark =
       row-byte 0 (lit< tt) (16 * (146 + 658 * k + 56)) 48 (omega arith) in
       let r : 16 * (146 + 658 * k + 56) + 64 ≡ 16 * (146 + 658 * k + 60) = omega arith in
-      first-is (λ (j : ℕ). threeSync (from (writtenSide t s d) j)) (fieldAt (writtenSide t s d)) NoField (gapCells + 1)
-      (16 * (146 + 658 * k + 12) + headerCells) 544 (lit< tt) gap
-      (rw e three-here)
-      ∙ rw (e, le-leb _ _ l, eq-eqb _ _ m, field-holds, r)
+      first-run (fieldAt (writtenSide t s d)) NoField
+      ∙ rw (le-leb _ _ l, eq-eqb _ _ m, field-holds, r)
 
   -- the sector's bytes are those that were written
   data-back : tab (sectorByte c (16 * (146 + 658 * k + 60))) 512 ≡ d (k + 1)

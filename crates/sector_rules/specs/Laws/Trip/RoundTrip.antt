@@ -50,11 +50,13 @@ module _ (image : List ℕ) where
   unfoldable pub packedImage : List ℕ
   packedImage = tab (hfeByte image) hfeBytes
 
-  size : length packedImage ≡ 2008064
+  -- it has 2,008,064 bytes
+  pub size : length packedImage ≡ 2008064
   unfolding packedImage
   size = tab-length (hfeByte image) hfeBytes
 
-  byte : (k : ℕ) → k < 2008064 → getD packedImage k 0 ≡ hfeByte image k
+  -- each byte of it is that of the definition
+  pub byte : (k : ℕ) → k < 2008064 → getD packedImage k 0 ≡ hfeByte image k
   unfolding packedImage
   byte k h = tab-in (hfeByte image) hfeBytes k h
 
@@ -74,7 +76,8 @@ module _ (image : List ℕ) where
   unfolding lowFirst hfeHeaderByte hfeSignature hfeHeaderRest lowByte
   table-unit = rw (front 18 (lit< tt), front 19 (lit< tt))
 
-  header-sound : hfeHeaderFault packedImage ≡ Sound
+  -- its header is right
+  pub header-sound : hfeHeaderFault packedImage ≡ Sound
   unfolding hfeHeaderFault formatFault flagFault lowFirst hfeHeaderByte hfeSignature hfeHeaderRest lowByte
   header-sound =
       rw (
@@ -118,11 +121,13 @@ module _ (image : List ℕ) where
         let f : 512 + 4 * t + 2 + 1 ≡ 512 + 4 * t + 3 = omega arith in
         rw (e, f, in-table 2 (lit< tt), in-table 3 (lit< tt), table-2 (4 * t + 2) (omega arith) (omega arith), table-3 (4 * t + 3) (omega arith) (omega arith))
 
-    start : trackStart packedImage t ≡ 512 * (2 + 49 * t)
+    -- where each track begins in it
+    pub start : trackStart packedImage t ≡ 512 * (2 + 49 * t)
     unfolding trackStart
     start = rw (entry, offset)
 
-    track-long : trackLength packedImage t ≡ 25000
+    -- how long each track is in it
+    pub track-long : trackLength packedImage t ≡ 25000
     unfolding trackLength
     track-long = rw (entry, long)
 
@@ -136,7 +141,8 @@ module _ (image : List ℕ) where
         rw (entry, track-long, start, track-size, size)
         (rw (le-leb (512 + 4 * t + 4) 2008064 (omega arith), le-leb (512 * (2 + 49 * t) + 25088) 2008064 (omega arith)))
 
-  table-sound : tableFault packedImage ≡ Sound
+  -- its track table is right
+  pub table-sound : tableFault packedImage ≡ Sound
   unfolding tableFault
   table-sound = fault-none (λ (t : ℕ). not (trackGood packedImage t)) 80 (λ t h. rw (good t h))
 
@@ -185,7 +191,8 @@ module _ (image : List ℕ) where
   -- ---- the sectors
 
   module _ (small : (k : ℕ) → getD image k 0 < 256) where
-    data-long : (t s r : ℕ) → length (sectorData image t s r) ≡ sectorBytes
+    -- the data of each sector of a block image have 512 bytes
+    pub data-long : (t s r : ℕ) → length (sectorData image t s r) ≡ sectorBytes
     unfolding sectorData
     data-long t s r = window-length image _ sectorBytes
 
@@ -197,7 +204,8 @@ module _ (image : List ℕ) where
         let b : length (window image i sectorBytes) ≤ j = rw (window-length image i sectorBytes) l in
         rw (getD-past (window image i sectorBytes) j b) (lit< tt))
 
-    data-small : (t s r j : ℕ) → getD (sectorData image t s r) j 0 < 256
+    -- and each of them is below 256
+    pub data-small : (t s r j : ℕ) → getD (sectorData image t s r) j 0 < 256
     unfolding sectorData
     data-small t s r j = window-small _ j
 
@@ -205,7 +213,8 @@ module _ (image : List ℕ) where
       at-side : sideStream packedImage (m / 18) (m % 18 / 9) ≡ writtenSide (m / 18) (m % 18 / 9) (sectorData image (m / 18) (m % 18 / 9))
       at-side = stream-back (m / 18) (m % 18 / 9) (omega arith) (omega arith)
 
-      good-sector : isBad (sectorAt packedImage m) ≡ false
+      -- each sector of the written image is delivered
+      pub good-sector : isBad (sectorAt packedImage m) ≡ false
       unfolding sectorAt
       good-sector =
           rw (
@@ -214,7 +223,8 @@ module _ (image : List ℕ) where
                 (data-long _ _ _) (data-small _ _ _),
           )
 
-      sector-bytes : sectorBytesAt packedImage m ≡ window image (512 * m) 512
+      -- each sector of the written image gives its bytes of the block image
+      pub sector-bytes : sectorBytesAt packedImage m ≡ window image (512 * m) 512
       unfolding sectorBytesAt sectorAt sectorData
       sector-bytes =
           let e : imageSectorOf (trackOf m) (sideOf m) (rOf m) ≡ m = omega arith in
@@ -232,12 +242,16 @@ module _ (image : List ℕ) where
         let e : 512 * (k / 512) + k % 512 ≡ k = omega arith in
         rw (sector-bytes (k / 512) (omega arith)) (window-in image (512 * (k / 512)) 512 (k % 512) (omega arith) ∙ rw e)
 
+-- where both lengths are right, packing gives the written image
+pub packed-is : (image hfe : List ℕ) → length image ≡ imageBytes → length hfe ≡ hfeBytes → packHfe image hfe ≡ packedImage image
+unfolding packedImage
+packed-is image hfe li lh = hfe-after image hfe done (pack-done (length image) (length hfe) lh li)
+
 -- what packing gives is accepted by unpacking, and gives the image back
 pub round-trip : RoundTrip
-unfolding packedImage
 round-trip image hfe old li small lh lo =
     let p = pack-done (length image) (length hfe) lh li in
-    let x : packHfe image hfe ≡ packedImage image = hfe-after image hfe done p in
+    let x : packHfe image hfe ≡ packedImage image = packed-is image hfe li lh in
     let l : leastHfe ≤ length (packedImage image) = rw (size image) (omega arith) in
     let r : unpackReply (packedImage image) (length old) ≡ done =
     sound-reply (packedImage image) (length old) l lo (header-sound image) (table-sound image) ∙ sectors-done image small in (

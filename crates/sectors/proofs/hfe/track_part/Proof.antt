@@ -1,5 +1,5 @@
 -- `track_part` meets its contract: the units end within the image.
--- Rests on: the laws in Reading/Tables; the contracts of track_start and track_unit_bytes.
+-- Rests on: the laws in sector_rules::Base/Faults; the contracts of track_start and track_unit_bytes.
 -- Assumes nothing.
 use mathlib.Core.Path.{_≡_}
 use Prim.Native.Nat.{_+_, _-_, _≤_}
@@ -7,7 +7,7 @@ use native.Mathlib.Omega.{arith}
 use lib.ListN.{length}
 use borrow.Author.Needs.{needs}
 use Rattle.sector_rules.specs.Hfe.{trackPart, trackStart, trackUnitBytes}
-use Rattle.sectors.specs.Laws.Reading.Tables.{table-good, track-within}
+use Rattle.sector_rules.specs.Laws.Base.Faults.{table-good, track-within}
 use Rattle.sectors.proofs.hfe.track_part.Statement.{statement}
 use Rattle.sectors.proofs.hfe.track_part.Tie as tie
 
