@@ -1,14 +1,16 @@
 /*
  * QL double-density disks in HFE images.
  *
- * An HFE image (version 1) is read into a block image and written from one. On the block image a
- * disk is formatted and checked, and files are listed, read, added and removed.
+ * An HFE image (version 1) is read into a block image and written from one, and one sector of it can
+ * be rewritten. On the block image a disk is formatted and checked, and files are listed, read, added
+ * and removed.
  *
  * For every function:
  *
  * - It answers with a number and three places. Number 0 means done. Every other number is a
  *   refusal, which says what is wrong, with places that say where: see enum dheg_number. Tests run
- *   from number 1 upwards and the first that fails is the answer. A place that is not named is 0.
+ *   from number 1 upwards, only that dheg_rewrite has 12 right after 1, and the first that fails is
+ *   the answer. A place that is not named is 0.
  * - A refused call changes nothing: every lent byte is as it was.
  * - Any contents and any lengths may be passed; what cannot be done is refused.
  * - File names are equal if they have the same length and the same bytes, where a capital letter
@@ -44,6 +46,9 @@ extern "C" {
 /* Fewest bytes of an HFE image that is read. */
 #define DHEG_SHORTEST_HFE_LEN 1024
 
+/* Bytes of a sector. */
+#define DHEG_SECTOR_LEN 512
+
 /* Bytes of the first track of a block image. */
 #define DHEG_FIRST_TRACK_LEN 9216
 
@@ -70,8 +75,8 @@ enum dheg_number {
     DHEG_HFE_HEADER = 2,
     /* An entry of the track table is not good. `first` is the lowest such track. */
     DHEG_TRACK_TABLE = 3,
-    /* 4 to 7 name the first bad sector: `first` is the track, `second` the side, `third` the
-     * sector number R, 1 to 9. */
+    /* 4 to 7 name the first bad sector, or the one to rewrite: `first` is the track, `second` the
+     * side, `third` the sector number R, 1 to 9. */
     /* It has no header. */
     DHEG_NO_HEADER = 4,
     /* It has two or more headers. */
@@ -91,8 +96,8 @@ enum dheg_number {
     DHEG_DIRECTORY = 10,
     /* The free-sector word is not three times the free records. */
     DHEG_FREE_WORD = 11,
-    /* A file name has not 1 to 36 bytes, a disk name has over 10, or a block or sector number is
-     * out of range. */
+    /* A file name has not 1 to 36 bytes, a disk name has over 10, the data of a sector have not 512,
+     * or a block, track, side or sector number is out of range. */
     DHEG_ARGUMENT = 12,
     /* A file has the name to add, in this or another spelling. `first` is its slot. */
     DHEG_NAME_PRESENT = 13,
@@ -101,7 +106,10 @@ enum dheg_number {
     /* The file to add needs more blocks than are free. */
     DHEG_TOO_FEW_BLOCKS = 15,
     /* The result does not fit the lent buffer. `first` is the whole count of bytes needed. */
-    DHEG_BUFFER_TOO_SHORT = 16
+    DHEG_BUFFER_TOO_SHORT = 16,
+    /* With the sector rewritten the image would be misread: this sector would not give its new data,
+     * another would not give what it gave before, or the track table would be wrong. */
+    DHEG_MISREAD = 17
 };
 
 /* An answer. */
@@ -147,6 +155,32 @@ dheg_reply dheg_unpack(const uint8_t *hfe, size_t hfe_len, uint8_t *image, size_
  * may call at the same time on other memory.
  */
 dheg_reply dheg_pack(const uint8_t *image, size_t image_len, uint8_t *hfe, size_t hfe_len);
+
+/*
+ * Writes 512 bytes as the data of one sector of an HFE image of at least 1,024 bytes: track 0 to 79,
+ * side 0 or 1, `r` 1 to 9. In the sector's data field, after its mark, the cells of the data and of
+ * their CRC are written and, where two or more cells follow on the side, the clock cell after the
+ * CRC. Every other cell stays, so that gaps are kept. The CRC that the field had may be wrong, and
+ * dheg_unpack may refuse the image for other sectors.
+ *
+ * Done: this sector gives the data, and every other one what it gave before, bytes or refusal, even
+ * if it has some of the cells too; the places are 0. Refused: nothing is changed, and, in this order,
+ *
+ *   1      `first`: 1 `hfe` has under 1,024 bytes
+ *   12     `track` is over 79, `side` over 1, `r` is not 1 to 9 or `data` has not 512 bytes; no place
+ *          is named
+ *   2      `first`: offset of the lowest wrong field of the HFE header
+ *   3      `first`: lowest track whose table entry is not good
+ *   4..6   `first`, `second`, `third`: track, side and R of this sector; 4 no header, 5 two or more,
+ *          6 no data field
+ *   17     rewritten, this sector would not give the data, another one not what it gave, or the track
+ *          table would be wrong; no place is named
+ *
+ * `hfe` is read and written, `data` is only read. Both are used until the call returns; no state is
+ * kept, and other threads may call at the same time on other memory.
+ */
+dheg_reply dheg_rewrite(uint8_t *hfe, size_t hfe_len, size_t track, size_t side, size_t r,
+                        const uint8_t *data, size_t data_len);
 
 /*
  * Tells where a sector (0 to 2) of a block (0 to 479) stands.

@@ -4,6 +4,7 @@ ghost use mathlib.Core.Path.{_≡_};
 ghost use lib.ListN.{length};
 ghost use Rattle.sector_rules.specs.Geometry.{placeReply};
 ghost use Rattle.sector_rules.specs.Packed.{packReply, packHfe};
+ghost use Rattle.sector_rules.specs.Rewritten.{rewriteReply, rewriteHfe};
 ghost use Rattle.sector_rules.specs.Unpacked.{unpackReply, unpackImage};
 ghost use Rattle.file_rules.specs.Arguments.{argumentsOf};
 ghost use Rattle.file_rules.specs.Calls as Calls;
@@ -25,6 +26,20 @@ pub extern "C" fn dheg_pack(image: &[u8], hfe: &mut [u8]) -> Reply
     ensures { λ r. ⌜ (r ≡ packReply (length (now (image .entry))) (length (now (hfe .entry)))) × (now (hfe .exit) ≡ packHfe (now (image .entry)) (now (hfe .entry))) ⌝ }
 {
     sectors::pack(image, hfe)
+}
+
+// The call rewrite (§8.15).
+#[no_mangle]
+pub extern "C" fn dheg_rewrite(
+    hfe: &mut [u8],
+    track: usize,
+    side: usize,
+    r: usize,
+    content: &[u8],
+) -> Reply
+    ensures { λ x. ⌜ (x ≡ rewriteReply (now (hfe .entry)) track side r (now (content .entry))) × (now (hfe .exit) ≡ rewriteHfe (now (hfe .entry)) track side r (now (content .entry))) ⌝ }
+{
+    sectors::rewrite(hfe, track, side, r, content)
 }
 
 // The call place (§8.3).

@@ -1,11 +1,12 @@
 // The cells of a byte or a mark as it is written.
 ghost use mathlib.Core.Path.{_≡_};
-ghost use Prim.Native.Nat.{_<_, _≤_};
+ghost use Prim.Native.Nat.{ℕ, _<_, _≤_};
 ghost use mathlib.Core.Bool.{cond};
+ghost use lib.ListN.{getD};
 ghost use Rattle.cells.specs.Stream.{packed, packedBits};
 ghost use Rattle.cells.specs.Mfm.{bitOf, before, mfmCell};
 ghost use Rattle.cells.specs.Mfm as Mfm;
-ghost use Rattle.cells.specs.Written.{itemByte, leftOut, itemCell, itemWord};
+ghost use Rattle.cells.specs.Written.{itemByte, leftOut, itemCell, itemWord, bitBefore, writtenCell};
 use crate::Item;
 
 // Bit k of a byte, highest first (§3.3).
@@ -17,7 +18,7 @@ fn bit_of(x: u8, k: usize) -> u8
 }
 
 // The clock cell of the bit b that follows the bit a (§3.4).
-fn clock(a: u8, b: u8) -> u8
+pub fn clock(a: u8, b: u8) -> u8
     ensures { λ r. ⌜ r ≡ Mfm.clock a b ⌝ }
 {
     if (b == 0) & (a == 0) { 1 } else { 0 }
@@ -125,4 +126,29 @@ pub fn encode_byte(p: u8, x: u8) -> u16
     ensures { λ r. ⌜ r ≡ itemWord p (Item.Plain x) ⌝ }
 {
     encode_item(p, Item::Plain(x))
+}
+
+// Byte q of a row, 0 past its end.
+fn byte_in(row: &[u8], q: usize) -> u8
+    ensures { λ r. ⌜ r ≡ getD (now (row .entry)) q 0 ⌝ }
+{
+    if q < row.len() { row[q] } else { 0 }
+}
+
+// The bit before byte q of a row of plain bytes; before the first it is 0 (§3.4).
+pub fn row_bit_before(row: &[u8], q: usize) -> u8
+    ensures { λ r. ⌜ r ≡ bitBefore (λ (k : ℕ). Item.Plain (getD (now (row .entry)) k 0)) q ⌝ }
+{
+    if q == 0 {
+        return 0;
+    }
+    last_bit(Item::Plain(byte_in(row, q - 1)))
+}
+
+// Cell m of a row of plain bytes, 16 cells each (§3.3 §3.4).
+pub fn row_cell(row: &[u8], m: usize) -> u8
+    ensures { λ r. ⌜ r ≡ writtenCell (λ (k : ℕ). Item.Plain (getD (now (row .entry)) k 0)) m ⌝ }
+{
+    let q = m / 16;
+    item_cell(row_bit_before(row, q), Item::Plain(byte_in(row, q)), m % 16)
 }

@@ -8,6 +8,7 @@ use Prim.Native.Nat.{ℕ}
 use lib.ListN.{length}
 use Rattle.sector_rules.specs.declared.Reply.{Reply}
 use Rattle.sector_rules.specs.Packed.{packReply, packHfe}
+use Rattle.sector_rules.specs.Rewritten.{rewriteReply, rewriteHfe}
 use Rattle.sector_rules.specs.Unpacked.{unpackReply, unpackImage}
 use Rattle.file_rules.specs.Arguments.{FormatArguments}
 use Rattle.file_rules.specs.Calls.{format, list, read, add, remove}
@@ -20,6 +21,7 @@ Refuses r = r .number ≢ 0
 pub record RefusalsKeep : Type 0 where
   pub unpack-keeps : (hfe image : List ℕ) → Refuses (unpackReply hfe (length image)) → unpackImage hfe image ≡ image
   pub pack-keeps : (image hfe : List ℕ) → Refuses (packReply (length image) (length hfe)) → packHfe image hfe ≡ hfe
+  pub rewrite-keeps : (hfe : List ℕ) (t s r : ℕ) (content : List ℕ) → Refuses (rewriteReply hfe t s r content) → rewriteHfe hfe t s r content ≡ hfe
   pub format-keeps : (image : List ℕ) (args : FormatArguments) → Refuses (format image args .answer) → format image args .image ≡ image
   pub list-keeps : (image buffer : List ℕ) → Refuses (list image buffer .answer) → list image buffer .buffer ≡ buffer
   pub read-keeps : (image name buffer : List ℕ) → Refuses (read image name buffer .answer) → read image name buffer .buffer ≡ buffer

@@ -4,4 +4,5 @@ pub mod Base
 pub mod Trip
 pub mod Damage
 pub mod Burst
+pub mod Rewrite
 pub mod Values

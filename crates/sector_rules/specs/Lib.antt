@@ -1,4 +1,4 @@
--- The definitions: replies, faults and the disk kind, the sector rules, the HFE image, unpacking and packing;
+-- The definitions: replies, faults and the disk kind, the sector rules, the HFE image, unpacking, packing and rewriting;
 -- then what is promised of them alone; then their laws.
 pub mod Replies
 pub mod Faults
@@ -7,7 +7,9 @@ pub mod Search
 pub mod Hfe
 pub mod Unpacked
 pub mod Packed
+pub mod Rewritten
 pub mod RoundTrip
+pub mod Rewriting
 pub mod Damage
 pub mod Values
 pub mod HeaderValues

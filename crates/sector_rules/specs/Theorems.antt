@@ -13,6 +13,18 @@ pub use Rattle.sector_rules.specs.Laws.Values.HeaderValues.{hfe-header-v
 pub use Rattle.sector_rules.specs.Laws.Values.WrittenValues.{written-values}
 -- reply-values: the lengths that 1 refuses, what 3 judges of a track table, the numbers 4 to 7, each with its places; the limits of the placement call
 pub use Rattle.sector_rules.specs.Laws.Values.ReplyValues.{reply-values}
+-- ---- rewriting one sector (Rewriting.antt)
+
+-- rewrite-reads: where rewrite answers 0, header and table of the result are right, this sector gives the data and every other sector what it gave; the cells
+-- of data and CRC are those of MFM, and of the other cells and bytes only the clock cell after the CRC may be another
+pub use Rattle.sector_rules.specs.Laws.Rewrite.Reads.{rewrite-reads}
+-- rewrite-packs: on a packed image every rewrite with right arguments is done, and gives what pack writes for the block image with that sector
+-- replaced
+pub use Rattle.sector_rules.specs.Laws.Rewrite.Packs.{rewrite-packs}
+-- rewrite-replies: the replies of rewrite in their order, with numbers and places; the limits of its arguments
+pub use Rattle.sector_rules.specs.Laws.Rewrite.Replies.{rewrite-replies}
+-- side-untouched: a side with the same table entry and the same bytes in two images has the same cells in both
+pub use Rattle.sector_rules.specs.Laws.Rewrite.Untouched.{side-untouched}
 -- ---- damage (Caught.antt)
 
 -- crc-counted: the test of a header's or field's CRC is, on its data bits, the test that one-in-65536 counts; field-longest: a data field has as many of them

@@ -3,3 +3,4 @@
 pub mod Reading
 pub mod Unpacking
 pub mod Packing
+pub mod Rewriting

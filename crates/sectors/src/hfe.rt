@@ -54,7 +54,7 @@ pub fn hfe_header_fault(hfe: &[u8]) -> Fault
 }
 
 // Where the four bytes of the entry of a track begin (§2.4).
-fn entry_place(hfe: &[u8], t: usize) -> usize
+pub fn entry_place(hfe: &[u8], t: usize) -> usize
     requires { ⌜ t < 2 ^ 16 ⌝ }
     ensures { λ r. ⌜ (r ≡ entryPlace (now (hfe .entry)) t) × (r < 2 ^ 26) ⌝ }
 {

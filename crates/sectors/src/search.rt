@@ -3,9 +3,11 @@ ghost use mathlib.Core.Path.{_≡_};
 ghost use Prim.Native.Nat.{_+_, _<_, _^_};
 ghost use Rattle.cells.specs.Stream.{stream, from};
 ghost use Rattle.sector_rules.specs.Search.{crcHolds, headerOf, fieldAt, fieldOf, sectorFound};
+ghost use Rattle.sector_rules.specs.Rewritten.{fieldPlace, dataPlaceOf};
 ghost use Rattle.sector_rules.specs.Laws.Base.Search.{moreFound};
 ghost use Rattle.sectors.specs.Laws.Reading.Search.{Indexed, Scanned};
 use crate::Geometry;
+use crate::SectorField;
 use cells::Side;
 use sector_rules::Found;
 use sector_rules::Header;
@@ -134,28 +136,52 @@ fn field_at(part: &[u8], side: Side, j: usize) -> Sector
     Sector::NoField
 }
 
-// The field of the header at place i: at the first run after it, and at no later one (§4.4).
-fn field_of(part: &[u8], side: Side, i: usize) -> Sector
-    ensures { λ r. ⌜ r ≡ fieldOf (stream (now (part .entry)) side) i ⌝ }
+// The place of the first run at the end of the header at place i, or at most 688 cells after it; 0 for none (§4.4).
+fn field_place(part: &[u8], side: Side, i: usize) -> usize
+    ensures { λ r. ⌜ (r ≡ fieldPlace (stream (now (part .entry)) side) i) × (r < 2 ^ 33) ⌝ }
 {
     if side.cells as usize <= i {
-        return Sector::NoField;
+        return 0;
     }
     for k in 0..GAP_CELLS + 1 {
         if cells::three_sync(part, side, i + HEADER_CELLS + k) {
-            return field_at(part, side, i + HEADER_CELLS + k);
+            return i + HEADER_CELLS + k;
         }
     }
-    Sector::NoField
+    0
 }
 
-// What a sector gives, by the search's answer (§4.6).
-pub fn sector_found(part: &[u8], side: Side, found: Found) -> Sector
-    ensures { λ r. ⌜ r ≡ sectorFound (stream (now (part .entry)) side) found ⌝ }
+// What the header at place i gives by its field, which is at the first run after it and at no later one (§4.4), and the
+// cell place of the data, 64 cells after that run begins (§8.16).
+fn field_of(part: &[u8], side: Side, i: usize) -> SectorField
+    ensures { λ r. ⌜ (r .sector ≡ fieldOf (stream (now (part .entry)) side) i) × (r .place ≡ fieldPlace (stream (now (part .entry)) side) i + 64) ⌝ }
+{
+    let j = field_place(part, side, i);
+    if j == 0 {
+        return SectorField {
+            sector: Sector::NoField,
+            place: 64,
+        };
+    }
+    SectorField {
+        sector: field_at(part, side, j),
+        place: j + 64,
+    }
+}
+
+// What a sector gives, by the search's answer (§4.6), and the cell place of its data (§8.16).
+pub fn sector_found(part: &[u8], side: Side, found: Found) -> SectorField
+    ensures { λ r. ⌜ (r .sector ≡ sectorFound (stream (now (part .entry)) side) found) × (r .place ≡ dataPlaceOf (stream (now (part .entry)) side) found) ⌝ }
 {
     match found {
         Found::One(i) => field_of(part, side, i),
-        Found::Nothing => Sector::Missing,
-        Found::Several => Sector::Repeated,
+        Found::Nothing => SectorField {
+            sector: Sector::Missing,
+            place: 0,
+        },
+        Found::Several => SectorField {
+            sector: Sector::Repeated,
+            place: 0,
+        },
     }
 }

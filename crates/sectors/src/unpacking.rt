@@ -23,7 +23,7 @@ use sector_rules::Reply;
 use sector_rules::Sector;
 
 // An HFE image that is read has at least this many bytes (§7.1).
-const LEAST_HFE: usize = 1024;
+pub const LEAST_HFE: usize = 1024;
 
 // Whether a sector is bad: its reply is a refusal (§7.18).
 fn is_bad(sector: Sector) -> bool
@@ -39,7 +39,7 @@ fn is_bad(sector: Sector) -> bool
 }
 
 // The place of a sector's bytes, 0 where it has none.
-fn place_of(sector: Sector) -> usize
+pub fn place_of(sector: Sector) -> usize
     ensures { λ r. ⌜ r ≡ placeOf sector ⌝ }
 {
     match sector {
@@ -65,7 +65,7 @@ fn at_sector(number: usize, m: usize) -> Reply
 }
 
 // The reply for what sector m gives: 4, 5, 6 or 7, or done (§7.4 §7.5 §7.6 §7.7).
-fn sector_reply(m: usize, sector: Sector) -> Reply
+pub fn sector_reply(m: usize, sector: Sector) -> Reply
     requires { ⌜ m < allSectors ⌝ }
     ensures { λ r. ⌜ r ≡ sectorReply m sector ⌝ }
 {
@@ -84,7 +84,8 @@ fn judge_side(hfe: &[u8], n: usize, places: &mut [usize]) -> Reply
     requires { ⌜ (tableFault (now hfe) ≡ Fault.Sound) × (n < tracks * sides) × (length (now places) ≡ allSectors) × Noted (now hfe) (now places) (sectors * n) ⌝ }
     ensures { λ r. ⌜ SectorsJudged (now (hfe .entry)) (now (places .exit)) (sectors * (n + 1)) r ⌝ }
 {
-    let gives = image_side(hfe, n);
+    let mut data_places = [0usize; Geometry::SECTORS];
+    let gives = image_side(hfe, n, &mut data_places);
     for k in 0..Geometry::SECTORS {
         let sector = gives[k];
         let m = Geometry::SECTORS * n + k;

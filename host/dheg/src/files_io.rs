@@ -5,7 +5,7 @@ use std::fs::{self, File, OpenOptions, Permissions};
 use std::io::{self, Read, Write};
 use std::path::{Path, PathBuf};
 
-use dhegluubin::IMAGE_LEN;
+use dhegluubin::{IMAGE_LEN, SECTOR_LEN};
 
 use crate::failure::Failure;
 
@@ -16,12 +16,31 @@ const HFE_LIMIT: usize = 65_536 * 512 + 65_536;
 /// A byte more than fits a disk, which is refused as anything longer is.
 const DISK_LIMIT: usize = IMAGE_LEN + 1;
 
+/// The same for a sector.
+const SECTOR_LIMIT: usize = SECTOR_LEN + 1;
+
 /// Temporary names that are tried before it is given up.
 const TRIES: u32 = 100;
 
 /// The bytes of an HFE image, as many as matter.
 pub fn read_hfe(path: &OsStr) -> Result<Vec<u8>, Failure> {
     read(path, HFE_LIMIT)
+}
+
+/// All bytes of an HFE image that is to be written again, also those that
+/// nothing looks at. A device or a pipe may be endless: of these no more is
+/// taken than matters.
+pub fn read_whole_hfe(path: &OsStr) -> Result<Vec<u8>, Failure> {
+    let at = Path::new(path);
+    let about = fs::metadata(at).map_err(|error| Failure::io(at, error))?;
+    if about.is_file() {
+        return fs::read(at).map_err(|error| Failure::io(at, error));
+    }
+    let bytes = read(path, HFE_LIMIT + 1)?;
+    match bytes.len() > HFE_LIMIT {
+        true => Err(Failure::io(at, io::Error::other("does not end"))),
+        false => Ok(bytes),
+    }
 }
 
 /// The bytes of a block image, as many as matter.
@@ -32,6 +51,11 @@ pub fn read_image(path: &OsStr) -> Result<Vec<u8>, Failure> {
 /// The bytes of a file that is to be added, as many as matter.
 pub fn read_data(path: &OsStr) -> Result<Vec<u8>, Failure> {
     read(path, DISK_LIMIT)
+}
+
+/// The bytes of a file that is to be a sector, as many as matter.
+pub fn read_sector(path: &OsStr) -> Result<Vec<u8>, Failure> {
+    read(path, SECTOR_LIMIT)
 }
 
 /// Reads at most so many bytes, so that an endless file does not fill the

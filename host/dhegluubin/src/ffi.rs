@@ -39,6 +39,15 @@ struct CFirstTrack {
 extern "C" {
     fn dheg_unpack(hfe: *const u8, hfe_len: usize, image: *mut u8, image_len: usize) -> CReply;
     fn dheg_pack(image: *const u8, image_len: usize, hfe: *mut u8, hfe_len: usize) -> CReply;
+    fn dheg_rewrite(
+        hfe: *mut u8,
+        hfe_len: usize,
+        track: usize,
+        side: usize,
+        r: usize,
+        data: *const u8,
+        data_len: usize,
+    ) -> CReply;
     fn dheg_place(block: usize, sector: usize) -> CReply;
     fn dheg_format(
         image: *mut u8,
@@ -82,6 +91,25 @@ pub fn pack(image: &[u8], hfe: &mut [u8]) -> Reply {
     // SAFETY: each pointer comes with the length of its own slice, `hfe` is
     // lent for writing and so overlaps nothing, both live for the call.
     unsafe { dheg_pack(image.as_ptr(), image.len(), hfe.as_mut_ptr(), hfe.len()) }.into()
+}
+
+/// [`rewrite`](crate::rewrite), with the reply as it is given.
+pub fn rewrite(hfe: &mut [u8], track: usize, side: usize, r: usize, data: &[u8]) -> Reply {
+    // SAFETY: each pointer comes with the length of its own slice, `hfe` is
+    // lent for reading and writing and so overlaps nothing, both live for
+    // the call; any numbers may be passed.
+    unsafe {
+        dheg_rewrite(
+            hfe.as_mut_ptr(),
+            hfe.len(),
+            track,
+            side,
+            r,
+            data.as_ptr(),
+            data.len(),
+        )
+    }
+    .into()
 }
 
 /// [`place`](crate::place), with the reply as it is given.

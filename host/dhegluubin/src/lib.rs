@@ -2,7 +2,7 @@
 //! library.
 //!
 //! - [`unpack`] reads an HFE image of version 1 into a block image, and
-//!   [`pack`] writes one.
+//!   [`pack`] writes one; [`rewrite`] changes one sector in it.
 //! - [`format()`], [`check`], [`list`], [`read`], [`add`] and [`remove`] work on
 //!   a block image and the files in it.
 //! - [`first_track`] judges the first track alone, and [`place`] tells where a
@@ -66,7 +66,7 @@ pub use files::{
 };
 pub use refusal::Refusal;
 pub use reply::{FirstTrack, Lent, Reply};
-pub use sectors::{pack, place, unpack, HFE_LEN, IMAGE_LEN, SHORTEST_HFE_LEN};
+pub use sectors::{pack, place, rewrite, unpack, HFE_LEN, IMAGE_LEN, SECTOR_LEN, SHORTEST_HFE_LEN};
 
 /// The same calls with the answer as the library gives it, a number and three
 /// places.
@@ -77,6 +77,6 @@ pub use sectors::{pack, place, unpack, HFE_LEN, IMAGE_LEN, SHORTEST_HFE_LEN};
 /// ```
 pub mod raw {
     pub use crate::ffi::{
-        add, check, first_track, format, list, pack, place, read, remove, unpack,
+        add, check, first_track, format, list, pack, place, read, remove, rewrite, unpack,
     };
 }

@@ -92,8 +92,9 @@ pub enum Refusal {
     },
     /// 11: the free-sector word does not fit the map.
     FreeWord,
-    /// 12: a file name has not 1 to 36 bytes, a disk name has over 10, or a
-    /// block or sector number is out of range.
+    /// 12: a file name has not 1 to 36 bytes, a disk name has over 10, the data
+    /// of a sector have not 512, or a block, track, side or sector number is
+    /// out of range.
     Argument,
     /// 13: a file of the name to add is present, in this or another spelling.
     NamePresent {
@@ -109,6 +110,9 @@ pub enum Refusal {
         /// Bytes of the whole result.
         needed: usize,
     },
+    /// 17: with the sector rewritten the image would be misread, for it shares
+    /// cells with other sectors or with the track table.
+    Misread,
     /// An answer that this binding has no name for. The library that it was
     /// written for gives none.
     Unknown {
@@ -146,6 +150,7 @@ impl Refusal {
             14 => Refusal::NoSuchName,
             15 => Refusal::TooFewBlocks,
             16 => Refusal::BufferTooShort { needed: first },
+            17 => Refusal::Misread,
             _ => return None,
         };
         Some(refusal)
@@ -177,7 +182,7 @@ impl Refusal {
         }
     }
 
-    /// The number, 1 to 16 unless it is unknown.
+    /// The number, 1 to 17 unless it is unknown.
     pub const fn number(self) -> usize {
         self.reply().number
     }
@@ -217,6 +222,7 @@ impl Refusal {
             Refusal::NoSuchName => Reply::new([14, 0, 0, 0]),
             Refusal::TooFewBlocks => Reply::new([15, 0, 0, 0]),
             Refusal::BufferTooShort { needed } => Reply::new([16, needed, 0, 0]),
+            Refusal::Misread => Reply::new([17, 0, 0, 0]),
             Refusal::Unknown { reply } => reply,
         }
     }
@@ -238,11 +244,12 @@ impl Refusal {
             Refusal::MapRecord { .. } => "map record wrong",
             Refusal::Directory { .. } => "directory not sound",
             Refusal::FreeWord => "free-sector word does not fit the map",
-            Refusal::Argument => "name, block or sector out of range",
+            Refusal::Argument => "name, block, sector or data out of range",
             Refusal::NamePresent { .. } => "name already present",
             Refusal::NoSuchName => "no file of this name",
             Refusal::TooFewBlocks => "too few free blocks",
             Refusal::BufferTooShort { .. } => "buffer too short",
+            Refusal::Misread => "rewritten, the image would be misread",
             Refusal::Unknown { .. } => "unknown answer",
         }
     }
@@ -272,7 +279,8 @@ impl fmt::Display for Refusal {
             | Refusal::FreeWord
             | Refusal::Argument
             | Refusal::NoSuchName
-            | Refusal::TooFewBlocks => Ok(()),
+            | Refusal::TooFewBlocks
+            | Refusal::Misread => Ok(()),
         }
     }
 }
@@ -288,7 +296,7 @@ mod tests {
     }
 
     /// An answer of each number, in words.
-    const IN_WORDS: [([usize; 4], &str); 18] = [
+    const IN_WORDS: [([usize; 4], &str); 19] = [
         ([1, 1, 0, 0], "refused 1: HFE image of a wrong length"),
         (
             [1, 2, 0, 0],
@@ -321,7 +329,7 @@ mod tests {
         ),
         (
             [12, 0, 0, 0],
-            "refused 12: name, block or sector out of range",
+            "refused 12: name, block, sector or data out of range",
         ),
         ([13, 5, 0, 0], "refused 13: name already present in slot 5"),
         ([14, 0, 0, 0], "refused 14: no file of this name"),
@@ -331,8 +339,12 @@ mod tests {
             "refused 16: buffer too short, 1500 bytes needed",
         ),
         (
-            [17, 1, 2, 3],
-            "refused 17: unknown answer with places 1, 2, 3",
+            [17, 0, 0, 0],
+            "refused 17: rewritten, the image would be misread",
+        ),
+        (
+            [18, 1, 2, 3],
+            "refused 18: unknown answer with places 1, 2, 3",
         ),
     ];
 

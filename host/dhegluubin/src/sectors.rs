@@ -12,6 +12,9 @@ pub const HFE_LEN: usize = 2_008_064;
 /// Fewest bytes of an HFE image that is read.
 pub const SHORTEST_HFE_LEN: usize = 1024;
 
+/// Bytes of a sector.
+pub const SECTOR_LEN: usize = 512;
+
 /// Reads an HFE image into a block image of [`IMAGE_LEN`] bytes: its sectors
 /// by track, side and sector number.
 ///
@@ -65,6 +68,49 @@ pub fn unpack(hfe: &[u8], image: &mut [u8]) -> Result<(), Refusal> {
 /// ```
 pub fn pack(image: &[u8], hfe: &mut [u8]) -> Result<(), Refusal> {
     ffi::pack(image, hfe).result().map(|_| ())
+}
+
+/// Writes [`SECTOR_LEN`] bytes as the data of one sector of an HFE image:
+/// track 0 to 79, side 0 or 1, `r` 1 to 9.
+///
+/// The data and their CRC are written in the sector's data field, and with
+/// them the clock cell after the CRC, where the side has two cells more; all
+/// other cells stay, so that gaps are kept. The sector then gives the data, and
+/// every other one what it gave before, bytes or refusal, even if it has some
+/// of the cells too. The CRC that the field had may be wrong, and [`unpack`]
+/// may refuse the image for other sectors.
+///
+/// Refused with 1, 12, 2, 3, 4 to 6, 17, in this order:
+/// [`Length`](Refusal::Length), [`Argument`](Refusal::Argument),
+/// [`HfeHeader`](Refusal::HfeHeader), [`TrackTable`](Refusal::TrackTable),
+/// [`NoHeader`](Refusal::NoHeader),
+/// [`SeveralHeaders`](Refusal::SeveralHeaders),
+/// [`NoDataField`](Refusal::NoDataField), [`Misread`](Refusal::Misread).
+///
+/// ```
+/// use dhegluubin::{pack, rewrite, unpack, Refusal, HFE_LEN, IMAGE_LEN, SECTOR_LEN};
+///
+/// let mut hfe = vec![0; HFE_LEN];
+/// pack(&vec![0; IMAGE_LEN], &mut hfe)?;
+/// let data = [0x51; SECTOR_LEN];
+/// rewrite(&mut hfe, 0, 1, 3, &data)?;
+///
+/// let mut image = vec![0; IMAGE_LEN];
+/// unpack(&hfe, &mut image)?;
+/// // Side 1 of track 0 has the image sectors from 9 on.
+/// let start = SECTOR_LEN * (9 + 2);
+/// assert_eq!(image[start..start + SECTOR_LEN], data);
+/// assert_eq!(rewrite(&mut hfe, 0, 2, 3, &data), Err(Refusal::Argument));
+/// # Ok::<(), Refusal>(())
+/// ```
+pub fn rewrite(
+    hfe: &mut [u8],
+    track: usize,
+    side: usize,
+    r: usize,
+    data: &[u8],
+) -> Result<(), Refusal> {
+    ffi::rewrite(hfe, track, side, r, data).result().map(|_| ())
 }
 
 /// The image sector where a sector of a block stands, counted in 512 bytes

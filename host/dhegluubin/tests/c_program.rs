@@ -84,7 +84,7 @@ fn stack() {
         let used = stack_of(&text, name);
         assert!((1..40_000).contains(&used), "{name} uses {used} bytes");
     }
-    assert_eq!(text.lines().count(), 10, "{text}");
+    assert_eq!(text.lines().count(), 11, "{text}");
 }
 
 /// Runs the readme's example on these bytes.

@@ -7,7 +7,8 @@
 //!
 //! - Cell layer: `cells`, `mfm`, `crc`, `header`, `field`, `sector`,
 //!   `written`.
-//! - Sector layer: `geometry`, `hfe`, `track_table`, `unpack`, `pack`.
+//! - Sector layer: `geometry`, `hfe`, `track_table`, `unpack`, `pack`,
+//!   `rewrite`.
 //! - File layer: `layout`, `disk`, `disk_header`, `map`, `directory`, `names`,
 //!   `sound`, `volume`, `buffer`, and a file for each call.
 //! - Beside it: `model`, which gives the answers of a whole history without
@@ -40,6 +41,7 @@ pub mod pack;
 pub mod read;
 pub mod remove;
 pub mod reply;
+pub mod rewrite;
 pub mod sector;
 pub mod sound;
 pub mod track_table;
@@ -57,4 +59,5 @@ pub use pack::pack;
 pub use read::read;
 pub use remove::remove;
 pub use reply::Reply;
+pub use rewrite::rewrite;
 pub use unpack::unpack;

@@ -68,7 +68,8 @@ pub enum Refusal {
     Directory(usize),
     /// The free word is not that of the map (§7.11).
     FreeWord,
-    /// Block, sector or length of a name out of range (§7.12).
+    /// A number or a length out of range: block, sector, track, side, R, a
+    /// name's bytes or a sector's (§7.12).
     Argument,
     /// The name to add is that of this slot (§7.13).
     NamePresent(usize),
@@ -78,6 +79,8 @@ pub enum Refusal {
     TooFewBlocks,
     /// The lent buffer is shorter than these bytes (§7.16).
     BufferTooShort(usize),
+    /// With the sector rewritten the image would be misread (§7.24).
+    Misread,
 }
 
 impl Refusal {
@@ -101,6 +104,7 @@ impl Refusal {
             Refusal::NoSuchName => Reply::new(14, [0; 3]),
             Refusal::TooFewBlocks => Reply::new(15, [0; 3]),
             Refusal::BufferTooShort(needed) => Reply::new(16, [needed, 0, 0]),
+            Refusal::Misread => Reply::new(17, [0; 3]),
         }
     }
 }

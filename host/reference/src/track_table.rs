@@ -1,6 +1,6 @@
 //! The track table of an HFE image.
 
-use crate::cells::UNIT_LEN;
+use crate::cells::{side_cells, UNIT_LEN};
 use crate::geometry::TRACKS;
 use crate::hfe::{table_start, word_at};
 use crate::reply::Refusal;
@@ -21,6 +21,11 @@ impl Track {
     /// Where the last unit of the track ends: its part is its units (§2.6).
     pub fn end(&self) -> usize {
         self.start + UNIT_LEN * self.len.div_ceil(UNIT_LEN)
+    }
+
+    /// The cells of a side of the track, in the image whose table has it (§2.6).
+    pub fn side_cells(&self, hfe: &[u8], side: usize) -> Vec<u8> {
+        side_cells(&hfe[self.start..self.end()], self.len, side)
     }
 }
 

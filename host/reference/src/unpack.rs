@@ -1,11 +1,10 @@
 //! From an HFE image to the block image.
 
-use crate::cells::side_cells;
 use crate::geometry::{IMAGE_LEN, SIDES};
-use crate::header::{all_headers, search, SectorId, SECTORS_PER_SIDE};
+use crate::header::SectorId;
 use crate::hfe::{judge_header, SHORTEST};
 use crate::reply::{Lent, Refusal, Reply};
-use crate::sector::sector_after;
+use crate::sector::side_sectors;
 use crate::track_table::judge_table;
 
 /// Writes the sectors of the HFE image into the block image (§8.1), by track,
@@ -35,9 +34,8 @@ fn read_disk(hfe: &[u8], image_len: usize) -> Result<Vec<u8>, Refusal> {
     let tracks = judge_table(hfe)?;
     let mut sectors = Vec::new();
     for (number, track) in tracks.iter().enumerate() {
-        let part = &hfe[track.start..track.end()];
         for side in 0..SIDES {
-            let cells = side_cells(part, track.len, side);
+            let cells = track.side_cells(hfe, side);
             sectors.extend(read_side(&cells, number as u8, side as u8)?);
         }
     }
@@ -47,12 +45,10 @@ fn read_disk(hfe: &[u8], image_len: usize) -> Result<Vec<u8>, Refusal> {
 /// The nine sectors of a side in order of R, or the first one's refusal, 4 to 7
 /// (§7.18), each judged alone (§4.6).
 fn read_side(cells: &[u8], track: u8, side: u8) -> Result<Vec<u8>, Refusal> {
-    let headers = all_headers(cells);
     let mut sectors = Vec::new();
-    for r in 1..=SECTORS_PER_SIDE {
+    for (r, given) in (1..).zip(side_sectors(cells, track, side)) {
         let id = SectorId { track, side, r };
-        let data = sector_after(cells, search(&headers, id));
-        sectors.extend(data.map_err(|number| Refusal::Sector(number, id))?);
+        sectors.extend(given.map_err(|number| Refusal::Sector(number, id))?);
     }
     Ok(sectors)
 }

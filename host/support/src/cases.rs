@@ -156,6 +156,18 @@ mod tests {
         more.run(0, 1, |_| ());
     }
 
+    /// A line of a request that is not in is not run.
+    #[test]
+    #[should_panic(expected = "is below the request")]
+    fn no_line_above_the_level() {
+        let requested = Requested {
+            lines: "{\"level\": 99, \"holds_until\": null, \"case\": 1, \"answer\": 2, \
+                    \"later\": []}\n",
+            count: 1,
+        };
+        requested.run(0, 1, |_, _| panic!("run"));
+    }
+
     /// From a level on a line of this file has other answers, and what it asks
     /// stays; the other lines are as they were.
     #[test]

@@ -7,6 +7,7 @@ mod get;
 mod ls;
 mod pack;
 mod place;
+mod poke;
 mod put;
 mod rm;
 mod several;
@@ -35,10 +36,11 @@ pub struct Command {
 }
 
 /// In the order in which the overview shows them.
-const ALL: [&Command; 10] = [
+const ALL: [&Command; 11] = [
     &unpack::COMMAND,
     &pack::COMMAND,
     &edit::COMMAND,
+    &poke::COMMAND,
     &format::COMMAND,
     &check::COMMAND,
     &ls::COMMAND,

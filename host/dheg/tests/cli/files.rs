@@ -159,13 +159,13 @@ fn put_refused() {
     bench.fails(
         &format!("put disk.img {long} data"),
         1,
-        &format!("disk.img: {long}: refused 12: name, block or sector out of range"),
+        &format!("disk.img: {long}: refused 12: name, block, sector or data out of range"),
     );
     assert_eq!(
         bench.dheg(["put", "disk.img", "", "data"]),
         Ended::failed(
             1,
-            "disk.img: : refused 12: name, block or sector out of range"
+            "disk.img: : refused 12: name, block, sector or data out of range"
         )
     );
 }

@@ -2,8 +2,8 @@
 
 use crate::bench::{Bench, Ended};
 
-const COMMANDS: [&str; 10] = [
-    "unpack", "pack", "edit", "format", "check", "ls", "get", "put", "rm", "place",
+const COMMANDS: [&str; 11] = [
+    "unpack", "pack", "edit", "poke", "format", "check", "ls", "get", "put", "rm", "place",
 ];
 
 #[test]
@@ -60,13 +60,14 @@ fn examples_work() {
     ] {
         bench.write(name, text.as_bytes());
     }
+    bench.write("sector.bin", &[0x51; 512]);
     bench.quiet("format games.img");
     bench.quiet("put games.img boot letter.txt");
     bench.quiet("pack games.img old.hfe");
     for command in ["format", "put", "get", "ls", "rm", "check", "pack"] {
         run_example(&bench, command);
     }
-    for command in ["unpack", "edit", "place"] {
+    for command in ["unpack", "edit", "poke", "place"] {
         run_example(&bench, command);
     }
 }

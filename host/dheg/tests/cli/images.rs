@@ -101,7 +101,7 @@ fn place() {
             &format!("place {block} {sector}"),
             1,
             &format!(
-                "block {block}, sector {sector}: refused 12: name, block or sector out of range"
+                "block {block}, sector {sector}: refused 12: name, block, sector or data out of range"
             ),
         );
     }
@@ -134,7 +134,7 @@ fn format_refused() {
     bench.fails(
         "format new.img --name elevenbytes",
         1,
-        "new.img: refused 12: name, block or sector out of range",
+        "new.img: refused 12: name, block, sector or data out of range",
     );
 }
 

@@ -6,6 +6,7 @@ mod files;
 mod help;
 mod images;
 mod interchange;
+mod poke;
 mod progress;
 mod readme;
 mod several;

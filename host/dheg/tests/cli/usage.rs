@@ -47,6 +47,8 @@ fn counts_of_words() {
         ("rm disk.img", "words needed: 2, given: 1"),
         ("rm disk.img a b", "words needed: 2, given: 3"),
         ("edit a -- rm b", "words needed: 2, given: 1"),
+        ("poke a b 0 0 1", "words needed: 6, given: 5"),
+        ("poke a b 0 0 1 c d", "words needed: 6, given: 7"),
     ] {
         wrong(&bench, line, words);
     }
@@ -64,6 +66,10 @@ fn options_and_values() {
         ("format a --number -1", "-1 is not a number"),
         ("format a --force --force", "--force is given twice"),
         ("place one 2", "one is not a number"),
+        ("poke a b one 0 1 data", "one is not a number"),
+        ("poke a b 0 0x1 1 data", "0x1 is not a number"),
+        ("poke a b 0 0 1, data", "1, is not a number"),
+        ("poke a b 0 -1 1 data", "there is no option -1"),
         (
             "put disk.img a data --date now --date 1",
             "--date is given twice",

@@ -7,6 +7,7 @@ const MISSING: &str = "No such file or directory (os error 2)";
 #[test]
 fn folder_that_does_not_exist() {
     let bench = Bench::with_file();
+    bench.write("sector", &[1; 512]);
     for line in [
         "unpack disk.hfe none/out",
         "pack disk.img none/out",
@@ -14,6 +15,7 @@ fn folder_that_does_not_exist() {
         "format none/out --force",
         "get disk.img one none/out",
         "edit disk.hfe none/out -- rm one",
+        "poke disk.hfe none/out 0 0 1 sector",
     ] {
         bench.fails(line, 3, &format!("none/out: {MISSING}"));
     }
@@ -31,6 +33,8 @@ fn inputs_that_do_not_exist() {
         "put none one data",
         "put disk.img two none",
         "rm none one",
+        "poke none out 0 0 1 data",
+        "poke disk.hfe out 0 0 1 none",
     ] {
         bench.fails(line, 3, &format!("none: {MISSING}"));
     }

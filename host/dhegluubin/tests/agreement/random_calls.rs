@@ -6,6 +6,7 @@
 use crate::file_layer::both as files;
 use crate::sector_layer::both as sectors;
 use crate::sector_layer::build::{empty_tracks, packed, sides, track_0};
+use crate::sector_layer::rewrites::{self, Call};
 use dhegluubin::{FIRST_TRACK_LEN, HFE_LEN, IMAGE_LEN};
 use std::collections::BTreeMap;
 use support::cases::cases;
@@ -15,9 +16,10 @@ use support::noise::{noise, Generator};
 const USUAL: u32 = 1500;
 
 /// All that are made.
-const CALLS: [&str; 10] = [
+const CALLS: [&str; 11] = [
     "unpack",
     "pack",
+    "rewrite",
     "place",
     "format",
     "check",
@@ -155,6 +157,45 @@ fn pack(generator: &mut Generator) -> Made {
     ("pack", reply[0])
 }
 
+/// A rewrite, most often of a sector of an image whose sectors share cells.
+/// Numbers out of range and data of another length come now and then.
+fn rewrite(generator: &mut Generator, track: &[Vec<u8>; 2]) -> Made {
+    let (hfe, mut call) = match generator.below(4) {
+        0 => {
+            let call = Call {
+                track: 0,
+                side: generator.below(2),
+                r: generator.below(10),
+                data: vec![generator.byte(); 512],
+            };
+            (random_hfe(generator, track), call)
+        }
+        _ => {
+            let hfe = rewrites::random_image(generator);
+            let call = Call::random(generator, &hfe, 3);
+            (hfe, call)
+        }
+    };
+    let great = *generator.choice(&[2, 10, 80, 256, usize::MAX]);
+    match generator.below(40) {
+        0 => call.track = great,
+        1 => call.side = great,
+        2 => call.r = great,
+        3 => call.data.resize(random_len(generator), 0),
+        _ => (),
+    }
+    let Call {
+        track,
+        side,
+        r,
+        data,
+    } = call;
+    (
+        "rewrite",
+        sectors::rewrite(&hfe, track, side, r, &data).0[0],
+    )
+}
+
 /// A call on a block image; what an accepted one leaves is the next disk.
 fn file_call(generator: &mut Generator, disk: &mut Vec<u8>) -> Made {
     let mut image = random_image(generator, disk);
@@ -209,6 +250,7 @@ fn random_calls() {
             0..=7 => place(&mut generator),
             8..=19 => unpack(&mut generator, &track),
             20..=22 => pack(&mut generator),
+            23..=34 => rewrite(&mut generator, &track),
             _ => file_call(&mut generator, &mut disk),
         };
         *counts.entry(made).or_insert(0) += 1;

@@ -308,6 +308,69 @@ static void hfe_images(void)
     refused("unpack: two headers", unpack(), DHEG_SEVERAL_HEADERS, 0, 0, 2);
 }
 
+static dheg_reply rewrite(size_t track, size_t side, size_t r, const uint8_t *data, size_t data_len)
+{
+    return dheg_rewrite(hfe, sizeof hfe, track, side, r, data, data_len);
+}
+
+/* Sectors of track 0, side 0, of the packed disk. */
+static void rewriting(void)
+{
+    static uint8_t expected[DHEG_IMAGE_LEN], data[DHEG_SECTOR_LEN + 1];
+    size_t i;
+
+    for (i = 0; i < sizeof image; i++)
+        image[i] = (uint8_t)(i * 7 + i / 512);
+    memcpy(expected, image, sizeof image);
+    dheg_pack(image, sizeof image, hfe, sizeof hfe);
+    for (i = 0; i < sizeof data; i++)
+        data[i] = (uint8_t)(255 - i % 253);
+    memset(image, 0xAA, sizeof image);
+
+    expect("rewrite", rewrite(0, 0, 3, data, 512), DHEG_DONE, 0, 0, 0);
+    memcpy(expected + 2 * DHEG_SECTOR_LEN, data, 512);
+    expect("unpack of the result", unpack(), DHEG_DONE, 0, 0, 0);
+    check("the new data", memcmp(image, expected, sizeof image) == 0);
+
+    keep();
+    refused("rewrite: short HFE image", dheg_rewrite(hfe, 1023, 80, 2, 0, NULL, 0), DHEG_LENGTH, 1, 0,
+            0);
+    refused("rewrite: nothing", dheg_rewrite(NULL, 0, 0, 0, 1, data, 512), DHEG_LENGTH, 1, 0, 0);
+    refused("rewrite: no track", rewrite(80, 0, 1, data, 512), DHEG_ARGUMENT, 0, 0, 0);
+    refused("rewrite: no side", rewrite(0, 2, 1, data, 512), DHEG_ARGUMENT, 0, 0, 0);
+    refused("rewrite: R 0", rewrite(0, 0, 0, data, 512), DHEG_ARGUMENT, 0, 0, 0);
+    refused("rewrite: R 10", rewrite(0, 0, 10, data, 512), DHEG_ARGUMENT, 0, 0, 0);
+    refused("rewrite: no numbers", rewrite(SIZE_MAX, SIZE_MAX, SIZE_MAX, data, 512), DHEG_ARGUMENT, 0,
+            0, 0);
+    refused("rewrite: 513 bytes", rewrite(0, 0, 3, data, 513), DHEG_ARGUMENT, 0, 0, 0);
+    refused("rewrite: no data", rewrite(0, 0, 3, NULL, 0), DHEG_ARGUMENT, 0, 0, 0);
+    hfe[512 + 4 * 5 + 2] ^= 1;
+    keep();
+    refused("rewrite: table", rewrite(0, 0, 3, data, 512), DHEG_TRACK_TABLE, 5, 0, 0);
+    hfe[9] = 79;
+    keep();
+    refused("rewrite: header", rewrite(0, 0, 3, data, 512), DHEG_HFE_HEADER, 9, 0, 0);
+    refused("rewrite: arguments first", rewrite(0, 0, 3, data, 511), DHEG_ARGUMENT, 0, 0, 0);
+    hfe[9] = 80;
+    hfe[512 + 4 * 5 + 2] ^= 1;
+    *cell(4, 20) ^= 0xFF;
+    *cell(5, 59) ^= 0xFF;
+    *cell(6, 60) ^= 0xFF;
+    keep();
+    refused("rewrite: no sector header", rewrite(0, 0, 4, data, 512), DHEG_NO_HEADER, 0, 0, 4);
+    refused("rewrite: no data field", rewrite(0, 0, 5, data, 512), DHEG_NO_DATA_FIELD, 0, 0, 5);
+    expect("rewrite: wrong data CRC", rewrite(0, 0, 6, data, 512), DHEG_DONE, 0, 0, 0);
+
+    /* The ten bytes of the header of R 7 once more, in the data of R 8. */
+    for (i = 0; i < 10; i++) {
+        cell(8, 100 + i)[0] = cell(7, 12 + i)[0];
+        cell(8, 100 + i)[1] = cell(7, 12 + i)[1];
+    }
+    keep();
+    refused("rewrite: two headers", rewrite(0, 0, 7, data, 512), DHEG_SEVERAL_HEADERS, 0, 0, 7);
+    refused("rewrite: one of them lost", rewrite(0, 0, 8, data, 512), DHEG_MISREAD, 0, 0, 0);
+}
+
 int main(void)
 {
     placement();
@@ -317,6 +380,7 @@ int main(void)
     wrong_disks();
     first_track();
     hfe_images();
+    rewriting();
     printf("%u checks, %u failed\n", checks, failures);
     return failures == 0 ? EXIT_SUCCESS : EXIT_FAILURE;
 }

@@ -35,7 +35,7 @@ static const uint8_t *name_of(size_t n)
 
 /* ---- the calls, each as a thread runs it; *done tells whether it was done */
 
-static size_t file, length;
+static size_t file, length, sector;
 
 static void *nothing(void *done)
 {
@@ -52,6 +52,7 @@ static void *nothing(void *done)
 
 CALL(unpack, dheg_unpack(hfe, sizeof hfe, other, sizeof other))
 CALL(pack, dheg_pack(image, sizeof image, hfe, sizeof hfe))
+CALL(rewrite, dheg_rewrite(hfe, sizeof hfe, 40, 1, sector, content, DHEG_SECTOR_LEN))
 CALL(place, dheg_place(479, 2))
 CALL(format, dheg_format(image, sizeof image, (const uint8_t *)"STAGE", 5, 7))
 CALL(check, dheg_check(image, sizeof image))
@@ -92,13 +93,13 @@ static size_t depth(void *(*call)(void *), int wanted)
     return STACK_LEN - kept;
 }
 
-enum { UNPACK, PACK, PLACE, FORMAT, CHECK, LIST, READ, ADD, REMOVE, FIRST_TRACK, COUNT };
+enum { UNPACK, PACK, REWRITE, PLACE, FORMAT, CHECK, LIST, READ, ADD, REMOVE, FIRST_TRACK, COUNT };
 
-static const char *const names[COUNT] = {"dheg_unpack", "dheg_pack",   "dheg_place", "dheg_format",
-                                         "dheg_check",  "dheg_list",   "dheg_read",  "dheg_add",
-                                         "dheg_remove", "dheg_first_track"};
-static void *(*const calls[COUNT])(void *) = {unpack, pack, place, format, check,
-                                              list,   read, add,   take,   first_track};
+static const char *const names[COUNT] = {
+    "dheg_unpack", "dheg_pack", "dheg_rewrite", "dheg_place",  "dheg_format",     "dheg_check",
+    "dheg_list",   "dheg_read", "dheg_add",     "dheg_remove", "dheg_first_track"};
+static void *(*const calls[COUNT])(void *) = {unpack, pack, rewrite, place, format,     check,
+                                              list,   read, add,     take,  first_track};
 static size_t most[COUNT];
 
 /* What a thread uses without a call. */
@@ -134,6 +135,29 @@ static void fill_disk(void)
     length = 1;
     measure(ADD, 0);
     file = FILES / 2;
+}
+
+/* Byte `index` of a sector of track 40, side 1, counted from the 00 before its header. */
+static uint8_t *cells(size_t r, size_t index)
+{
+    size_t byte = 2 * (146 + 658 * (r - 1) + index);
+    return hfe + 512 * (2 + 49 * 40) + 512 * (byte / 256) + 256 + byte % 256;
+}
+
+/* All sectors of a side; then one that has the header of another in its data, which would be lost;
+ * one with two headers, and one that no side has. */
+static void rewrite_sectors(void)
+{
+    size_t i;
+
+    for (sector = 1; sector <= 9; sector++)
+        measure(REWRITE, 1);
+    for (i = 0; i < 10; i++)
+        memcpy(cells(1, 160 + i), cells(2, 12 + i), 2);
+    for (sector = 1; sector <= 2; sector++)
+        measure(REWRITE, 0);
+    sector = 10;
+    measure(REWRITE, 0);
 }
 
 /* One file that takes all blocks. */
@@ -174,6 +198,8 @@ int main(void)
     measure(ADD, 0);
     measure(REMOVE, 0);
     one_file();
+    measure(PACK, 1);
+    rewrite_sectors();
     /* A damaged sector, a wrong header, a wrong free word. */
     memset(hfe + 200000, 0x22, 64);
     measure(UNPACK, 0);

@@ -24,6 +24,10 @@ pub fn pack_into(image: &[u8], hfe: &[u8]) -> (Parts, Vec<u8>) {
     lent(hfe, |hfe| reference::pack(image, hfe))
 }
 
+pub fn rewrite(hfe: &[u8], track: usize, side: usize, r: usize, data: &[u8]) -> (Parts, Vec<u8>) {
+    lent(hfe, |hfe| reference::rewrite(hfe, track, side, r, data))
+}
+
 pub fn place(block: usize, sector: usize) -> Parts {
     reference::place(block, sector).parts()
 }

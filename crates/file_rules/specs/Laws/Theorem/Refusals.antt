@@ -13,6 +13,7 @@ use Rattle.sector_rules.specs.Replies.{done, refusal}
 use Rattle.sector_rules.specs.declared.Reply.{Reply}
 use Rattle.sector_rules.specs.Packed.{packReply, packHfe}
 use Rattle.sector_rules.specs.Unpacked.{unpackReply, unpackImage}
+use Rattle.sector_rules.specs.Laws.Rewrite.Judged.{rewrite-kept}
 use Rattle.file_rules.specs.Calls.{Outcome, DiskChanged, ImageChanged, bufferKept, diskKept, imageKept, imageRight, wrongLength}
 use Rattle.file_rules.specs.Calls.{format, deliver, listSound, list, readSound, read, needed, addSound, imaged, add, removeSound, remove}
 use Rattle.file_rules.specs.Directory.{nameRight, dirEnd, findName, vacantSlot}
@@ -136,6 +137,7 @@ refusals-keep =
     record {
       unpack-keeps = unpack-unchanged;
       pack-keeps = pack-unchanged;
+      rewrite-keeps = rewrite-kept;
       format-keeps = format-unchanged;
       list-keeps = list-unchanged;
       read-keeps = read-unchanged;

@@ -1,100 +1,39 @@
--- `field_of` meets its contract: what is left of the search gives what the whole gives.
--- Rests on: the laws in Reading/Search, cells::Stream and cells::Sync; the contracts of cells::three_sync and
--- field_at.
+-- `field_of` meets its contract.
+-- Rests on: the laws in Reading/Search; the contracts of field_place and field_at.
 -- Assumes nothing.
-use mathlib.Core.Path.{_≡_, sym, _∙_}
-use Prim.Native.Nat.{ℕ, _+_, _-_, _≤_, _<_, _^_}
-use native.Mathlib.Omega.{arith}
+use mathlib.Core.Path.{sym, ap, _∙_}
+use Prim.Native.Nat.{ℕ, _+_}
+use Rattle.laws.specs.Laws.Tests.{eq-true, eq-false, cond-true, cond-false}
+use Rattle.sector_rules.specs.Search.{fieldAt}
+use Rattle.sectors.specs.Laws.Reading.Search.{field-by-place}
 use borrow.Author.Needs.{needs}
-use Rattle.cells.specs.Stream.{stream, from}
-use Rattle.cells.specs.Sync.{threeSync}
-use Rattle.cells.specs.Laws.Stream.{rest-length}
-use Rattle.cells.specs.Laws.Sync.{three-past}
-use Rattle.sector_rules.specs.declared.Sector.the-variants.{NoField}
-use Rattle.sector_rules.specs.Search.{first, fieldAt, fieldOf}
-use Rattle.sectors.specs.Laws.Reading.Search.{first-here, first-later, first-none}
 use Rattle.sectors.proofs.search.field_of.Statement.{statement}
 use Rattle.sectors.proofs.search.field_of.Tie as tie
 
-abbrev Inv-loop : tie.InvT-loop
-Inv-loop part side i k₀ k = (k ≤ 689) × (i < 2 ^ 32)
-    × (fieldOf (stream part side) i ≡ first (λ (j : ℕ). threeSync (from (stream part side) j)) (fieldAt (stream part side)) NoField (689 - k) (i + 160 + k))
+field-place-requires : tie.Need-field-place-requires
+field-place-requires c κs = search needs
 
-abbrev μ-loop : tie.MeasureT-loop
-μ-loop part side i k₀ k = 689 - k
-
-cast-if1 : tie.Need-cast-if1 Inv-loop μ-loop
-cast-if1 c = search needs
-
-returns : tie.Need-returns Inv-loop μ-loop
-unfolding fieldOf
-returns c = sym (first-none _ _ _ _ _ (λ j h. three-past _ (rw rest-length (omega arith))))
-
-loop-holds : tie.Need-loop-holds Inv-loop μ-loop
-unfolding fieldOf
-loop-holds c = (omega arith, omega arith, let e : c .before .before .before .args .i + 160 + 0 ≡ c .before .before .before .args .i + 160 = omega arith in rw e)
-
-add-three-sync : tie.Need-add-three-sync Inv-loop μ-loop
-add-three-sync c = search needs
-
-add-three-sync-2 : tie.Need-add-three-sync-2 Inv-loop μ-loop
-add-three-sync-2 c = search needs
-
-three-sync-requires : tie.Need-three-sync-requires Inv-loop μ-loop
-three-sync-requires c κs = search needs
-
-add-field-at : tie.Need-add-field-at Inv-loop μ-loop
-add-field-at c = search needs
-
-add-field-at-2 : tie.Need-add-field-at-2 Inv-loop μ-loop
-add-field-at-2 c = search needs
-
-field-at-requires : tie.Need-field-at-requires Inv-loop μ-loop
-field-at-requires c κs = search needs
-
-returns-2 : tie.Need-returns-2 Inv-loop μ-loop
-returns-2 c =
-    let after-three-sync = c .before .before in
-    let at-loop = after-three-sync .before .before in
-    c .field-at .ensures ∙
-    sym (at-loop .loop .inv .2 ∙
-    first-here _ _ _ 689 _ _ (omega arith) (sym (after-three-sync .three-sync .ensures) ∙ c .before .if2 .taken))
-
-add-k : tie.Need-add-k Inv-loop μ-loop
-add-k c = search needs
-
-loop-less : tie.Need-loop-less Inv-loop μ-loop
-loop-less c = omega arith
-
-loop-again : tie.Need-loop-again Inv-loop μ-loop
-loop-again c = (
-  omega arith,
-  omega arith,
-  c .before .before .before .loop .inv .2 ∙ first-later _ _ _ 689 _ _ (omega arith) (sym (c .before .three-sync .ensures) ∙ c .if2 .left),
+returns : tie.Need-returns
+returns c = (
+  sym (field-by-place _ _ ∙ cond-true _ _ (eq-true (sym (c .before .field-place .ensures .0) ∙ c .if1 .taken))),
+  ap (λ (x : ℕ). x + 64)
+      (sym (c .if1 .taken) ∙ c .before .field-place .ensures .0),
 )
 
-returns-3 : tie.Need-returns-3 Inv-loop μ-loop
-unfolding first
-returns-3 c = let e : 689 - c .before .loop .k ≡ 0 = omega arith in
-    sym (c .before .loop .inv .2 ∙ rw e)
+field-at-requires : tie.Need-field-at-requires
+field-at-requires c κs = search needs
+
+add-t8 : tie.Need-add-t8
+add-t8 c = search needs
+
+returns-2 : tie.Need-returns-2
+returns-2 c = (
+  c .field-at .ensures ∙ ap (fieldAt _) (c .before .before .field-place .ensures .0)
+      ∙ sym (field-by-place _ _ ∙ cond-false _ _ (eq-false (λ e. c .before .if1 .left (c .before .before .field-place .ensures .0 ∙ e)))),
+  ap
+      (λ (x : ℕ). x + 64) (c .before .before .field-place .ensures .0),
+)
 
 pub field-of-spec : {M : Type 1} → statement M
 field-of-spec =
-    tie.close
-    (tie.spec
-    Inv-loop
-    μ-loop
-    cast-if1
-    returns
-    loop-holds
-    add-three-sync
-    add-three-sync-2
-    three-sync-requires
-    add-field-at
-    add-field-at-2
-    field-at-requires
-    returns-2
-    add-k
-    loop-less
-    loop-again
-    returns-3)
+    tie.close (tie.spec field-place-requires returns field-at-requires add-t8 returns-2)

@@ -1,8 +1,8 @@
 -- `image_side` meets its contract.
 -- Rests on: the laws in Unpacking/Sides; the contracts of track_part, track_side and side_sectors.
 -- Assumes nothing.
+use Rattle.sectors.specs.Laws.Unpacking.Sides.{image-gives, image-places}
 use borrow.Author.Needs.{needs}
-use Rattle.sectors.specs.Laws.Unpacking.Sides.{image-gives}
 use Rattle.sectors.proofs.sides.image_side.Statement.{statement}
 use Rattle.sectors.proofs.sides.image_side.Tie as tie
 
@@ -21,8 +21,19 @@ cast-side-sectors-2 c = search needs
 side-sectors-requires : tie.Need-side-sectors-requires
 side-sectors-requires c κs = search needs
 
+same-length : tie.Need-same-length
+same-length c = search needs
+
 returns : tie.Need-returns
-returns c = image-gives _ _ _ _ (c .before .before .track-part .ensures) (c .before .track-side .ensures) _ (c .side-sectors .ensures)
+returns c =
+    let after-side-sectors = c .before .before in
+    let after-track-side = after-side-sectors .before .before in
+    let after-track-part = after-track-side .before in (
+      image-gives _ _ _ _ (after-track-part .track-part .ensures) (after-track-side .track-side .ensures) _
+          (after-side-sectors .side-sectors .ensures .0),
+      image-places _ _ _ _ (after-track-part .track-part .ensures)
+          (after-track-side .track-side .ensures) _ (after-side-sectors .side-sectors .ensures .1),
+    )
 
 pub image-side-spec : {M : Type 1} → statement M
 image-side-spec =
@@ -33,4 +44,5 @@ image-side-spec =
     cast-side-sectors
     cast-side-sectors-2
     side-sectors-requires
+    same-length
     returns)

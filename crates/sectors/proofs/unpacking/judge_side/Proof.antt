@@ -3,12 +3,12 @@
 -- and done.
 -- Assumes nothing.
 use mathlib.Core.Path.{_≡_, sym, _∙_}
-use Prim.Native.Nat.{_+_, _-_, _*_, _≤_}
 use native.Mathlib.Omega.{arith}
+use Prim.Native.Nat.{_+_, _-_, _*_, _≤_}
 use lib.ListN.{length, length-set}
-use borrow.Author.Needs.{needs}
 use Rattle.sector_rules.specs.Geometry.{sectors, allSectors}
 use Rattle.sectors.specs.Laws.Unpacking.SectorsJudged.{Noted, noted-more, judged-stop, judged-good}
+use borrow.Author.Needs.{needs}
 use Rattle.sectors.proofs.unpacking.judge_side.Statement.{statement}
 use Rattle.sectors.proofs.unpacking.judge_side.Tie as tie
 
@@ -18,12 +18,17 @@ Inv-loop hfe n places₀ gives k₀ places k = (k ≤ sectors) × (length places
 abbrev μ-loop : tie.MeasureT-loop
 μ-loop hfe n places₀ gives k₀ places k = sectors - k
 
+slice-aggregate-image-side : tie.Need-slice-aggregate-image-side Inv-loop μ-loop
+slice-aggregate-image-side c = search needs
+
 image-side-requires : tie.Need-image-side-requires Inv-loop μ-loop
 image-side-requires c κs = search needs
 
 loop-holds : tie.Need-loop-holds Inv-loop μ-loop
-loop-holds c = let e : sectors * c .before .before .before .args .n + 0 ≡ sectors * c .before .before .before .args .n = omega arith in
-    (omega arith, c .before .before .before .pre .2, rw e (c .before .before .before .pre .3))
+loop-holds c =
+    let after-slice-known = c .before .before .before in
+    let start = after-slice-known .before .before in
+    let e : sectors * start .args .n + 0 ≡ sectors * start .args .n = omega arith in (omega arith, start .pre .2, rw e (start .pre .3))
 
 mul-sector : tie.Need-mul-sector Inv-loop μ-loop
 mul-sector c = search needs
@@ -50,9 +55,8 @@ returns : tie.Need-returns Inv-loop μ-loop
 returns c =
     let after-is-bad = c .before .before in
     let at-loop = after-is-bad .before .before .before in
-    let loop = at-loop .loop in
-    let after-image-side = at-loop .before in
-    judged-stop _ _ _ (loop .inv .2) _ (after-image-side .image-side .ensures .each (loop .k) (omega arith)) (omega arith)
+    let after-image-side = at-loop .before .before in
+    judged-stop _ _ _ (at-loop .loop .inv .2) _ (after-image-side .image-side .ensures .0 .each (at-loop .loop .k) (omega arith)) (omega arith)
     (sym (after-is-bad .is-bad .ensures) ∙ c .before .if1 .taken) _ _ (c .sector-reply .ensures)
 
 place-of-requires : tie.Need-place-of-requires Inv-loop μ-loop
@@ -74,16 +78,16 @@ loop-again : tie.Need-loop-again Inv-loop μ-loop
 loop-again c =
     let after-is-bad = c .before .before in
     let at-loop = after-is-bad .before .before .before in
-    let loop = at-loop .loop in
-    let after-image-side = at-loop .before in
-    let start = after-image-side .before .before .before in
+    let after-image-side = at-loop .before .before in
+    let after-shared-slice-known = after-image-side .before .before .before in
+    let start = after-shared-slice-known .before in
     let n = start .args .n in (
       omega arith,
-      simp length-set (loop .inv .1),
+      simp length-set (at-loop .loop .inv .1),
       rw (c .place-of .ensures)
-          (noted-more _ _ (sectors * n + loop .k) (loop .inv .2) _
-          (after-image-side .image-side .ensures .each (loop .k) (omega arith)) (omega arith)
-          (sym (after-is-bad .is-bad .ensures) ∙ c .before .if1 .left) (sectors * n + (loop .k + 1)) (omega arith)),
+          (noted-more _ _ (sectors * n + at-loop .loop .k) (at-loop .loop .inv .2) _
+          (after-image-side .image-side .ensures .0 .each (at-loop .loop .k) (omega arith)) (omega arith)
+          (sym (after-is-bad .is-bad .ensures) ∙ c .before .if1 .left) (sectors * n + (at-loop .loop .k + 1)) (omega arith)),
     )
 
 done-requires : tie.Need-done-requires Inv-loop μ-loop
@@ -95,12 +99,10 @@ same-length-2 c = search needs
 returns-2 : tie.Need-returns-2 Inv-loop μ-loop
 returns-2 c =
     let at-loop = c .before .before in
-    let loop = at-loop .loop in
-    let after-image-side = at-loop .before in
-    let start = after-image-side .before .before .before in
-    let n = start .args .n in
-    let e : sectors * n + loop .k ≡ sectors * (n + 1) = omega arith in
-    judged-good _ _ _ (rw e at (loop .inv .2)) _ (c .done .ensures)
+    let after-data-places = at-loop .before .before .before in
+    let start = after-data-places .before .before .before in
+    let e : sectors * start .args .n + at-loop .loop .k ≡ sectors * (start .args .n + 1) = omega arith in judged-good _ _ _
+    (rw e at (at-loop .loop .inv .2)) _ (c .done .ensures)
 
 pub judge-side-spec : {M : Type 1} → statement M
 judge-side-spec =
@@ -108,6 +110,7 @@ judge-side-spec =
     (tie.spec
     Inv-loop
     μ-loop
+    slice-aggregate-image-side
     image-side-requires
     loop-holds
     mul-sector

@@ -9,7 +9,7 @@ use lib.Dec.{eqb}
 use lib.ListN.{length, getD, set, replicate, getD-replicate}
 use lib.Seq.{getD-set-same, getD-set-other}
 use borrow.Author.Tests.{le-leb, lt-leb, eq-eqb, ne-eqb}
-use Rattle.laws.specs.Laws.Cases.{by-equal}
+use Rattle.laws.specs.Laws.Cases.{by-test, by-equal}
 use Rattle.cells.specs.Stream.{from, dataByte}
 use Rattle.cells.specs.Sync.{threeSync}
 use Rattle.sector_rules.specs.declared.Id.{Id}
@@ -19,8 +19,9 @@ use Rattle.sector_rules.specs.declared.Found.{Found}
 use Rattle.sector_rules.specs.declared.Found.the-variants.{Nothing}
 use Rattle.sector_rules.specs.declared.Sector.the-variants.{Delivered, NoField, Damaged}
 use Rattle.sector_rules.specs.Geometry.{sectors}
-use Rattle.sector_rules.specs.Search.{crcHolds, headerMark, dataMark, sizeCode, headerCells, fieldCells, isHeader, idOf}
-use Rattle.sector_rules.specs.Search.{headerOf, isHeaderOf, headerAt, placesBelow, foundOf, findSector, first, fieldAt}
+use Rattle.sector_rules.specs.Search.{crcHolds, headerMark, dataMark, sizeCode, headerCells, fieldCells, gapCells, isHeader, idOf}
+use Rattle.sector_rules.specs.Search.{headerOf, isHeaderOf, headerAt, placesBelow, foundOf, findSector, first, fieldAt, fieldOf}
+use Rattle.sector_rules.specs.Rewritten.{fieldPlace}
 use Rattle.sector_rules.specs.Laws.Base.Search.{moreFound, found-yes, found-no}
 
 -- ---- headers
@@ -153,7 +154,22 @@ unfolding first
 first-none p f none zero i h = refl
 first-none p f none (suc m) i h = rw (h i (omega arith)) (first-none p f none m (suc i) (λ j l. h j (omega arith)))
 
+-- what is given at the first place, by that place: 0 is none, since places begin after 0
+first-by-place : {A : Type 0} (p : ℕ → Bool) (f : ℕ → A) (none : A) (m i : ℕ) → 0 < i
+    → first p f none m i ≡ cond (eqb (first p (λ (j : ℕ). j) 0 m i) 0) none (f (first p (λ (j : ℕ). j) 0 m i))
+unfolding first
+first-by-place p f none zero i h = refl
+first-by-place p f none (suc m) i h =
+    by-test (p i)
+    (λ t. rw (t, ne-eqb i 0 (λ e. omega arith)))
+    (λ t. rw t (first-by-place p f none m (suc i) (omega arith)))
+
 -- ---- the field
+
+-- the field of a header, by the place of its run
+pub field-by-place : (c : List ℕ) (i : ℕ) → fieldOf c i ≡ cond (eqb (fieldPlace c i) 0) NoField (fieldAt c (fieldPlace c i))
+unfolding fieldOf fieldPlace
+field-by-place c i = first-by-place (λ (j : ℕ). threeSync (from c j)) (fieldAt c) NoField (gapCells + 1) (i + headerCells) (omega arith)
 
 -- too near the end for a field, or not
 module _ (c : List ℕ) (j : ℕ) where

@@ -20,6 +20,7 @@ use Rattle.sector_rules.specs.Geometry.{tracks, sides, sectors, allSectors, sec
 use Rattle.sector_rules.specs.Search.{sectorFound, sectorOf, sectorByte, deliveredBytes}
 use Rattle.sector_rules.specs.Hfe.{trackLength, trackPart, sideStream}
 use Rattle.sector_rules.specs.Unpacked.{trackOf, sideOf, sectorBytesAt, sectorAt, unpackedByte}
+use Rattle.sector_rules.specs.Rewritten.{dataPlaceOf, dataPlace}
 use Rattle.sectors.specs.Laws.Reading.Search.{BySector, Scanned}
 
 -- what the nine sectors of a side with the cells c give
@@ -29,6 +30,10 @@ SideGives r c t s = BySector Missing r (λ (k : ℕ). sectorOf c t s (k + 1))
 -- what the nine sectors of the n-th side of an HFE image give
 abbrev pub ImageSideGives : List Sector → List ℕ → ℕ → Type 0
 ImageSideGives r h n = BySector Missing r (λ (k : ℕ). sectorAt h (sectors * n + k))
+
+-- the cell places of the data of the nine sectors of a side with the cells c
+pub record DataPlaces (places c : List ℕ) (t s : ℕ) : Type 0 where
+  pub each : (k : ℕ) → k < sectors → getD places k 0 ≡ dataPlace c t s (k + 1)
 
 -- byte k of sectors that stand one after another, whose bytes are at the places from at on
 unfoldable pub placedByte : List ℕ → List ℕ → ℕ → ℕ → ℕ
@@ -49,6 +54,20 @@ pub found-gives : (found : List Found) (c : List ℕ) (t s k : ℕ) → Scanned 
     → sectorFound c (getD found k Nothing) ≡ sectorOf c t s (k + 1)
 unfolding sectorOf
 found-gives found c t s k x h = rw (x .each k h)
+
+-- one more place, after those of the sectors before it
+pub places-more : (places : List ℕ) (give : ℕ → ℕ) (k v : ℕ) → k < length places
+    → ((j : ℕ) → j < k → getD places j 0 ≡ give j) → v ≡ give k → (j : ℕ) → j < k + 1 → getD (set places k v) j 0 ≡ give j
+places-more places give k v l old e j h =
+    by-equal j k
+    (λ (q : j ≡ k). rw q (getD-set-same places k v 0 l ∙ e))
+    (λ (q : j ≡ k → ⊥). getD-set-other places k j v 0 q ∙ old j (omega arith))
+
+-- the search's answer gives the place of the sector's data
+pub found-place : (found : List Found) (c : List ℕ) (t s k : ℕ) → Scanned found c t s → k < sectors
+    → dataPlaceOf c (getD found k Nothing) ≡ dataPlace c t s (k + 1)
+unfolding dataPlace
+found-place found c t s k x h = rw (x .each k h)
 
 -- ---- the n-th side of an HFE image, by the part and the side that the code hands on
 
@@ -73,6 +92,12 @@ module _ (h : List ℕ) (n : ℕ) (part : List ℕ) (side : Side)
   -- what the sectors of a side's cells give is what the image sectors of that side give
   pub image-gives : (r : List Sector) → SideGives r (stream part side) (n / sides) (n % sides) → ImageSideGives r h n
   image-gives r x = record { long = x .long; each = λ k l. x .each k l ∙ sector-is k l }
+
+  -- the places of the data on a side's cells are those on that side of the image
+  pub image-places : (places : List ℕ) → DataPlaces places (stream part side) (n / sides) (n % sides)
+      → DataPlaces places (sideStream h (n / sides) (n % sides)) (n / sides) (n % sides)
+  unfolding sideStream
+  image-places places x = rw (is-part, is-side) at x
 
   -- byte k of the side's nine sectors is a byte of the block image
   pub side-byte : (places : List ℕ) → ((m : ℕ) → m < allSectors → sectorAt h m ≡ Delivered (getD places m 0)) → n < tracks * sides

@@ -37,6 +37,25 @@ pub fn pack_into(image: &[u8], hfe: &[u8]) -> (Parts, Vec<u8>) {
     (reply, bytes)
 }
 
+/// Rewrites a sector in these bytes, with the library and with the reference:
+/// both must give the same reply and leave the same bytes. A refusal changes
+/// nothing, and no call changes the data.
+pub fn rewrite(hfe: &[u8], track: usize, side: usize, r: usize, data: &[u8]) -> (Parts, Vec<u8>) {
+    let lent_data = data.to_vec();
+    let mut lent = Lent::new(hfe);
+    let reply = raw::rewrite(lent.bytes(), track, side, r, &lent_data).parts();
+    assert!(lent_data == data, "data changed");
+    assert!(
+        reply[0] == 0 || lent.after() == hfe,
+        "HFE image changed by refusal {reply:?}"
+    );
+    let mut bytes = hfe.to_vec();
+    let expected = reference::rewrite(&mut bytes, track, side, r, data).parts();
+    assert_eq!(reply, expected, "library, then reference");
+    assert!(lent.after() == bytes, "other bytes than the reference");
+    (reply, bytes)
+}
+
 /// The reply to unpacking, which library and reference must share, with all
 /// bytes of the block image.
 pub fn unpack(hfe: &[u8]) -> Parts {

@@ -12,9 +12,10 @@ mod named;
 mod round_trip;
 #[path = "../../../../reference/tests/sector_layer/shared/mod.rs"]
 mod shared;
-mod side;
 mod soup;
 
 // What the shared tests ask.
 use both as answer;
 pub use shared::build;
+pub use shared::rewrite::random as rewrites;
+use shared::side;

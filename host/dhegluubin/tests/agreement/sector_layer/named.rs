@@ -1,8 +1,8 @@
 //! The safe calls: named refusals.
 
-use super::build::{disk, packed, set_entry};
-use super::shared::spoil::spoil;
-use dhegluubin::{pack, place, unpack, Lent, Refusal, IMAGE_LEN};
+use super::build::{disk, in_sector, packed, set_entry};
+use super::shared::spoil::{copy, spoil, DATA, SYNC};
+use dhegluubin::{pack, place, rewrite, unpack, Lent, Refusal, IMAGE_LEN};
 
 /// Each wrong length with its place (§7.1).
 #[test]
@@ -14,6 +14,7 @@ fn wrong_lengths() {
     assert_eq!(pack(&[], &mut []), hfe_wrong);
     assert_eq!(pack(&[], &mut packed()), image_wrong);
     assert_eq!(pack(disk(), &mut []), hfe_wrong);
+    assert_eq!(rewrite(&mut [], 0, 0, 1, &[0; 512]), hfe_wrong);
 }
 
 /// The refusal of an HFE image, which changes nothing.
@@ -72,4 +73,28 @@ fn placements() {
     for (block, sector) in [(480, 0), (0, 3), (usize::MAX, usize::MAX)] {
         assert_eq!(place(block, sector), Err(Refusal::Argument));
     }
+}
+
+/// Done, then refused: with wrong numbers or lengths (§7.12), as misread
+/// (§7.24), and for the sector itself (§8.15).
+#[test]
+fn rewrites() {
+    let mut hfe = packed();
+    let data = [0x51; 512];
+    assert_eq!(rewrite(&mut hfe, 1, 1, 4, &data), Ok(()));
+    assert_eq!(rewrite(&mut hfe, 80, 1, 4, &data), Err(Refusal::Argument));
+    assert_eq!(rewrite(&mut hfe, 1, 1, 4, &[]), Err(Refusal::Argument));
+    // The header of sector 7 once more, in the data of sector 4: with that
+    // lost the sector would no longer have two.
+    let (from, to) = (in_sector(7, SYNC), in_sector(4, DATA + 9));
+    copy(&mut hfe, 1, 1, from, to, 20);
+    let before = hfe.clone();
+    assert_eq!(rewrite(&mut hfe, 1, 1, 4, &data), Err(Refusal::Misread));
+    let several = Refusal::SeveralHeaders {
+        track: 1,
+        side: 1,
+        sector: 7,
+    };
+    assert_eq!(rewrite(&mut hfe, 1, 1, 7, &data), Err(several));
+    assert!(hfe == before);
 }

@@ -2,9 +2,8 @@
 
 use super::both::{assert_unpacks, unpack};
 use super::build::{disk, move_track, packed, track_0, TRACK_0_GOOD};
-use super::side::{gap_cells, header_items, plain, random_cells, side_cells, Sector};
+use super::side::{change, gap_cells, random_cells, side_cells, Sector};
 use reference::cells::pack_cells;
-use reference::written::{item_cells, Item};
 use support::cases::cases;
 use support::noise::Generator;
 
@@ -31,48 +30,6 @@ fn random_sector(generator: &mut Generator, side: u8, r: u8) -> Sector {
         before: random_gap(generator, before),
         gap: random_gap(generator, gap),
         ..Sector::good(0, side, r, data)
-    }
-}
-
-/// Changes something; not every change is a fault.
-fn change(generator: &mut Generator, sector: &mut Sector) {
-    match generator.below(14) {
-        0 => sector.header_syncs = 2 + generator.below(4),
-        1 => sector.header_mark ^= 1 << generator.below(8),
-        2 => sector.header[generator.below(4)] ^= 1 << generator.below(8),
-        3 => sector.header_error = 1 << generator.below(16),
-        4 => sector.gap = gap_cells(685 + generator.below(8)),
-        5 => sector.field_syncs = 2 + generator.below(4),
-        6 => sector.field_mark ^= 1 << generator.below(8),
-        7 => sector.data_error = 1 << generator.below(16),
-        8 => {
-            sector.data.truncate(generator.below(512));
-        }
-        9 => {
-            // A header within the data.
-            let header = [0, sector.header[1], 1 + generator.below(9) as u8, 2];
-            let start = generator.below(502);
-            sector.data.splice(start..start + 10, header_items(header));
-        }
-        10 => {
-            // A second header before the sector.
-            let header = [0, sector.header[1], 1 + generator.below(11) as u8, 2];
-            let slip = generator.below(40);
-            let second = item_cells(&header_items(header));
-            sector.before = [second, gap_cells(slip)].concat();
-        }
-        11 => {
-            // Sync bytes in the gap.
-            let syncs = vec![Item::Sync; 1 + generator.below(4)];
-            let mark = plain(&[*generator.choice(&[0xFB, 0xF8, 0x4E])]);
-            let slip = generator.below(300);
-            sector.gap = [gap_cells(slip), item_cells(&syncs), item_cells(&mark)].concat();
-        }
-        12 => sector.gap.truncate(0),
-        _ => {
-            let data = generator.below(512);
-            sector.data[data] = Item::Byte(generator.byte());
-        }
     }
 }
 
