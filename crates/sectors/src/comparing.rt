@@ -10,10 +10,9 @@ ghost use Rattle.laws.specs.Below.{all};
 ghost use Rattle.laws.specs.Lists.{same};
 ghost use Rattle.laws.specs.Options.{isSome};
 ghost use Rattle.sector_rules.specs.Geometry.{tracks, sides, sectors, allSectors, sectorBytes};
-ghost use Rattle.sector_rules.specs.Hfe.{tableFault};
 ghost use Rattle.sector_rules.specs.Unpacked.{sectorAt};
 ghost use Rattle.sector_rules.specs.Rewritten.{hfeRefusal, sectorRight, resultRight};
-ghost use Rattle.sectors.specs.Laws.Unpacking.Sides.{ImageSideGives};
+ghost use Rattle.sectors.specs.Laws.Unpacking.Sides.{PlainImage, ImageSideGives};
 ghost use Rattle.sectors.specs.Laws.Rewriting.Changed.{changed};
 ghost use Rattle.sectors.specs.Laws.Rewriting.Compared.{bytesAt};
 ghost use Rattle.sectors.specs.Laws.Rewriting.Exchanged.{Exchange, Exchanges, isSound};
@@ -35,7 +34,7 @@ use sector_rules::Sector;
 
 // The 512 bytes of image sector q whose cells begin at place p (§4.6).
 fn read_sector(hfe: &[u8], q: usize, p: usize) -> [u8; Geometry::SECTOR_BYTES]
-    requires { ⌜ (tableFault (now hfe) ≡ Fault.Sound) × (q < allSectors) ⌝ }
+    requires { ⌜ PlainImage (now hfe) × (q < allSectors) ⌝ }
     ensures { λ r. ⌜ r ≡ bytesAt (now (hfe .entry)) q p ⌝ }
 {
     let track = q / Geometry::TRACK_SECTORS;
@@ -48,7 +47,7 @@ fn read_sector(hfe: &[u8], q: usize, p: usize) -> [u8; Geometry::SECTOR_BYTES]
 
 // Whether the 512 bytes of image sector q whose cells begin at place p are these (§4.6).
 fn sector_reads(hfe: &[u8], q: usize, p: usize, bytes: &[u8]) -> bool
-    requires { ⌜ (tableFault (now hfe) ≡ Fault.Sound) × (q < allSectors) × (length (now bytes) ≡ sectorBytes) ⌝ }
+    requires { ⌜ PlainImage (now hfe) × (q < allSectors) × (length (now bytes) ≡ sectorBytes) ⌝ }
     ensures { λ r. ⌜ r ≡ same (bytesAt (now (hfe .entry)) q p) (now (bytes .entry)) ⌝ }
 {
     let track = q / Geometry::TRACK_SECTORS;

@@ -3,9 +3,10 @@ ghost use mathlib.Core.Path.{_≡_};
 ghost use Prim.Native.Nat.{_+_, _<_, _≤_, _^_};
 ghost use lib.ListN.{length};
 ghost use Rattle.sector_rules.specs.Geometry.{tracks, sides, sectors, sectorBytes};
-ghost use Rattle.sector_rules.specs.Hfe.{tableFault, sideStream};
+ghost use Rattle.sector_rules.specs.Hfe.{sideStream};
 ghost use Rattle.sector_rules.specs.Search.{sectorOf};
 ghost use Rattle.sector_rules.specs.Rewritten.{dataPlace, dataCells, changedBytes, fieldRow, hasField, rewriteArguments, rewriteReply, rewriteHfe};
+ghost use Rattle.sectors.specs.Laws.Unpacking.Sides.{PlainImage};
 ghost use Rattle.sectors.specs.Laws.Rewriting.Changed.{SideBytesFit};
 ghost use Rattle.sectors.specs.Laws.Rewriting.NewCells.{Renewed};
 ghost use Rattle.sectors.specs.Laws.Rewriting.Answered.{windowOf, DataWritten, Answered};
@@ -47,7 +48,7 @@ fn arguments_right(track: usize, head: usize, sector: usize, content: &[u8]) -> 
 
 // What the sector gives, and the cell place of its data (§8.16).
 fn sector_field(hfe: &[u8], track: usize, head: usize, sector: usize) -> SectorField
-    requires { ⌜ (tableFault (now hfe) ≡ Fault.Sound) × (track < tracks) × (head < sides) × (1 ≤ sector) × (sector ≤ sectors) ⌝ }
+    requires { ⌜ PlainImage (now hfe) × (track < tracks) × (head < sides) × (1 ≤ sector) × (sector ≤ sectors) ⌝ }
     ensures { λ x. ⌜ (x .sector ≡ sectorOf (sideStream (now (hfe .entry)) track head) track head sector) × (x .place ≡ dataPlace (sideStream (now (hfe .entry)) track head) track head sector) ⌝ }
 {
     let mut places = [0usize; Geometry::SECTORS];
@@ -74,7 +75,7 @@ fn has_field(sector: Sector) -> bool
 
 // The bytes of a side that hold the cells from place p on that a rewrite may change, as far as the side goes (§8.16).
 fn changed_bytes(hfe: &[u8], track: usize, head: usize, p: usize) -> SideBytes
-    requires { ⌜ (tableFault (now hfe) ≡ Fault.Sound) × (track < tracks) × (head < sides) × (p + dataCells ≤ length (sideStream (now hfe) track head)) ⌝ }
+    requires { ⌜ PlainImage (now hfe) × (track < tracks) × (head < sides) × (p + dataCells ≤ length (sideStream (now hfe) track head)) ⌝ }
     ensures { λ x. ⌜ (x ≡ windowOf (now (hfe .entry)) track head p) × SideBytesFit x (length (now (hfe .entry))) ⌝ }
 {
     let first = p / 8;
@@ -96,7 +97,7 @@ fn new_bytes(
     content: &[u8],
     w: SideBytes,
 ) -> [u8; CHANGED]
-    requires { ⌜ (tableFault (now hfe) ≡ Fault.Sound) × (track < tracks) × (head < sides) × (p + dataCells ≤ length (sideStream (now hfe) track head)) × (length (now content) ≡ sectorBytes) × SideBytesFit w (length (now hfe)) × (p < 2 ^ 34) ⌝ }
+    requires { ⌜ PlainImage (now hfe) × (track < tracks) × (head < sides) × (p + dataCells ≤ length (sideStream (now hfe) track head)) × (length (now content) ≡ sectorBytes) × SideBytesFit w (length (now hfe)) × (p < 2 ^ 34) ⌝ }
     ensures { λ x. ⌜ Renewed (sideStream (now (hfe .entry)) track head) p (fieldRow (now (content .entry))) (w .first) (w .count) x ⌝ }
 {
     let part = track_part(hfe, track);
@@ -114,7 +115,7 @@ fn write_data(
     content: &[u8],
     p: usize,
 ) -> Reply
-    requires { ⌜ (tableFault (now hfe) ≡ Fault.Sound) × (track < tracks) × (head < sides) × (1 ≤ sector) × (sector ≤ sectors) × (length (now content) ≡ sectorBytes) × (p ≡ dataPlace (sideStream (now hfe) track head) track head sector) × (p + dataCells ≤ length (sideStream (now hfe) track head)) ⌝ }
+    requires { ⌜ PlainImage (now hfe) × (track < tracks) × (head < sides) × (1 ≤ sector) × (sector ≤ sectors) × (length (now content) ≡ sectorBytes) × (p ≡ dataPlace (sideStream (now hfe) track head) track head sector) × (p + dataCells ≤ length (sideStream (now hfe) track head)) ⌝ }
     ensures { λ x. ⌜ DataWritten (now (hfe .entry)) track head sector (now (content .entry)) x (now (hfe .exit)) ⌝ }
 {
     let w = changed_bytes(hfe, track, head, p);
@@ -130,7 +131,7 @@ fn write_data(
 
 // Rewrites the sector, or 4 to 6 for it alone, then 17 (§8.15).
 fn rewrite_sector(hfe: &mut [u8], track: usize, head: usize, sector: usize, content: &[u8]) -> Reply
-    requires { ⌜ (tableFault (now hfe) ≡ Fault.Sound) × (track < tracks) × (head < sides) × (1 ≤ sector) × (sector ≤ sectors) × (length (now content) ≡ sectorBytes) ⌝ }
+    requires { ⌜ PlainImage (now hfe) × (track < tracks) × (head < sides) × (1 ≤ sector) × (sector ≤ sectors) × (length (now content) ≡ sectorBytes) ⌝ }
     ensures { λ x. ⌜ Answered (now (hfe .entry)) track head sector (now (content .entry)) x (now (hfe .exit)) ⌝ }
 {
     let field = sector_field(hfe, track, head, sector);

@@ -5,16 +5,15 @@ ghost use lib.ListN.{length};
 ghost use Rattle.laws.specs.Changes.{overlay};
 ghost use Rattle.cells.specs.Stream.{stream};
 ghost use Rattle.sector_rules.specs.Geometry.{tracks, sides, sectors, sectorBytes, allSectors, imageBytes};
-ghost use Rattle.sector_rules.specs.Hfe.{tableFault, sideStream};
+ghost use Rattle.sector_rules.specs.Hfe.{sideStream};
 ghost use Rattle.sector_rules.specs.Search.{sectorByte};
-ghost use Rattle.sectors.specs.Laws.Unpacking.Sides.{SideGives, ImageSideGives, DataPlaces, placedByte};
+ghost use Rattle.sectors.specs.Laws.Unpacking.Sides.{PlainImage, SideGives, ImageSideGives, DataPlaces, placedByte};
 use crate::Geometry;
 use crate::hfe::track_part;
 use crate::hfe::track_side;
 use crate::search::scan;
 use crate::search::sector_found;
 use cells::Side;
-use sector_rules::Fault;
 use sector_rules::Sector;
 
 // What the nine sectors of a side give, each judged alone (`sectorOf`), R from 1 (§4.6). On a side whose runs were
@@ -46,7 +45,7 @@ pub fn side_sectors(
 // What the nine sectors of the n-th side of an HFE image give (`sectorAt`): image sectors 9n to 9n + 8 (§1.2).
 // `places` gets the cell places of their data (§8.16).
 pub fn image_side(hfe: &[u8], n: usize, places: &mut [usize]) -> [Sector; Geometry::SECTORS]
-    requires { ⌜ (tableFault (now hfe) ≡ Fault.Sound) × (n < tracks * sides) × (length (now places) ≡ sectors) ⌝ }
+    requires { ⌜ PlainImage (now hfe) × (n < tracks * sides) × (length (now places) ≡ sectors) ⌝ }
     ensures { λ r. ⌜ ImageSideGives r (now (hfe .entry)) n × DataPlaces (now (places .exit)) (sideStream (now (hfe .entry)) (n / sides) (n % sides)) (n / sides) (n % sides) ⌝ }
 {
     let track = n / Geometry::SIDES;

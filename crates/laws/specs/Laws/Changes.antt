@@ -1,11 +1,14 @@
--- Functions on numbers that are changed at one number, or at some numbers in a row.
+-- Functions on numbers that are changed at one number, or at some numbers in a row; lists that are filled one element after the other.
 -- Rests on the laws of tests.
+use mathlib.Core.List.{List}
 use mathlib.Core.Path.{_≡_, sym, ap, _∙_, fun-ext}
 use mathlib.Core.Logic.{_≢_}
 use mathlib.Core.Bool.{cond, _&&_}
 use Prim.Native.Nat.{ℕ, _+_, _-_, _≤_, _<_}
 use native.Mathlib.Omega.{arith}
 use lib.Dec.{leb, ltb}
+use lib.ListN.{length, getD, set}
+use lib.Seq.{getD-set-same, getD-set-other}
 use Rattle.laws.specs.Changes.{upd, patch}
 use Rattle.laws.specs.Laws.Cases.{by-order, by-equal}
 use Rattle.laws.specs.Laws.Tests.{lt-true, lt-false, le-true, le-false, eq-true, eq-false, cond-true, cond-false}
@@ -94,3 +97,9 @@ patch-next f o n k g h e =
     (λ c. patch-below f o n g i c ∙ sym (patch-below f o (n + k) g i c))
     (λ c. absurd (omega arith)))
     (λ a. patch-above (patch f o n g) (o + n) k h i a ∙ patch-above f o n g i (omega arith) ∙ sym (patch-above f o (n + k) g i (omega arith))))
+
+-- one element more of a list by a rule: after those below k the one at k
+pub element-more : {A : Type 0} (xs : List A) (none : A) (f : ℕ → A) (k : ℕ) (v : A) → k < length xs
+    → ((i : ℕ) → i < k → getD xs i none ≡ f i) → v ≡ f k → (i : ℕ) → i < k + 1 → getD (set xs k v) i none ≡ f i
+element-more xs none f k v l old e i h =
+    by-equal i k (λ q. rw q (getD-set-same xs k v none l ∙ e)) (λ q. getD-set-other xs k i v none q ∙ old i (omega arith))

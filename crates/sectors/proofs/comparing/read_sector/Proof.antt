@@ -3,6 +3,7 @@
 -- Assumes nothing.
 use mathlib.Core.Path.{refl}
 use Rattle.sectors.specs.Laws.Rewriting.Compared.{bytes-read}
+use Rattle.sectors.specs.Laws.Unpacking.Sides.{plain-cells}
 use borrow.Author.Needs.{needs}
 use Rattle.sectors.proofs.comparing.read_sector.Statement.{statement}
 use Rattle.sectors.proofs.comparing.read_sector.Tie as tie
@@ -23,7 +24,8 @@ returns : tie.Need-returns
 returns c =
     let after-track-side = c .before .before .before in
     let after-track-part = after-track-side .before in
-    bytes-read _ _ _ _ _ (after-track-part .track-part .ensures) (after-track-side .track-side .ensures) _ _ refl (c .before .write-sector .ensures)
+    bytes-read _ _ _ _ (plain-cells _ _ _ _ _ (after-track-part .track-part .ensures) (after-track-side .track-side .ensures)) _ _ refl
+    (c .before .write-sector .ensures)
 
 pub read-sector-spec : {M : Type 1} → statement M
 read-sector-spec =

@@ -4,7 +4,7 @@
 use mathlib.Core.Path.{sym, _∙_}
 use Rattle.laws.specs.Laws.Tests.{not-was}
 use borrow.Author.Tests.{not-false}
-use Rattle.sectors.specs.Laws.Rewriting.Exchanged.{sound-table, result-wrong, result-sectors}
+use Rattle.sectors.specs.Laws.Rewriting.Exchanged.{sound-plain, result-wrong, result-sectors}
 use borrow.Author.Needs.{needs}
 use Rattle.sectors.proofs.comparing.result_right.Statement.{statement}
 use Rattle.sectors.proofs.comparing.result_right.Tie as tie
@@ -30,7 +30,7 @@ sides-right-requires c κs =
     rw (after-header-and-table-right .header-and-table-right .ensures .1) (
       record {
         exchange = start .pre .0;
-        after = sound-table _
+        after = sound-plain _
             (sym (after-header-and-table-right .header-and-table-right .ensures .0) ∙ not-false _ (c .before .if1 .left));
       },
       start .pre .1,

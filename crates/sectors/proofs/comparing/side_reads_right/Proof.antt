@@ -14,7 +14,7 @@ image-side-requires : tie.Need-image-side-requires
 image-side-requires c κs =
     let after-slice-known = c .before .before .before in
     let start = after-slice-known .before in
-    (start .pre .0 .exchange .sound, start .pre .2, search needs)
+    (start .pre .0 .exchange .plain, start .pre .2, search needs)
 
 put-bytes-requires : tie.Need-put-bytes-requires
 put-bytes-requires c κs =

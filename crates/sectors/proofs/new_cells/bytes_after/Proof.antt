@@ -7,7 +7,7 @@ use Prim.Native.Nat.{ℕ, _+_, _-_, _≤_, _<_}
 use lib.ListN.{length, getD, length-set}
 use Rattle.cells.specs.Stream.{stream, packed}
 use Rattle.sector_rules.specs.Rewritten.{cellAfter, changedBytes}
-use Rattle.sectors.specs.Laws.Rewriting.NewCells.{element-more}
+use Rattle.laws.specs.Laws.Changes.{element-more}
 use borrow.Author.Needs.{needs}
 use Rattle.sectors.proofs.new_cells.bytes_after.Statement.{statement}
 use Rattle.sectors.proofs.new_cells.bytes_after.Tie as tie
@@ -43,7 +43,7 @@ loop-again c =
     let start = at-loop .before .before .before in (
       omega arith,
       simp length-set (at-loop .loop .inv .1),
-      element-more (at-loop .loop .bytes)
+      element-more (at-loop .loop .bytes) 0
           (λ (i : ℕ). packed (cellAfter (stream (start .args .part .now) (start .args .side)) (start .args .p) (start .args .row .now))
           (start .args .w .first + i)) (at-loop .loop .j) (c .byte-after .result) (omega arith) (at-loop .loop .inv .2) (c .byte-after .ensures),
     )

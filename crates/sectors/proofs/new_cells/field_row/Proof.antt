@@ -6,7 +6,8 @@ use native.Mathlib.Omega.{arith}
 use Prim.Native.Nat.{ℕ, _-_, _≤_, _<_}
 use lib.ListN.{length, getD, length-set}
 use Rattle.sector_rules.specs.Rewritten.{fieldRow}
-use Rattle.sectors.specs.Laws.Rewriting.NewCells.{element-more, row-whole, row-window}
+use Rattle.laws.specs.Laws.Changes.{element-more}
+use Rattle.sectors.specs.Laws.Rewriting.NewCells.{row-whole, row-window}
 use borrow.Author.Needs.{needs}
 use Rattle.sectors.proofs.new_cells.field_row.Statement.{statement}
 use Rattle.sectors.proofs.new_cells.field_row.Tie as tie
@@ -38,7 +39,7 @@ loop-again c =
     let start = at-loop .before .before in (
       omega arith,
       simp length-set (at-loop .loop .inv .1),
-      element-more (at-loop .loop .row)
+      element-more (at-loop .loop .row) 0
           (λ (i : ℕ). getD (fieldRow (start .args .content .now)) i 0) (at-loop .loop .k) (c .field-byte .result) (omega arith) (at-loop .loop .inv .2)
           (c .field-byte .ensures ∙ row-window _ (start .pre) _),
     )

@@ -31,7 +31,7 @@ returns c =
     (after-track-length .track-length .result / 2 - start .args .p / 8) (c .before .track-start .ensures .0)
     (let le = after-track-length .track-length .ensures in omega (arith, le)) in (
       e,
-      rw e (window-fits _ _ _ _ (start .pre .0) (start .pre .1) (start .pre .2) (start .pre .3)
+      rw e (window-fits _ _ _ _ (start .pre .0 .table) (start .pre .1) (start .pre .2) (start .pre .3)
           (rw (sym (c .before .track-start .ensures .0)) (omega arith)) (rw (sym (after-track-length .track-length .ensures)) (omega arith))),
     )
 
@@ -42,7 +42,7 @@ returns-2 c =
     let e = window-is (start .args .hfe .now) (start .args .track) (start .args .head) (start .args .p) (c .before .track-start .result) changedBytes
     (c .before .track-start .ensures .0) (let le = after-track-length .track-length .ensures in omega (arith, le)) in (
       e,
-      rw e (window-fits _ _ _ _ (start .pre .0) (start .pre .1) (start .pre .2) (start .pre .3)
+      rw e (window-fits _ _ _ _ (start .pre .0 .table) (start .pre .1) (start .pre .2) (start .pre .3)
           (rw (sym (c .before .track-start .ensures .0)) (omega arith)) (rw (sym (after-track-length .track-length .ensures)) (omega arith))),
     )
 

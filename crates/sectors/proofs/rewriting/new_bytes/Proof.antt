@@ -2,6 +2,7 @@
 -- Rests on: the laws in Rewriting/Answered; the contracts of track_part, track_side, field_row and bytes_after.
 -- Assumes nothing.
 use Rattle.sectors.specs.Laws.Rewriting.Answered.{renewed-side}
+use Rattle.sectors.specs.Laws.Unpacking.Sides.{plain-cells}
 use borrow.Author.Needs.{needs}
 use Rattle.sectors.proofs.rewriting.new_bytes.Statement.{statement}
 use Rattle.sectors.proofs.rewriting.new_bytes.Tie as tie
@@ -29,7 +30,8 @@ returns c =
     let after-field-row = c .before .before in
     let after-track-side = after-field-row .before in
     let after-track-part = after-track-side .before in
-    renewed-side _ _ _ _ _ (after-track-part .track-part .ensures) (after-track-side .track-side .ensures) _ _ (after-field-row .field-row .ensures) _
+    renewed-side _ _ _ _ (plain-cells _ _ _ _ _ (after-track-part .track-part .ensures) (after-track-side .track-side .ensures)) _ _
+    (after-field-row .field-row .ensures) _
     _ _ _ (c .bytes-after .ensures)
 
 pub new-bytes-spec : {M : Type 1} → statement M

@@ -87,7 +87,7 @@ rewrite-sector-requires c κs =
     let start = after-slice-known .before in
     let n = arguments-named (start .args .track) (start .args .head) (start .args .sector) (start .args .content .now)
     (sym (after-arguments-right .arguments-right .ensures) ∙ not-false _ (else2 .if2 .left)) in
-    (sym (after-table-fault .table-fault .ensures) ∙ c .before .enum-told2 .given .1, n .track, n .side, n .least, n .most, n .long)
+    (record { table = sym (after-table-fault .table-fault .ensures) ∙ c .before .enum-told2 .given .1 }, n .track, n .side, n .least, n .most, n .long)
 
 same-length-2 : tie.Need-same-length-2
 same-length-2 c = search needs

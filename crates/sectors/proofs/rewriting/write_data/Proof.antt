@@ -49,7 +49,7 @@ result-right-requires c κs =
     let after-changed-bytes = after-take-bytes .before .before in
     let after-slice-known = after-changed-bytes .before .before .before in
     let start = after-slice-known .before in
-    (record { fits = after-changed-bytes .changed-bytes .ensures .1; taken = after-take-bytes .take-bytes .ensures; sound = start .pre .0 }, start .pre .5)
+    (record { fits = after-changed-bytes .changed-bytes .ensures .1; taken = after-take-bytes .take-bytes .ensures; plain = start .pre .0 }, start .pre .5)
 
 refused-requires : tie.Need-refused-requires
 refused-requires c κs = search needs

@@ -31,7 +31,11 @@ returns c = (sym (first-none _ _ _ _ _ (λ j h. three-past _ (rw rest-length (om
 
 loop-holds : tie.Need-loop-holds Inv-loop μ-loop
 unfolding fieldPlace
-loop-holds c = (omega arith, omega arith, let e : c .before .before .before .args .i + 160 + 0 ≡ c .before .before .before .args .i + 160 = omega arith in rw e)
+loop-holds c = (
+  omega arith,
+  omega arith,
+  let e : c .before .before .before .args .i + 160 + 0 ≡ c .before .before .before .args .i + 160 = omega arith in rw e,
+)
 
 add-three-sync : tie.Need-add-three-sync Inv-loop μ-loop
 add-three-sync c = search needs

@@ -6,7 +6,7 @@ use native.Mathlib.Omega.{arith}
 use Prim.Native.Nat.{ℕ, _+_, _-_, _≤_, _<_}
 use lib.ListN.{length, getD, length-set}
 use Rattle.sector_rules.specs.Rewritten.{changedBytes}
-use Rattle.sectors.specs.Laws.Rewriting.NewCells.{element-more}
+use Rattle.laws.specs.Laws.Changes.{element-more}
 use Rattle.sectors.specs.Laws.Rewriting.Changed.{storedPlace}
 use borrow.Author.Needs.{needs}
 use Rattle.sectors.proofs.side_bytes.take_bytes.Statement.{statement}
@@ -60,7 +60,7 @@ loop-again c =
     let start = at-loop .before .before in (
       omega arith,
       simp length-set (at-loop .loop .inv .1),
-      element-more (at-loop .loop .bytes)
+      element-more (at-loop .loop .bytes) 0
           (λ (i : ℕ). getD (start .args .hfe .now) (storedPlace (start .args .w .start) (start .args .w .side) (start .args .w .first + i)) 0)
           (at-loop .loop .j) (getD (start .args .hfe .now) (c .before .stored-place .result) 0) (let n = start .pre .count in omega arith)
           (at-loop .loop .inv .2) (ap (λ (k : ℕ). getD (start .args .hfe .now) k 0) (c .before .stored-place .ensures)),

@@ -1,7 +1,7 @@
 -- `image_side` meets its contract.
 -- Rests on: the laws in Unpacking/Sides; the contracts of track_part, track_side and side_sectors.
 -- Assumes nothing.
-use Rattle.sectors.specs.Laws.Unpacking.Sides.{image-gives, image-places}
+use Rattle.sectors.specs.Laws.Unpacking.Sides.{plain-cells, image-gives, image-places}
 use borrow.Author.Needs.{needs}
 use Rattle.sectors.proofs.sides.image_side.Statement.{statement}
 use Rattle.sectors.proofs.sides.image_side.Tie as tie
@@ -28,12 +28,9 @@ returns : tie.Need-returns
 returns c =
     let after-side-sectors = c .before .before in
     let after-track-side = after-side-sectors .before .before in
-    let after-track-part = after-track-side .before in (
-      image-gives _ _ _ _ (after-track-part .track-part .ensures) (after-track-side .track-side .ensures) _
-          (after-side-sectors .side-sectors .ensures .0),
-      image-places _ _ _ _ (after-track-part .track-part .ensures)
-          (after-track-side .track-side .ensures) _ (after-side-sectors .side-sectors .ensures .1),
-    )
+    let after-track-part = after-track-side .before in
+    let is = plain-cells _ _ _ _ _ (after-track-part .track-part .ensures) (after-track-side .track-side .ensures) in
+    (image-gives _ _ _ is _ (after-side-sectors .side-sectors .ensures .0), image-places _ _ _ is _ (after-side-sectors .side-sectors .ensures .1))
 
 pub image-side-spec : {M : Type 1} → statement M
 image-side-spec =

@@ -10,7 +10,8 @@ use Rattle.sector_rules.specs.declared.Sector.the-variants.{Missing}
 use Rattle.sector_rules.specs.Geometry.{sectors}
 use Rattle.sector_rules.specs.Search.{sectorOf}
 use Rattle.sector_rules.specs.Rewritten.{dataPlace}
-use Rattle.sectors.specs.Laws.Unpacking.Sides.{gives-more, found-gives, places-more, found-place}
+use Rattle.laws.specs.Laws.Changes.{element-more}
+use Rattle.sectors.specs.Laws.Unpacking.Sides.{found-gives, found-place}
 use borrow.Author.Needs.{needs}
 use Rattle.sectors.proofs.sides.side_sectors.Statement.{statement}
 use Rattle.sectors.proofs.sides.side_sectors.Tie as tie
@@ -64,10 +65,10 @@ loop-again c =
     let a = start .args in (
       omega arith,
       simp length-set (at-loop .loop .inv .1),
-      gives-more (at-loop .loop .gives) (λ (j : ℕ). sectorOf (stream (a .part .now) (a .side)) (a .track) (a .head) (j + 1)) (at-loop .loop .k)
+      element-more (at-loop .loop .gives) Missing (λ (j : ℕ). sectorOf (stream (a .part .now) (a .side)) (a .track) (a .head) (j + 1)) (at-loop .loop .k)
           _ (omega arith) (at-loop .loop .inv .2) (c .sector-found .ensures .0
           ∙ found-gives (after-scan .scan .result) _ _ _ (at-loop .loop .k) (after-scan .scan .ensures) (omega arith)),
-      places-more (at-loop .loop .places) (λ (j : ℕ). dataPlace (stream (a .part .now) (a .side)) (a .track) (a .head) (j + 1)) (at-loop .loop .k)
+      element-more (at-loop .loop .places) 0 (λ (j : ℕ). dataPlace (stream (a .part .now) (a .side)) (a .track) (a .head) (j + 1)) (at-loop .loop .k)
           _ (omega arith) (at-loop .loop .inv .3) (c .sector-found .ensures .1
           ∙ found-place (after-scan .scan .result) _ _ _ (at-loop .loop .k) (after-scan .scan .ensures) (omega arith)),
       simp length-set (at-loop .loop .inv .4),

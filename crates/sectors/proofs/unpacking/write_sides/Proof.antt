@@ -11,7 +11,7 @@ use Rattle.laws.specs.Changes.{overlay}
 use Rattle.laws.specs.Laws.Overlay.{overlay-none, overlay-next, overlay-all, overlay-length}
 use Rattle.sector_rules.specs.Geometry.{tracks, sides, sectors, sectorBytes, imageBytes}
 use Rattle.sector_rules.specs.Unpacked.{unpackedByte}
-use Rattle.sectors.specs.Laws.Unpacking.Sides.{side-byte}
+use Rattle.sectors.specs.Laws.Unpacking.Sides.{plain-cells, side-byte}
 use Rattle.sectors.proofs.unpacking.write_sides.Statement.{statement}
 use Rattle.sectors.proofs.unpacking.write_sides.Tie as tie
 
@@ -61,7 +61,7 @@ loop-again c =
       ap length (write-side .ensures) ∙ overlay-length _ _ _ _ ∙ loop .inv .1,
       write-side .ensures ∙ overlay-next
           _ (sectorBytes * (sectors * n)) (sectorBytes * sectors) _ (unpackedByte h) _ (loop .inv .2)
-          (side-byte h n _ _ (after-track-part .track-part .ensures) (after-track-side .track-side .ensures) _
+          (side-byte h n _ (plain-cells _ _ _ _ _ (after-track-part .track-part .ensures) (after-track-side .track-side .ensures)) _
           (start .pre .3 .each) (omega arith)) ∙ ap (λ (j : ℕ). overlay (start .args .image .now) 0 j (unpackedByte h)) q,
     )
 

@@ -119,17 +119,10 @@ module _ (h : List ℕ) (t s r n : ℕ) (ht : t < tracks) (hs : s < sides) (hl :
       let e : r - 1 + 1 ≡ r = omega arith in
       x .each (r - 1) (omega arith) ∙ rw (a, b, e)
 
--- ---- what the code reads of the sector's side
-
-module _ (h : List ℕ) (t s : ℕ) (part : List ℕ) (side : Side) (is-part : part ≡ trackPart h t) (is-side : side ≡ hfeSide s (trackLength h t)) where
-  side-is : stream part side ≡ sideStream h t s
-  unfolding sideStream
-  side-is = rw (is-part, is-side)
-
-  -- the new bytes of the side
-  pub renewed-side : (d row : List ℕ) → row ≡ fieldRow d → (p b n : ℕ) (xs : List ℕ) → Renewed (stream part side) p row b n xs
-      → Renewed (sideStream h t s) p (fieldRow d) b n xs
-  renewed-side d row e p b n xs x = rw (side-is, e) at x
+-- the new bytes of a side, by its cells and the row that the code has
+pub renewed-side : (h : List ℕ) (t s : ℕ) (c : List ℕ) → c ≡ sideStream h t s → (d row : List ℕ) → row ≡ fieldRow d → (p b n : ℕ) (xs : List ℕ)
+    → Renewed c p row b n xs → Renewed (sideStream h t s) p (fieldRow d) b n xs
+renewed-side h t s c is d row e p b n xs x = rw (is, e) at x
 
 -- ---- the reply and the image
 

@@ -126,26 +126,20 @@ module _ (h g : List ℕ) (m : ℕ) (d : List ℕ) (q : ℕ) where
 pub own-named : (h g : List ℕ) (m : ℕ) (d : List ℕ) (q : ℕ) → q ≡ m → (r : Bool) → r ≡ sectorRight h g q d q → r ≡ sectorRight h g m d q
 own-named h g m d q e r is = is ∙ ap (λ (k : ℕ). sectorRight h g k d q) e
 
--- ---- the bytes of a sector, by the part and the side that the code hands on
+-- ---- the bytes of a sector, by the cells of its side
 
-module _ (h : List ℕ) (q p : ℕ) (part : List ℕ) (side : Side) (is-part : part ≡ trackPart h (trackOf q))
-    (is-side : side ≡ hfeSide (sideOf q) (trackLength h (trackOf q))) where
-  -- the cells are those of the sector's side
-  sector-side : stream part side ≡ sideStream h (trackOf q) (sideOf q)
-  unfolding sideStream
-  sector-side = rw (is-part, is-side)
-
+module _ (h : List ℕ) (q p : ℕ) (c : List ℕ) (is : c ≡ sideStream h (trackOf q) (sideOf q)) where
   -- a byte as the code reads it is a byte of the sector
-  pub byte-read : (k v : ℕ) → k < sectorBytes → v ≡ dataByte (from (stream part side) p) (16 * k) → v ≡ getD (bytesAt h q p) k 0
+  pub byte-read : (k v : ℕ) → k < sectorBytes → v ≡ dataByte (from c p) (16 * k) → v ≡ getD (bytesAt h q p) k 0
   unfolding sectorByte
   byte-read k v l e =
-      e ∙ ap (λ (c : List ℕ). dataByte (from c p) (16 * k)) sector-side
+      e ∙ ap (λ (x : List ℕ). dataByte (from x p) (16 * k)) is
       ∙ sym (tab-in (sectorByte (sideStream h (trackOf q) (sideOf q)) p) sectorBytes k l)
 
   -- 512 bytes that the code writes over a list of 512 are those of the sector
-  pub bytes-read : (d out : List ℕ) → length d ≡ sectorBytes → out ≡ overlay d 0 sectorBytes (sectorByte (stream part side) p) → out ≡ bytesAt h q p
+  pub bytes-read : (d out : List ℕ) → length d ≡ sectorBytes → out ≡ overlay d 0 sectorBytes (sectorByte c p) → out ≡ bytesAt h q p
   bytes-read d out l e =
-      e ∙ overlay-all d sectorBytes (sectorByte (stream part side) p) l ∙ ap (λ (c : List ℕ). tab (sectorByte c p) sectorBytes) sector-side
+      e ∙ overlay-all d sectorBytes (sectorByte c p) l ∙ ap (λ (x : List ℕ). tab (sectorByte x p) sectorBytes) is
 
 module _ (h : List ℕ) (q p : ℕ) (bytes : List ℕ) where
   -- where one byte differs, the bytes are not the same

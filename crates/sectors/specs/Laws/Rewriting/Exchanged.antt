@@ -18,18 +18,19 @@ use Rattle.sector_rules.specs.Geometry.{tracks, sides, sectors, allSectors}
 use Rattle.sector_rules.specs.Hfe.{hfeHeaderFault, tableFault}
 use Rattle.sector_rules.specs.Rewritten.{hfeRefusal, sectorRight, resultRight}
 use Rattle.sectors.specs.declared.SideBytes.{SideBytes}
+use Rattle.sectors.specs.Laws.Unpacking.Sides.{PlainImage}
 use Rattle.sectors.specs.Laws.Rewriting.Changed.{SideBytesFit, Taken, changed, changed-size, changed-back}
 
--- an image whose table is right, and the bytes of it that are exchanged
+-- an image whose sides are read as they are stored, and the bytes of it that are exchanged
 pub record Exchange (h : List ℕ) (w : SideBytes) (old : List ℕ) : Type 0 where
   pub fits : SideBytesFit w (length h)
   pub taken : Taken h w old
-  pub sound : tableFault h ≡ Sound
+  pub plain : PlainImage h
 
--- the same, with new bytes for them, with which the table is right too
+-- the same, with new bytes for them, with which the sides are read so too
 pub record Exchanges (h : List ℕ) (w : SideBytes) (old new : List ℕ) : Type 0 where
   pub exchange : Exchange h w old
-  pub after : tableFault (changed h w new) ≡ Sound
+  pub after : PlainImage (changed h w new)
 
 module _ (h : List ℕ) (w : SideBytes) (old : List ℕ) (x : Exchange h w old) (new : List ℕ) where
   -- the bytes lie within the image with the new ones too
@@ -58,10 +59,10 @@ module _ (g : List ℕ) where
       both Sound (At o) = refl
       both Sound Sound = refl
 
-  -- where neither is given the table is right
-  pub sound-table : not (isSome (hfeRefusal g)) ≡ true → tableFault g ≡ Sound
+  -- where neither is given the sides are read as they are stored
+  pub sound-plain : not (isSome (hfeRefusal g)) ≡ true → PlainImage g
   unfolding isSome orElse
-  sound-table e = second (hfeHeaderFault g) (tableFault g) e
+  sound-plain e = record { table = second (hfeHeaderFault g) (tableFault g) e }
     where
       second : (a b : Fault) → not (isSome (orElse (refusalAt 2 a) (refusalAt 3 b))) ≡ true → b ≡ Sound
       second (At o) b z = true≢false false z refl

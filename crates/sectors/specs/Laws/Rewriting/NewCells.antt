@@ -5,11 +5,10 @@ use mathlib.Core.Path.{_≡_, sym, ap, _∙_}
 use Prim.Native.Nat.{ℕ, _+_, _<_}
 use native.Mathlib.Nat.{zero-add}
 use native.Mathlib.Omega.{arith}
-use lib.ListN.{length, getD, set, length-append}
-use lib.Seq.{ext-getD, getD-set-same, getD-set-other}
+use lib.ListN.{length, getD, length-append}
+use lib.Seq.{ext-getD}
 use Rattle.laws.specs.Lists.{tab, window}
 use Rattle.laws.specs.Numbers.{highByte}
-use Rattle.laws.specs.Laws.Cases.{by-equal}
 use Rattle.laws.specs.Laws.Tab.{tab-length, eq-window}
 use Rattle.cells.specs.Stream.{packed}
 use Rattle.sector_rules.specs.Geometry.{sectorBytes}
@@ -20,14 +19,6 @@ use Rattle.sector_rules.specs.Rewritten.{fieldRow, cellAfter}
 -- n bytes of a side with the cells c, from byte b on, once the row is written from place p on
 pub record Renewed (c : List ℕ) (p : ℕ) (row : List ℕ) (b n : ℕ) (xs : List ℕ) : Type 0 where
   pub each : (j : ℕ) → j < n → getD xs j 0 ≡ packed (cellAfter c p row) (b + j)
-
--- ---- a list that is made element by element
-
--- one element more, after those before it
-pub element-more : (xs : List ℕ) (f : ℕ → ℕ) (k v : ℕ) → k < length xs → ((i : ℕ) → i < k → getD xs i 0 ≡ f i) → v ≡ f k
-    → (i : ℕ) → i < k + 1 → getD (set xs k v) i 0 ≡ f i
-element-more xs f k v l old e i h =
-    by-equal i k (λ q. rw q (getD-set-same xs k v 0 l ∙ e)) (λ q. getD-set-other xs k i v 0 q ∙ old i (omega arith))
 
 -- ---- the row of a data field
 

@@ -4,21 +4,20 @@ use mathlib.Core.List.{List}
 use mathlib.Core.Path.{_≡_, sym, _∙_}
 use Prim.Native.Nat.{ℕ, _+_, _*_, _/_, _%_, _<_}
 use native.Mathlib.Omega.{arith}
-use lib.ListN.{length, getD, set}
-use lib.Seq.{getD-set-same, getD-set-other}
+use lib.ListN.{getD}
 use Rattle.laws.specs.Changes.{overlay}
-use Rattle.laws.specs.Laws.Cases.{by-equal}
 use Rattle.laws.specs.Laws.Tab.{tab-in}
 use Rattle.laws.specs.Laws.Overlay.{overlay-on}
 use Rattle.cells.specs.Stream.{stream, hfeSide}
 use Rattle.cells.specs.declared.Side.{Side}
+use Rattle.sector_rules.specs.declared.Fault.the-variants.{Sound}
 use Rattle.sector_rules.specs.declared.Found.{Found}
 use Rattle.sector_rules.specs.declared.Found.the-variants.{Nothing}
 use Rattle.sector_rules.specs.declared.Sector.{Sector}
 use Rattle.sector_rules.specs.declared.Sector.the-variants.{Delivered, Missing}
 use Rattle.sector_rules.specs.Geometry.{tracks, sides, sectors, allSectors, sectorBytes}
 use Rattle.sector_rules.specs.Search.{sectorFound, sectorOf, sectorByte, deliveredBytes}
-use Rattle.sector_rules.specs.Hfe.{trackLength, trackPart, sideStream}
+use Rattle.sector_rules.specs.Hfe.{tableFault, trackLength, trackPart, sideStream}
 use Rattle.sector_rules.specs.Unpacked.{trackOf, sideOf, sectorBytesAt, sectorAt, unpackedByte}
 use Rattle.sector_rules.specs.Rewritten.{dataPlaceOf, dataPlace}
 use Rattle.sectors.specs.Laws.Reading.Search.{BySector, Scanned}
@@ -41,27 +40,11 @@ placedByte c places at k = sectorByte c (getD places (at + k / sectorBytes) 0) (
 
 -- ---- what the sectors give
 
--- one more answer, after those of the sectors before it
-pub gives-more : (r : List Sector) (give : ℕ → Sector) (k : ℕ) (v : Sector) → k < length r
-    → ((j : ℕ) → j < k → getD r j Missing ≡ give j) → v ≡ give k → (j : ℕ) → j < k + 1 → getD (set r k v) j Missing ≡ give j
-gives-more r give k v l old e j h =
-    by-equal j k
-    (λ (q : j ≡ k). rw q (getD-set-same r k v Missing l ∙ e))
-    (λ (q : j ≡ k → ⊥). getD-set-other r k j v Missing q ∙ old j (omega arith))
-
 -- the search's answer gives what the sector gives
 pub found-gives : (found : List Found) (c : List ℕ) (t s k : ℕ) → Scanned found c t s → k < sectors
     → sectorFound c (getD found k Nothing) ≡ sectorOf c t s (k + 1)
 unfolding sectorOf
 found-gives found c t s k x h = rw (x .each k h)
-
--- one more place, after those of the sectors before it
-pub places-more : (places : List ℕ) (give : ℕ → ℕ) (k v : ℕ) → k < length places
-    → ((j : ℕ) → j < k → getD places j 0 ≡ give j) → v ≡ give k → (j : ℕ) → j < k + 1 → getD (set places k v) j 0 ≡ give j
-places-more places give k v l old e j h =
-    by-equal j k
-    (λ (q : j ≡ k). rw q (getD-set-same places k v 0 l ∙ e))
-    (λ (q : j ≡ k → ⊥). getD-set-other places k j v 0 q ∙ old j (omega arith))
 
 -- the search's answer gives the place of the sector's data
 pub found-place : (found : List Found) (c : List ℕ) (t s k : ℕ) → Scanned found c t s → k < sectors
@@ -69,44 +52,53 @@ pub found-place : (found : List Found) (c : List ℕ) (t s k : ℕ) → Scanned 
 unfolding dataPlace
 found-place found c t s k x h = rw (x .each k h)
 
--- ---- the n-th side of an HFE image, by the part and the side that the code hands on
+-- ---- the cells of a side, as the code reads them
 
-module _ (h : List ℕ) (n : ℕ) (part : List ℕ) (side : Side)
-    (is-part : part ≡ trackPart h (n / sides)) (is-side : side ≡ hfeSide (n % sides) (trackLength h (n / sides))) where
+-- an HFE image whose sides are read as they are stored: its table is right
+pub record PlainImage (h : List ℕ) : Type 0 where
+  pub table : tableFault h ≡ Sound
+
+-- the cells of the part and the side that the code hands on are those of the image's side
+pub plain-cells : (h : List ℕ) (t s : ℕ) (part : List ℕ) (side : Side) → part ≡ trackPart h t → side ≡ hfeSide s (trackLength h t)
+    → stream part side ≡ sideStream h t s
+unfolding sideStream
+plain-cells h t s part side is-part is-side = rw (is-part, is-side)
+
+-- ---- the n-th side of an HFE image, by its cells
+
+module _ (h : List ℕ) (n : ℕ) (c : List ℕ) (is : c ≡ sideStream h (n / sides) (n % sides)) where
   -- its cells are those of each of its nine sectors
-  stream-is : (k : ℕ) → k < sectors → stream part side ≡ sideStream h (trackOf (sectors * n + k)) (sideOf (sectors * n + k))
-  unfolding sideStream
-  stream-is k l =
+  cells-are : (k : ℕ) → k < sectors → c ≡ sideStream h (trackOf (sectors * n + k)) (sideOf (sectors * n + k))
+  cells-are k l =
       let t : trackOf (sectors * n + k) ≡ n / sides = omega arith in
       let s : sideOf (sectors * n + k) ≡ n % sides = omega arith in
-      rw (t, s, is-part, is-side)
+      rw (t, s) is
 
-  sector-is : (k : ℕ) → k < sectors → sectorOf (stream part side) (n / sides) (n % sides) (k + 1) ≡ sectorAt h (sectors * n + k)
+  sector-is : (k : ℕ) → k < sectors → sectorOf c (n / sides) (n % sides) (k + 1) ≡ sectorAt h (sectors * n + k)
   unfolding sectorAt
   sector-is k l =
       let t : trackOf (sectors * n + k) ≡ n / sides = omega arith in
       let s : sideOf (sectors * n + k) ≡ n % sides = omega arith in
       let r : (sectors * n + k) % sectors ≡ k = omega arith in
-      rw (← stream-is k l, t, s, r)
+      rw (← cells-are k l, t, s, r)
 
   -- what the sectors of a side's cells give is what the image sectors of that side give
-  pub image-gives : (r : List Sector) → SideGives r (stream part side) (n / sides) (n % sides) → ImageSideGives r h n
+  pub image-gives : (r : List Sector) → SideGives r c (n / sides) (n % sides) → ImageSideGives r h n
   image-gives r x = record { long = x .long; each = λ k l. x .each k l ∙ sector-is k l }
 
   -- the places of the data on a side's cells are those on that side of the image
-  pub image-places : (places : List ℕ) → DataPlaces places (stream part side) (n / sides) (n % sides)
+  pub image-places : (places : List ℕ) → DataPlaces places c (n / sides) (n % sides)
       → DataPlaces places (sideStream h (n / sides) (n % sides)) (n / sides) (n % sides)
-  unfolding sideStream
-  image-places places x = rw (is-part, is-side) at x
+  image-places places x = rw is at x
 
   -- byte k of the side's nine sectors is a byte of the block image
   pub side-byte : (places : List ℕ) → ((m : ℕ) → m < allSectors → sectorAt h m ≡ Delivered (getD places m 0)) → n < tracks * sides
-      → (k : ℕ) → k < sectorBytes * sectors → placedByte (stream part side) places (sectors * n) k ≡ unpackedByte h (sectorBytes * (sectors * n) + k)
+      → (k : ℕ) → k < sectorBytes * sectors → placedByte c places (sectors * n) k ≡ unpackedByte h (sectorBytes * (sectors * n) + k)
   unfolding unpackedByte sectorBytesAt deliveredBytes placedByte
   side-byte places noted b k l =
       let m : (sectorBytes * (sectors * n) + k) / sectorBytes ≡ sectors * n + k / sectorBytes = omega arith in
       let o : (sectorBytes * (sectors * n) + k) % sectorBytes ≡ k % sectorBytes = omega arith in
-      rw (m, o, noted (sectors * n + k / sectorBytes) (omega arith), stream-is (k / sectorBytes) (omega arith))
+      rw (m, o, noted (sectors * n + k / sectorBytes) (omega arith), cells-are (k / sectorBytes) (omega arith))
       (sym
       (tab-in
       (sectorByte (sideStream h (trackOf (sectors * n + k / sectorBytes)) (sideOf (sectors * n + k / sectorBytes)))
