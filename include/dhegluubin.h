@@ -1,16 +1,16 @@
 /*
  * QL double-density disks in HFE images.
  *
- * An HFE image (version 1) is read into a block image and written from one, and one sector of it can
- * be rewritten. On the block image a disk is formatted and checked, and files are listed, read, added
- * and removed.
+ * An HFE image of version 1 or 3 is read into a block image. One of version 1 is written from a
+ * block image, and one sector of it can be rewritten. On the block image a disk is formatted and
+ * checked, and files are listed, read, added and removed.
  *
  * For every function:
  *
  * - It answers with a number and three places. Number 0 means done. Every other number is a
  *   refusal, which says what is wrong, with places that say where: see enum dheg_number. Tests run
- *   from number 1 upwards, only that dheg_rewrite has 12 right after 1, and the first that fails is
- *   the answer. A place that is not named is 0.
+ *   from number 1 upwards, only that dheg_unpack has 18 right after 3 and dheg_rewrite 12 right after
+ *   1, and the first that fails is the answer. A place that is not named is 0.
  * - A refused call changes nothing: every lent byte is as it was.
  * - Any contents and any lengths may be passed; what cannot be done is refused.
  * - File names are equal if they have the same length and the same bytes, where a capital letter
@@ -71,7 +71,8 @@ enum dheg_number {
      * track. The HFE image is judged first. */
     DHEG_LENGTH = 1,
     /* The HFE header is wrong. `first` is the offset of the lowest wrong field: 0, 8, 9, 10, 11,
-     * 12, 18, 22, 23, 24 or 25. */
+     * 12, 18, 22, 23, 24 or 25. Field 0 are the letters of the version: dheg_unpack takes those of
+     * versions 1 and 3, dheg_rewrite those of version 1. */
     DHEG_HFE_HEADER = 2,
     /* An entry of the track table is not good. `first` is the lowest such track. */
     DHEG_TRACK_TABLE = 3,
@@ -109,7 +110,12 @@ enum dheg_number {
     DHEG_BUFFER_TOO_SHORT = 16,
     /* With the sector rewritten the image would be misread: this sector would not give its new data,
      * another would not give what it gave before, or the track table would be wrong. */
-    DHEG_MISREAD = 17
+    DHEG_MISREAD = 17,
+    /* A side of a version 3 image has a wrong code: a weak area (F4), one that is reserved (F5 to FF),
+     * an F3 with a count over 7, or an F2 or F3 that lacks bytes of its own. `first` is the track,
+     * `second` the side, `third` the place of the code among the bytes of its side, from 0: the first
+     * by track, then side, then place. */
+    DHEG_WRONG_CODE = 18
 };
 
 /* An answer. */
@@ -130,11 +136,26 @@ typedef struct {
  * track, side and sector number. All 1,440 sectors are judged before the first byte is written.
  * Tracks and table may stand anywhere in the HFE image, even one over another.
  *
- * Done: all of `image` is written; the places are 0. Refused: nothing is changed, and
+ * Two versions are read, by bytes 0 to 7: version 1 has HXCPICFE, version 3 HXCHFEV3. In version 1
+ * each byte of a side gives eight cells, its lowest bit first. In version 3 codes may stand among
+ * these bytes, read with the first cell as the highest bit: F0 to F4 hex are stored as 0F, 8F, 4F, CF
+ * and 2F, so that a code is a byte whose lowest four bits are all 1.
+ *
+ *   F0, F1   nothing; index
+ *   F2       the next byte is a bit rate, of any value
+ *   F3       the next byte is a count, 0 to 7, read as codes are; of the byte after it so many first
+ *            cells, its lowest bits, are dropped, and that byte is data, whatever it looks like
+ *   F4       a weak area: not accepted, nor are F5 to FF, which are reserved
+ *
+ * Only data give cells: eight a byte, but for the byte after a count.
+ *
+ * Done: all of `image` is written; the places are 0. Refused: nothing is changed, and, in this order,
  *
  *   1      `first`: 1 `hfe` has under 1,024 bytes, 2 `image` has not 737,280
  *   2      `first`: offset of the lowest wrong field of the HFE header
  *   3      `first`: lowest track whose table entry is not good
+ *   18     `first`, `second`, `third`: track, side and place of the first wrong code; only of version
+ *          3, and all 160 sides are judged for it before any sector is
  *   4..7   `first`, `second`, `third`: track, side and R of the first bad sector; 4 no header, 5 two
  *          or more, 6 no data field, 7 wrong CRC of the data
  *
@@ -144,8 +165,8 @@ typedef struct {
 dheg_reply dheg_unpack(const uint8_t *hfe, size_t hfe_len, uint8_t *image, size_t image_len);
 
 /*
- * Writes a block image of 737,280 bytes as an HFE image of 2,008,064 bytes. The block image may hold
- * anything. dheg_unpack accepts what is written and gives the same block image back.
+ * Writes a block image of 737,280 bytes as an HFE image of version 1 with 2,008,064 bytes. The block
+ * image may hold anything. dheg_unpack accepts what is written and gives the same block image back.
  *
  * Done: all of `hfe` is written; the places are 0. Refused: nothing is changed, and
  *
@@ -157,11 +178,11 @@ dheg_reply dheg_unpack(const uint8_t *hfe, size_t hfe_len, uint8_t *image, size_
 dheg_reply dheg_pack(const uint8_t *image, size_t image_len, uint8_t *hfe, size_t hfe_len);
 
 /*
- * Writes 512 bytes as the data of one sector of an HFE image of at least 1,024 bytes: track 0 to 79,
- * side 0 or 1, `r` 1 to 9. In the sector's data field, after its mark, the cells of the data and of
- * their CRC are written and, where two or more cells follow on the side, the clock cell after the
- * CRC. Every other cell stays, so that gaps are kept. The CRC that the field had may be wrong, and
- * dheg_unpack may refuse the image for other sectors.
+ * Writes 512 bytes as the data of one sector of an HFE image of version 1 with at least 1,024 bytes:
+ * track 0 to 79, side 0 or 1, `r` 1 to 9. In the sector's data field, after its mark, the cells of
+ * the data and of their CRC are written and, where two or more cells follow on the side, the clock
+ * cell after the CRC. Every other cell stays, so that gaps are kept. The CRC that the field had may be
+ * wrong, and dheg_unpack may refuse the image for other sectors.
  *
  * Done: this sector gives the data, and every other one what it gave before, bytes or refusal, even
  * if it has some of the cells too; the places are 0. Refused: nothing is changed, and, in this order,
@@ -169,7 +190,7 @@ dheg_reply dheg_pack(const uint8_t *image, size_t image_len, uint8_t *hfe, size_
  *   1      `first`: 1 `hfe` has under 1,024 bytes
  *   12     `track` is over 79, `side` over 1, `r` is not 1 to 9 or `data` has not 512 bytes; no place
  *          is named
- *   2      `first`: offset of the lowest wrong field of the HFE header
+ *   2      `first`: offset of the lowest wrong field of the HFE header; 0 for an image of version 3
  *   3      `first`: lowest track whose table entry is not good
  *   4..6   `first`, `second`, `third`: track, side and R of this sector; 4 no header, 5 two or more,
  *          6 no data field

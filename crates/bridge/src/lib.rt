@@ -12,7 +12,7 @@ ghost use Rattle.file_rules.specs.FirstTrack.{firstTrackResult};
 use file_rules::FirstTrack;
 use sector_rules::Reply;
 
-// The call unpack (§8.1).
+// The call unpack, of both HFE versions (§8.1).
 #[no_mangle]
 pub extern "C" fn dheg_unpack(hfe: &[u8], image: &mut [u8]) -> Reply
     ensures { λ r. ⌜ (r ≡ unpackReply (now (hfe .entry)) (length (now (image .entry)))) × (now (image .exit) ≡ unpackImage (now (hfe .entry)) (now (image .entry))) ⌝ }
@@ -28,7 +28,7 @@ pub extern "C" fn dheg_pack(image: &[u8], hfe: &mut [u8]) -> Reply
     sectors::pack(image, hfe)
 }
 
-// The call rewrite (§8.15).
+// The call rewrite, of HFE version 1 alone (§8.15).
 #[no_mangle]
 pub extern "C" fn dheg_rewrite(
     hfe: &mut [u8],

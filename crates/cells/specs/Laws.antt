@@ -1,4 +1,4 @@
--- Laws of the definitions: what proofs cite, so that no proof elsewhere opens a definition. No contract and no statement outside cites them.
+-- Laws of the definitions: what proofs cite, so that no proof elsewhere opens a definition. No public contract and no statement outside cites them.
 pub mod Stream
 pub mod Number
 pub mod Sync
@@ -16,3 +16,8 @@ pub mod Few
 pub mod Bits
 pub mod Caught
 pub mod Chance
+pub mod CodeValues
+pub mod Codes
+pub mod CodesRead
+pub mod CodesAppended
+pub mod CodeSteps

@@ -18,8 +18,8 @@ cellAt part s i = getD part (bytePlace s (i / 8)) 0 / 2 ^ (i % 8) % 2
 unfoldable pub stream : List ℕ → Side → List ℕ
 stream part s = tab (cellAt part s) (s .cells)
 
--- where side h lies in an HFE track of so many bytes: each unit is 256 bytes of side 0 and then 256 of side 1, and a side has half the length,
--- eight cells for each of its bytes (§2.6 §3.2)
+-- where side h lies in an HFE track of so many bytes: each unit is 256 bytes of side 0 and then 256 of side 1, and a side has half the length;
+-- its bytes store eight cells each (§2.6 §3.1)
 abbrev pub hfeSide : ℕ → ℕ → Side
 hfeSide h bytes = record { first = 256 * h; stride = 512; cells = 8 * (bytes / 2) }
 

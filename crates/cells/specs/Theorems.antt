@@ -1,4 +1,4 @@
--- The promises of this crate. Passed on from Caught.antt, where they are proved: those of wrong bits. Stated here, below: what is written is read, three sync
+-- The promises of this crate. Passed on from where they are proved: those of wrong bits and of codes. Stated here, below: what is written is read, three sync
 -- bytes in a row stand only where they were written, and values.
 -- Rests on the laws of a written row.
 
@@ -13,6 +13,12 @@ pub use Rattle.cells.specs.Caught.{crc-zero}
 pub use Rattle.cells.specs.Caught.{one-in-65536}
 -- seventeen-pass: four wrong bits among 17 can pass
 pub use Rattle.cells.specs.Caught.{seventeen-pass}
+-- ---- codes among the bytes of a side (CodeValues.antt)
+
+-- code-values: codes and counts as they are stored, what bytes with codes give, and wrong codes with their places, by value
+pub use Rattle.cells.specs.Laws.CodeValues.{code-values}
+-- code-steps: what each code, with the bytes that belong to it, and each byte of data gives, whatever follows
+pub use Rattle.cells.specs.Laws.CodeSteps.{code-steps}
 -- what the statements here cite
 use mathlib.Core.List.{[], _∷_}
 use mathlib.Core.Path.{_≡_, refl, sym, ap, _∙_}

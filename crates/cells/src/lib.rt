@@ -1,10 +1,13 @@
 // Layer 1: the cells of one side of a track, the bytes and sync marks in them, and the CRC.
 // Every function takes any slice, side, place and count: cells past the end read as 0.
+mod codes;
 mod crc;
 mod mfm;
 mod stream;
 mod sync;
 
+pub use codes::coded_cells;
+pub use codes::judge_codes;
 pub use crc::START;
 pub use crc::crc_at;
 pub use crc::crc_byte;
@@ -25,7 +28,7 @@ pub use sync::sync_at;
 pub use sync::three_sync;
 
 // Where the bytes of a side lie in the track's part of an image: runs of 256 bytes, the first of them at `first`, each
-// `stride` bytes after the one before; and how many cells the side has (§2.6).
+// `stride` bytes after the one before; and how many cells they store (§2.6).
 pub struct Side {
     pub first: u32,
     pub stride: u32,
@@ -37,4 +40,15 @@ pub enum Item {
     Plain(u8),
     Sync,
     Index,
+}
+
+// What the next byte of a side with codes is, by those before it: any byte, which may be a code; the bit rate after an F2;
+// the count after an F3; the byte of which so many cells are dropped. Each names the place of its code. After a wrong
+// code, the place of that code (§2.7 §2.9).
+pub enum Expected {
+    Any,
+    Rate(usize),
+    Count(usize),
+    Partial(usize, usize),
+    Wrong(usize),
 }

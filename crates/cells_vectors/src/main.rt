@@ -1,6 +1,8 @@
-// Published values of the cell layer, computed by the proved functions and printed; the file
-// `stdout` has what they must be.
+// Published values of the cell layer, and for codes some reckoned by hand, computed by the proved functions and printed;
+// the file `stdout` has what they must be.
+use cells::Expected;
 use cells::Item;
+use cells::Side;
 
 // The CRC of a row of bytes, from the register's start.
 fn crc_of(s: &[u8]) -> u16 {
@@ -86,9 +88,69 @@ fn odd_values() {
     );
 }
 
+// A side of so many bytes that lie in a row.
+fn in_row(bytes: u8) -> Side {
+    Side {
+        first: 0,
+        stride: 256,
+        cells: 8 * (bytes as u32),
+    }
+}
+
+// The place of a wrong code.
+fn place(name: &[u8], x: Expected) {
+    io::write_all(1, name);
+    if let Expected::Wrong(p) = x {
+        io::write_all(1, b" wrong at ");
+        io::print_hex(1, p as u64, 4);
+    } else {
+        io::write_all(1, b" right");
+    }
+    io::write_all(1, b"\n");
+}
+
+// A byte as a number to print: read through a function, no need asks that it fits.
+fn wide(b: u8) -> u16 {
+    b as u16
+}
+
+// F1; F2 with its bit rate; F3, the count 3 and a byte that looks like F3; a byte of data: 5 cells and then 8.
+const CODES: [u8; 7] = [0x8F, 0x4F, 0xFF, 0xCF, 0xC0, 0xCF, 0x9B];
+
+// The cells that these give, in a buffer with one byte more and in one of the same length.
+fn cells_given() {
+    let codes = CODES;
+    let mut buffer = [0u8; 8];
+    let given = cells::coded_cells(&codes, in_row(7), &mut buffer);
+    line(b"cells given", (given.cells % 65536) as u16);
+    line(b"their first byte", wide(buffer[0]));
+    line(b"their second byte", wide(buffer[1]));
+    let mut short = [0u8; 7];
+    let none = cells::coded_cells(&codes, in_row(7), &mut short);
+    line(b"cells given, short buffer", (none.cells % 65536) as u16);
+}
+
+// The same codes whole and cut, a count of 8, and a weak area.
+fn wrong_codes() {
+    let codes = CODES;
+    place(b"codes", cells::judge_codes(&codes, in_row(7)));
+    place(b"codes cut after F3", cells::judge_codes(&codes, in_row(4)));
+    place(
+        b"codes cut after the count",
+        cells::judge_codes(&codes, in_row(5)),
+    );
+    place(
+        b"count 8",
+        cells::judge_codes(b"\x9B\xCF\x10\x9B", in_row(4)),
+    );
+    place(b"weak area", cells::judge_codes(b"\x9B\x0F\x2F", in_row(3)));
+}
+
 fn main() {
     crc_values();
     mfm_values();
     sync_values();
     odd_values();
+    cells_given();
+    wrong_codes();
 }

@@ -10,3 +10,4 @@ pub mod Overlay
 pub mod Count
 pub mod Firsts
 pub mod Numbers
+pub mod Options

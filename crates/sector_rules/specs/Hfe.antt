@@ -1,6 +1,6 @@
 -- The HFE image to read: its header, track table and sides (docs/RULES.md, section 2), and what 2 and 3 judge (section 7).
 -- Assumes nothing: these are definitions.
-use mathlib.Core.Bool.{Bool, _&&_, _||_, not}
+use mathlib.Core.Bool.{Bool, cond, _&&_, _||_, not}
 use mathlib.Core.List.{List, [], _∷_}
 use Prim.Native.Nat.{ℕ, _+_, _*_, _%_}
 use lib.Dec.{leb, ltb, eqb}
@@ -8,15 +8,28 @@ use lib.ListN.{length, getD, take, drop}
 use Rattle.laws.specs.Lists.{standsAt}
 use Rattle.laws.specs.Numbers.{quotientUp, lowFirst}
 use Rattle.cells.specs.Stream.{stream, hfeSide}
+use Rattle.cells.specs.Codes.{storedBytes, Decoded, coded, cellsOf}
 use Rattle.sector_rules.specs.declared.Fault.{Fault}
 use Rattle.sector_rules.specs.Faults.{wrongAt, orFault, lowestFault}
 use Rattle.sector_rules.specs.Geometry.{tracks, sides}
 
 -- ---- the header
 
--- the letters of bytes 0 to 7: HXCPICFE (§2.2)
+-- the letters of bytes 0 to 7 in version 1: HXCPICFE (§2.2)
 unfoldable pub hfeSignature : List ℕ
 hfeSignature = 0x48 ∷ 0x58 ∷ 0x43 ∷ 0x50 ∷ 0x49 ∷ 0x43 ∷ 0x46 ∷ 0x45 ∷ []
+
+-- the letters of bytes 0 to 7 in version 3: HXCHFEV3 (§2.2)
+unfoldable pub version3Signature : List ℕ
+version3Signature = 0x48 ∷ 0x58 ∷ 0x43 ∷ 0x48 ∷ 0x46 ∷ 0x45 ∷ 0x56 ∷ 0x33 ∷ []
+
+-- the image is of version 1 (§2.2)
+unfoldable pub isVersion1 : List ℕ → Bool
+isVersion1 h = standsAt h 0 hfeSignature
+
+-- the image is of version 3 (§2.2)
+unfoldable pub isVersion3 : List ℕ → Bool
+isVersion3 h = standsAt h 0 version3Signature
 
 -- byte o of an image, where fields of the header are one byte (§2.2 §2.3)
 abbrev pub byteAt : List ℕ → ℕ → ℕ
@@ -42,13 +55,21 @@ formatFault h =
 unfoldable pub flagFault : List ℕ → ℕ → Fault
 flagFault h o = orFault (wrongAt o (flagRight h o)) (wrongAt (o + 1) (afterFlagRight h o))
 
--- the lowest wrong field: letters, fields 8 to 12, the table's unit, which is 1 or more, and both flags (§2.2 §2.3 §7.2)
-unfoldable pub hfeHeaderFault : List ℕ → Fault
-hfeHeaderFault h =
-    orFault (wrongAt 0 (standsAt h 0 hfeSignature))
+-- the lowest wrong field, given whether the letters are right: fields 8 to 12, the table's unit, which is 1 or more, and both flags (§2.2 §2.3 §7.2)
+unfoldable pub fieldFault : Bool → List ℕ → Fault
+fieldFault letters h =
+    orFault (wrongAt 0 letters)
     (orFault (formatFault h)
     (orFault (wrongAt 18 (leb 1 (lowFirst h 18 2)))
     (orFault (flagFault h 22) (flagFault h 24))))
+
+-- the lowest wrong field of an image to unpack: the letters are those of either version (§2.2 §7.2)
+unfoldable pub hfeHeaderFault : List ℕ → Fault
+hfeHeaderFault h = fieldFault (isVersion1 h || isVersion3 h) h
+
+-- the lowest wrong field of an image to rewrite: the letters are those of version 1 (§2.2 §7.2 §8.15)
+unfoldable pub version1Fault : List ℕ → Fault
+version1Fault h = fieldFault (isVersion1 h) h
 
 -- ---- the track table
 
@@ -88,6 +109,10 @@ tableFault h = lowestFault (λ (t : ℕ). not (trackGood h t)) tracks
 unfoldable pub trackPart : List ℕ → ℕ → List ℕ
 trackPart h t = take (trackUnitBytes h t) (drop (trackStart h t) h)
 
--- the cells of side s of track t (§2.6)
+-- what the bytes of side s of track t give in version 3: the side's cells, or the place of its first wrong code (§2.8 §2.9)
+unfoldable pub codedSide : List ℕ → ℕ → ℕ → Decoded
+codedSide h t s = coded (storedBytes (trackPart h t) (hfeSide s (trackLength h t)))
+
+-- the cells of side s of track t: in version 1 all that its bytes store (§2.6), in version 3 those that its bytes give (§2.8), none where a code is wrong
 unfoldable pub sideStream : List ℕ → ℕ → ℕ → List ℕ
-sideStream h t s = stream (trackPart h t) (hfeSide s (trackLength h t))
+sideStream h t s = cond (isVersion3 h) (cellsOf (codedSide h t s)) (stream (trackPart h t) (hfeSide s (trackLength h t)))

@@ -10,6 +10,7 @@ pub mod Packed
 pub mod Rewritten
 pub mod RoundTrip
 pub mod Rewriting
+pub mod Versions
 pub mod Damage
 pub mod Values
 pub mod HeaderValues

@@ -12,7 +12,7 @@ use Rattle.laws.specs.Lists.{tab}
 use Rattle.sector_rules.specs.declared.Reply.{Reply}
 use Rattle.sector_rules.specs.declared.Sector.the-variants.{Missing, Repeated, NoField, Damaged}
 use Rattle.sector_rules.specs.Geometry.{placeReply}
-use Rattle.sector_rules.specs.HeaderValues.{hfeHeader}
+use Rattle.sector_rules.specs.HeaderValues.{hfeHeader, version3Header}
 use Rattle.sector_rules.specs.Packed.{packReply}
 use Rattle.sector_rules.specs.Replies.{replyWith}
 use Rattle.sector_rules.specs.Unpacked.{sectorReply, unpackReply}
@@ -54,6 +54,9 @@ pub record ReplyValues : Type 0 where
   -- the entry of track 0 is wholly within the image: here the table begins at byte 1,024
   pub table-ends : (unpackReply (set hfeHeader 18 2 ++ (replicate 998 0 ++ (0 ∷ 0 ∷ 2 ∷ []))) 737280 ≡ replyWith 3 0 0 0)
       × (unpackReply (set hfeHeader 18 2 ++ (replicate 998 0 ++ (0 ∷ 0 ∷ 2 ∷ 0 ∷ []))) 737280 ≡ replyWith 3 1 0 0)
+  -- 3 comes before 18: the table of a version 3 image, where track 0 has the table's own unit and the entry of track 1 is not good, nor is its first byte, 2F,
+  -- a right code
+  pub table-before-codes : unpackReply (version3Header ++ (replicate 486 0 ++ (1 ∷ 0 ∷ 0 ∷ 2 ∷ 0x2F ∷ replicate 507 0))) 737280 ≡ replyWith 3 1 0 0
   -- the last track is judged too
   pub last-track : tableReply (goodEntries 79) ≡ replyWith 3 79 0 0
   -- 4 to 7 with track, side and R, for the first and last sectors of sides

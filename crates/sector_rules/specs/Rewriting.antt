@@ -16,7 +16,7 @@ use Rattle.sector_rules.specs.declared.Fault.the-variants.{At, Sound}
 use Rattle.sector_rules.specs.declared.Sector.the-variants.{Delivered, Missing, Repeated, NoField, Damaged}
 use Rattle.sector_rules.specs.Replies.{replyWith, done}
 use Rattle.sector_rules.specs.Geometry.{tracks, sides, sectors, allSectors, sectorBytes, imageBytes}
-use Rattle.sector_rules.specs.Hfe.{unitBytes, hfeHeaderFault, tableFault, trackStart, trackLength, sideStream}
+use Rattle.sector_rules.specs.Hfe.{unitBytes, isVersion3, version1Fault, tableFault, trackStart, trackLength, sideStream}
 use Rattle.sector_rules.specs.Unpacked.{sectorAt, sectorBytesAt, sectorReply}
 use Rattle.sector_rules.specs.Packed.{plainItems, fieldItems, hfeBytes, packHfe, imageSectorOf}
 use Rattle.sector_rules.specs.Rewritten.{dataPlace, dataCells, fieldRow, isSideByte, rewritten, hfeRefusal, hasField}
@@ -80,11 +80,11 @@ RewritePacks =
     → (rewriteReply (packHfe image hfe) t s r d ≡ done)
     × (rewriteHfe (packHfe image hfe) t s r d ≡ packHfe (put image (sectorBytes * imageSectorOf t s r) d) hfe)
 
--- side-untouched: a side whose table entry says the same in both images, and none of whose bytes differ, has the same cells; what a sector gives is a
--- function of its side's cells (§2.6 §4.6)
+-- side-untouched: a side whose table entry says the same in two images of one version, and none of whose bytes differ, has the same cells; what a sector
+-- gives is a function of its side's cells (§2.6 §4.6)
 abbrev pub SideUntouched : Type 0
 SideUntouched =
-    (h g : List ℕ) (t s : ℕ) → s < sides → trackStart g t ≡ trackStart h t → trackLength g t ≡ trackLength h t
+    (h g : List ℕ) (t s : ℕ) → s < sides → isVersion3 g ≡ isVersion3 h → trackStart g t ≡ trackStart h t → trackLength g t ≡ trackLength h t
     → ((b : ℕ) → b < trackLength h t / 2
     → getD g (trackStart h t + 256 * s + 512 * (b / 256) + b % 256) 0 ≡ getD h (trackStart h t + 256 * s + 512 * (b / 256) + b % 256) 0)
     → sideStream g t s ≡ sideStream h t s
@@ -113,15 +113,15 @@ pub record RewriteReplies : Type 0 where
   pub fields : FieldPresent
   pub short : (h : List ℕ) (t s r : ℕ) (d : List ℕ) → length h < 1024 → rewriteReply h t s r d ≡ replyWith 1 1 0 0
   pub arguments : (h : List ℕ) (t s r : ℕ) (d : List ℕ) → 1024 ≤ length h → rewriteArguments t s r d ≡ false → rewriteReply h t s r d ≡ replyWith 12 0 0 0
-  pub header : (h : List ℕ) (t s r : ℕ) (d : List ℕ) → 1024 ≤ length h → rewriteArguments t s r d ≡ true → (o : ℕ) → hfeHeaderFault h ≡ At o
+  pub header : (h : List ℕ) (t s r : ℕ) (d : List ℕ) → 1024 ≤ length h → rewriteArguments t s r d ≡ true → (o : ℕ) → version1Fault h ≡ At o
       → rewriteReply h t s r d ≡ replyWith 2 o 0 0
-  pub table : (h : List ℕ) (t s r : ℕ) (d : List ℕ) → 1024 ≤ length h → rewriteArguments t s r d ≡ true → hfeHeaderFault h ≡ Sound
+  pub table : (h : List ℕ) (t s r : ℕ) (d : List ℕ) → 1024 ≤ length h → rewriteArguments t s r d ≡ true → version1Fault h ≡ Sound
       → (k : ℕ) → tableFault h ≡ At k → rewriteReply h t s r d ≡ replyWith 3 k 0 0
-  pub field : (h : List ℕ) (t s r : ℕ) (d : List ℕ) → 1024 ≤ length h → rewriteArguments t s r d ≡ true → hfeHeaderFault h ≡ Sound → tableFault h ≡ Sound
+  pub field : (h : List ℕ) (t s r : ℕ) (d : List ℕ) → 1024 ≤ length h → rewriteArguments t s r d ≡ true → version1Fault h ≡ Sound → tableFault h ≡ Sound
       → hasField (sectorAt h (imageSectorOf t s r)) ≡ false → rewriteReply h t s r d ≡ sectorReply (imageSectorOf t s r) (sectorAt h (imageSectorOf t s r))
-  pub accepted : (h : List ℕ) (t s r : ℕ) (d : List ℕ) → 1024 ≤ length h → rewriteArguments t s r d ≡ true → hfeHeaderFault h ≡ Sound → tableFault h ≡ Sound
+  pub accepted : (h : List ℕ) (t s r : ℕ) (d : List ℕ) → 1024 ≤ length h → rewriteArguments t s r d ≡ true → version1Fault h ≡ Sound → tableFault h ≡ Sound
       → hasField (sectorAt h (imageSectorOf t s r)) ≡ true → ResultReads h (rewritten h t s r d) (imageSectorOf t s r) d
       → rewriteReply h t s r d ≡ replyWith 0 0 0 0
-  pub misread : (h : List ℕ) (t s r : ℕ) (d : List ℕ) → 1024 ≤ length h → rewriteArguments t s r d ≡ true → hfeHeaderFault h ≡ Sound → tableFault h ≡ Sound
+  pub misread : (h : List ℕ) (t s r : ℕ) (d : List ℕ) → 1024 ≤ length h → rewriteArguments t s r d ≡ true → version1Fault h ≡ Sound → tableFault h ≡ Sound
       → hasField (sectorAt h (imageSectorOf t s r)) ≡ true → (ResultReads h (rewritten h t s r d) (imageSectorOf t s r) d → ⊥)
       → rewriteReply h t s r d ≡ replyWith 17 0 0 0

@@ -22,7 +22,7 @@ use Rattle.sector_rules.specs.Replies.{done, refusal, wrongHfe, unless}
 use Rattle.sector_rules.specs.Faults.{refusalAt}
 use Rattle.sector_rules.specs.Geometry.{tracks, sides, sectors, allSectors, sectorBytes}
 use Rattle.sector_rules.specs.Search.{dataMark, headerCells, gapCells, first, findSector}
-use Rattle.sector_rules.specs.Hfe.{unitBytes, hfeHeaderFault, tableFault, trackStart, trackLength, sideStream}
+use Rattle.sector_rules.specs.Hfe.{unitBytes, version1Fault, tableFault, trackStart, trackLength, sideStream}
 use Rattle.sector_rules.specs.Unpacked.{leastHfe, sectorAt, sectorBytesAt, sectorReply}
 use Rattle.sector_rules.specs.Packed.{plainItems, withCrc, fieldItems, imageSectorOf}
 
@@ -106,9 +106,10 @@ givesData g m d = eqb (sectorNumber g m) 0 && same (sectorBytesAt g m) d
 unfoldable pub sectorRight : List ℕ → List ℕ → ℕ → List ℕ → ℕ → Bool
 sectorRight h g m d q = cond (eqb q m) (givesData g m d) (sameSector h g q)
 
--- 2 for a wrong header or 3 for a wrong table, or none (§7.2 §7.3). A rewrite cannot reach the header: data begin at least 28 bytes after their side does
+-- 2 for a wrong header, that of version 3 among them, or 3 for a wrong table, or none (§7.2 §7.3 §8.15). A rewrite reaches no byte that 2 judges: data begin
+-- at least 28 bytes after their side does
 abbrev pub hfeRefusal : List ℕ → Option Reply
-hfeRefusal h = orElse (refusalAt 2 (hfeHeaderFault h)) (refusalAt 3 (tableFault h))
+hfeRefusal h = orElse (refusalAt 2 (version1Fault h)) (refusalAt 3 (tableFault h))
 
 -- the result g reads as it must: header and table are right, this sector gives the data, and every other sector what it gave before (§8.17)
 unfoldable pub resultRight : List ℕ → List ℕ → ℕ → List ℕ → Bool

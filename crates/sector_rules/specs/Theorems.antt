@@ -7,12 +7,23 @@ pub use Rattle.sector_rules.specs.Values.{placement-values}
 
 -- round-trip: for every block image of 737,280 bytes, what pack gives is accepted by unpack, which gives the same bytes back (RoundTrip.antt)
 pub use Rattle.sector_rules.specs.Laws.Trip.RoundTrip.{round-trip}
--- hfe-header-values: the packed HFE header as a row of bytes, and for its first 26 bytes what 2 names where one of them is one more or one less
+-- hfe-header-values: the packed HFE header as a row of bytes, and for its first 26 bytes, with the letters of either version, what 2 names where one of them is
+-- one more or one less
 pub use Rattle.sector_rules.specs.Laws.Values.HeaderValues.{hfe-header-values}
 -- written-values: the items of a written side beside headers and data, the track table and the unused bytes of a packed image, by value
 pub use Rattle.sector_rules.specs.Laws.Values.WrittenValues.{written-values}
 -- reply-values: the lengths that 1 refuses, what 3 judges of a track table, the numbers 4 to 7, each with its places; the limits of the placement call
 pub use Rattle.sector_rules.specs.Laws.Values.ReplyValues.{reply-values}
+-- ---- the two versions of HFE images (Versions.antt)
+
+-- version-3-plain: where no byte of its sides reads as a code, a version 3 image gets the reply, and gives the block image, that it would with the letters
+-- of version 1
+pub use Rattle.sector_rules.specs.Laws.Versions.Plain.{version-3-plain}
+-- version-1-cells: the cells of a side of a version 1 image are all that its bytes store, and 18 is not given; version-3-cells: those of a version 3 image
+-- are what its bytes give, half of the track's length of them
+pub use Rattle.sector_rules.specs.Laws.Versions.Replies.{version-1-cells, version-3-cells}
+-- code-replies: 2 and 3 come first, then 18 for the first wrong code of all sides, then the sectors; a rewrite of a version 3 image is refused with 2
+pub use Rattle.sector_rules.specs.Laws.Versions.Replies.{code-replies}
 -- ---- rewriting one sector (Rewriting.antt)
 
 -- rewrite-reads: where rewrite answers 0, header and table of the result are right, this sector gives the data and every other sector what it gave; the cells
@@ -23,7 +34,7 @@ pub use Rattle.sector_rules.specs.Laws.Rewrite.Reads.{rewrite-reads}
 pub use Rattle.sector_rules.specs.Laws.Rewrite.Packs.{rewrite-packs}
 -- rewrite-replies: the replies of rewrite in their order, with numbers and places; the limits of its arguments
 pub use Rattle.sector_rules.specs.Laws.Rewrite.Replies.{rewrite-replies}
--- side-untouched: a side with the same table entry and the same bytes in two images has the same cells in both
+-- side-untouched: a side with the same table entry and the same bytes in two images of one version has the same cells in both
 pub use Rattle.sector_rules.specs.Laws.Rewrite.Untouched.{side-untouched}
 -- ---- damage (Caught.antt)
 

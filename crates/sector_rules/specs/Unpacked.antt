@@ -1,21 +1,23 @@
--- Unpacking an HFE image to a block image (docs/RULES.md, section 8), and the replies 1 to 7 (section 7).
+-- Unpacking an HFE image to a block image (docs/RULES.md, section 8), and the replies 1 to 7 and 18 (section 7).
 -- Assumes nothing: these are definitions.
 use mathlib.Core.Bool.{Bool, true, false, cond}
 use mathlib.Core.List.{List}
-use Prim.Native.Nat.{ℕ, _+_, _/_, _%_}
+use mathlib.Core.Option.{Option, none, some}
+use Prim.Native.Nat.{ℕ, _+_, _*_, _/_, _%_}
 use lib.Dec.{ltb, eqb}
 use lib.ListN.{length, getD}
 use Rattle.laws.specs.Lists.{tab}
 use Rattle.laws.specs.Below.{lowest}
-use Rattle.laws.specs.Options.{orElse}
+use Rattle.laws.specs.Options.{orElse, firstSome}
+use Rattle.cells.specs.Codes.{Decoded, Cells, WrongCode}
 use Rattle.sector_rules.specs.declared.Reply.{Reply}
 use Rattle.sector_rules.specs.declared.Sector.{Sector}
 use Rattle.sector_rules.specs.declared.Sector.the-variants.{Delivered, Missing, Repeated, NoField, Damaged}
 use Rattle.sector_rules.specs.Replies.{replyWith, done, wrongHfe, wrongLength, unless}
 use Rattle.sector_rules.specs.Faults.{refusalAt}
-use Rattle.sector_rules.specs.Geometry.{sectors, trackSectors, allSectors, sectorBytes, imageBytes}
+use Rattle.sector_rules.specs.Geometry.{tracks, sides, sectors, trackSectors, allSectors, sectorBytes, imageBytes}
 use Rattle.sector_rules.specs.Search.{sectorOf, deliveredBytes}
-use Rattle.sector_rules.specs.Hfe.{hfeHeaderFault, tableFault, sideStream}
+use Rattle.sector_rules.specs.Hfe.{isVersion3, hfeHeaderFault, tableFault, codedSide, sideStream}
 
 -- the track of an image sector (§1.2)
 abbrev pub trackOf : ℕ → ℕ
@@ -61,17 +63,26 @@ firstBad h = lowest (λ (m : ℕ). isBad (sectorAt h m)) allSectors
 unfoldable pub sectorsReply : List ℕ → Reply
 sectorsReply h = cond (ltb (firstBad h) allSectors) (sectorReply (firstBad h) (sectorAt h (firstBad h))) done
 
+-- the refusal of the n-th side by what its bytes give: 18 with track, side and the place of the first wrong code, or none (§7.25)
+abbrev pub sideCodeRefusal : ℕ → Decoded → Option Reply
+sideCodeRefusal n (Cells c) = none
+sideCodeRefusal n (WrongCode p) = some (replyWith 18 (n / sides) (n % sides) p)
+
+-- the refusal of the first side that has a wrong code, by track and then side; version 1 has no codes (§7.25 §2.7)
+unfoldable pub firstCodeRefusal : List ℕ → Option Reply
+firstCodeRefusal h = cond (isVersion3 h) (firstSome (λ (n : ℕ). sideCodeRefusal n (codedSide h (n / sides) (n % sides))) (tracks * sides)) none
+
 -- an HFE image that is read has at least so many bytes (§7.1)
 abbrev pub leastHfe : ℕ
 leastHfe = 1024
 
 -- the reply of unpack for an HFE image h and a block image of n bytes: 1, the HFE image first (§7.1), 2 with the lowest wrong field (§7.2),
--- 3 with the lowest track whose entry is not good (§7.3), then 4 to 7 for the first bad sector (§8.1 §7.18)
+-- 3 with the lowest track whose entry is not good (§7.3), 18 for the first wrong code of all sides (§7.25), then 4 to 7 for the first bad sector (§8.1 §7.18)
 unfoldable pub unpackReply : List ℕ → ℕ → Reply
 unpackReply h n =
     cond (ltb (length h) leastHfe) wrongHfe
     (cond (eqb n imageBytes)
-    (unless (orElse (refusalAt 2 (hfeHeaderFault h)) (refusalAt 3 (tableFault h))) (λ (r : Reply). r) (sectorsReply h))
+    (unless (orElse (refusalAt 2 (hfeHeaderFault h)) (orElse (refusalAt 3 (tableFault h)) (firstCodeRefusal h))) (λ (r : Reply). r) (sectorsReply h))
     wrongLength)
 
 -- byte k of the unpacked block image: the bytes of all sectors in the order of image sectors (§8.1 §1.2)

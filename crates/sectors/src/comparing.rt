@@ -18,10 +18,10 @@ ghost use Rattle.sectors.specs.Laws.Rewriting.Compared.{bytesAt};
 ghost use Rattle.sectors.specs.Laws.Rewriting.Exchanged.{Exchange, Exchanges, isSound};
 use crate::Geometry;
 use crate::SideBytes;
-use crate::hfe::hfe_header_fault;
 use crate::hfe::table_fault;
 use crate::hfe::track_part;
 use crate::hfe::track_side;
+use crate::hfe::version1_fault;
 use crate::side_bytes::CHANGED;
 use crate::side_bytes::put_bytes;
 use crate::side_bytes::untouched;
@@ -222,7 +222,7 @@ fn header_and_table_right(
     ensures { λ r. ⌜ (r ≡ not (isSome (hfeRefusal (changed (now (hfe .entry)) w (now (new .entry)))))) × (now (hfe .exit) ≡ now (hfe .entry)) ⌝ }
 {
     put_bytes(hfe, w, new);
-    let right = is_sound(hfe_header_fault(hfe)) & is_sound(table_fault(hfe));
+    let right = is_sound(version1_fault(hfe)) & is_sound(table_fault(hfe));
     put_bytes(hfe, w, old);
     right
 }

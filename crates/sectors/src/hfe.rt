@@ -4,7 +4,7 @@ ghost use Prim.Native.Nat.{_+_, _<_, _^_};
 ghost use lib.ListN.{length};
 ghost use Rattle.cells.specs.Stream.{hfeSide};
 ghost use Rattle.sector_rules.specs.Geometry.{tracks, sides};
-ghost use Rattle.sector_rules.specs.Hfe.{trackPart, flagFault, formatFault, hfeHeaderFault, entryPlace, trackStart, trackLength, trackUnitBytes, trackGood, tableFault};
+ghost use Rattle.sector_rules.specs.Hfe.{trackPart, flagFault, formatFault, isVersion1, isVersion3, fieldFault, hfeHeaderFault, version1Fault, entryPlace, trackStart, trackLength, trackUnitBytes, trackGood, tableFault};
 use crate::Geometry;
 use crate::faults::or_fault;
 use crate::faults::wrong_at;
@@ -14,7 +14,7 @@ use sector_rules::Fault;
 // Bytes of a unit, by which the places of the table and of tracks are counted (§2.1).
 pub const UNIT: usize = 512;
 
-// Revision, which is version 1's alone (§2.2); tracks, sides, encoding and bit rate (§2.3).
+// Revision, which is 0 in both versions (§2.2); tracks, sides, encoding and bit rate (§2.3).
 fn format_fault(hfe: &[u8]) -> Fault
     ensures { λ r. ⌜ r ≡ formatFault (now (hfe .entry)) ⌝ }
 {
@@ -42,15 +42,45 @@ fn flag_fault(hfe: &[u8], o: usize) -> Fault
     )
 }
 
-// Refusal 2: the lowest wrong field of the header (§7.2), its letters first (§2.2).
-pub fn hfe_header_fault(hfe: &[u8]) -> Fault
-    ensures { λ r. ⌜ r ≡ hfeHeaderFault (now (hfe .entry)) ⌝ }
+// Whether the image has the letters of version 1 (§2.2).
+fn is_version1(hfe: &[u8]) -> bool
+    ensures { λ r. ⌜ r ≡ isVersion1 (now (hfe .entry)) ⌝ }
+{
+    fields::stands_at(hfe, 0, b"HXCPICFE")
+}
+
+// Whether the image has the letters of version 3 (§2.2), so that codes stand on its sides (§2.7).
+pub fn is_version3(hfe: &[u8]) -> bool
+    ensures { λ r. ⌜ r ≡ isVersion3 (now (hfe .entry)) ⌝ }
+{
+    fields::stands_at(hfe, 0, b"HXCHFEV3")
+}
+
+// The lowest wrong field of the header (§7.2), given whether its letters, which come first, are right.
+fn field_fault(letters: bool, hfe: &[u8]) -> Fault
+    ensures { λ r. ⌜ r ≡ fieldFault letters (now (hfe .entry)) ⌝ }
 {
     let flags = or_fault(flag_fault(hfe, 22), flag_fault(hfe, 24));
     let table = wrong_at(18, 1 <= fields::low2(hfe, 18));
     let format = format_fault(hfe);
-    let signature = wrong_at(0, fields::stands_at(hfe, 0, b"HXCPICFE"));
-    or_fault(signature, or_fault(format, or_fault(table, flags)))
+    or_fault(
+        wrong_at(0, letters),
+        or_fault(format, or_fault(table, flags)),
+    )
+}
+
+// Refusal 2 of an image to unpack: the letters are those of either version (§2.2 §7.2).
+pub fn hfe_header_fault(hfe: &[u8]) -> Fault
+    ensures { λ r. ⌜ r ≡ hfeHeaderFault (now (hfe .entry)) ⌝ }
+{
+    field_fault(is_version1(hfe) | is_version3(hfe), hfe)
+}
+
+// Refusal 2 of an image to rewrite: the letters are those of version 1 (§2.2 §8.15).
+pub fn version1_fault(hfe: &[u8]) -> Fault
+    ensures { λ r. ⌜ r ≡ version1Fault (now (hfe .entry)) ⌝ }
+{
+    field_fault(is_version1(hfe), hfe)
 }
 
 // Where the four bytes of the entry of a track begin (§2.4).

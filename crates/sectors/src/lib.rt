@@ -1,4 +1,5 @@
 // Layer 2: the geometry of the disk kind, HFE images and their sectors.
+mod codes;
 mod comparing;
 mod faults;
 mod hfe;

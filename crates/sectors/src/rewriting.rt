@@ -14,12 +14,12 @@ use crate::Geometry;
 use crate::SectorField;
 use crate::SideBytes;
 use crate::comparing::result_right;
-use crate::hfe::hfe_header_fault;
 use crate::hfe::table_fault;
 use crate::hfe::track_length;
 use crate::hfe::track_part;
 use crate::hfe::track_side;
 use crate::hfe::track_start;
+use crate::hfe::version1_fault;
 use crate::new_cells::bytes_after;
 use crate::new_cells::field_row;
 use crate::replies::done;
@@ -154,7 +154,7 @@ pub fn rewrite(hfe: &mut [u8], track: usize, head: usize, sector: usize, content
     if !arguments_right(track, head, sector, content) {
         return refused(12, 0);
     }
-    match hfe_header_fault(hfe) {
+    match version1_fault(hfe) {
         Fault::At(o) => return refused(2, o),
         Fault::Sound => {}
     }

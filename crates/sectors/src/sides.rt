@@ -1,19 +1,24 @@
 // One side of a track: what its nine sectors give, and the bytes of those that are delivered.
+ghost use mathlib.Core.Bool.{true};
 ghost use mathlib.Core.Path.{_≡_};
 ghost use Prim.Native.Nat.{_+_, _*_, _/_, _%_, _<_, _≤_};
 ghost use lib.ListN.{length};
 ghost use Rattle.laws.specs.Changes.{overlay};
 ghost use Rattle.cells.specs.Stream.{stream};
 ghost use Rattle.sector_rules.specs.Geometry.{tracks, sides, sectors, sectorBytes, allSectors, imageBytes};
-ghost use Rattle.sector_rules.specs.Hfe.{sideStream};
+ghost use Rattle.sector_rules.specs.Hfe.{isVersion3, tableFault, sideStream};
 ghost use Rattle.sector_rules.specs.Search.{sectorByte};
-ghost use Rattle.sectors.specs.Laws.Unpacking.Sides.{PlainImage, SideGives, ImageSideGives, DataPlaces, placedByte};
+ghost use Rattle.sectors.specs.Laws.Unpacking.Sides.{PlainImage, SideGives, ImageSideGives, DataPlaces, placedByte, withSide};
 use crate::Geometry;
+use crate::codes::CELL_BYTES;
+use crate::codes::side_cells;
+use crate::hfe::is_version3;
 use crate::hfe::track_part;
 use crate::hfe::track_side;
 use crate::search::scan;
 use crate::search::sector_found;
 use cells::Side;
+use sector_rules::Fault;
 use sector_rules::Sector;
 
 // What the nine sectors of a side give, each judged alone (`sectorOf`), R from 1 (§4.6). On a side whose runs were
@@ -42,6 +47,16 @@ pub fn side_sectors(
     gives
 }
 
+// The same for the n-th side of a disk: sides go by track, and side 0 comes first (§1.2).
+fn nth_side(part: &[u8], side: Side, n: usize, places: &mut [usize]) -> [Sector; Geometry::SECTORS]
+    requires { ⌜ (n < tracks * sides) × (length (now places) ≡ sectors) ⌝ }
+    ensures { λ r. ⌜ SideGives r (stream (now (part .entry)) side) (n / sides) (n % sides) × DataPlaces (now (places .exit)) (stream (now (part .entry)) side) (n / sides) (n % sides) ⌝ }
+{
+    let track = n / Geometry::SIDES;
+    let head = n % Geometry::SIDES;
+    side_sectors(part, side, track as u8, head as u8, places)
+}
+
 // What the nine sectors of the n-th side of an HFE image give (`sectorAt`): image sectors 9n to 9n + 8 (§1.2).
 // `places` gets the cell places of their data (§8.16).
 pub fn image_side(hfe: &[u8], n: usize, places: &mut [usize]) -> [Sector; Geometry::SECTORS]
@@ -52,7 +67,30 @@ pub fn image_side(hfe: &[u8], n: usize, places: &mut [usize]) -> [Sector; Geomet
     let head = n % Geometry::SIDES;
     let part = track_part(hfe, track);
     let side = track_side(hfe, track, head);
-    side_sectors(part, side, track as u8, head as u8, places)
+    nth_side(part, side, n, places)
+}
+
+// The same for a version 3 image, whose cells are made first (§2.8).
+fn coded_side(hfe: &[u8], n: usize) -> [Sector; Geometry::SECTORS]
+    requires { ⌜ (tableFault (now hfe) ≡ Fault.Sound) × (isVersion3 (now hfe) ≡ true) × (n < tracks * sides) ⌝ }
+    ensures { λ r. ⌜ ImageSideGives r (now (hfe .entry)) n ⌝ }
+{
+    let mut buffer = [0u8; CELL_BYTES];
+    let side = side_cells(hfe, n / Geometry::SIDES, n % Geometry::SIDES, &mut buffer);
+    let mut places = [0usize; Geometry::SECTORS];
+    nth_side(&buffer, side, n, &mut places)
+}
+
+// What the nine sectors of the n-th side of an image of either version give (§2.2 §4.6).
+pub fn version_side(hfe: &[u8], n: usize) -> [Sector; Geometry::SECTORS]
+    requires { ⌜ (tableFault (now hfe) ≡ Fault.Sound) × (n < tracks * sides) ⌝ }
+    ensures { λ r. ⌜ ImageSideGives r (now (hfe .entry)) n ⌝ }
+{
+    if is_version3(hfe) {
+        return coded_side(hfe, n);
+    }
+    let mut places = [0usize; Geometry::SECTORS];
+    image_side(hfe, n, &mut places)
 }
 
 // Writes the 512 bytes whose cells begin at place p into the image from `at` on (§4.6).
@@ -74,5 +112,39 @@ pub fn write_side(part: &[u8], side: Side, places: &[usize], at: usize, image: &
     for k in 0..Geometry::SECTORS {
         let m = at + k;
         write_sector(part, side, places[m], image, Geometry::SECTOR_BYTES * m);
+    }
+}
+
+// Writes the n-th side of a version 1 image so: its cells stand in the image itself.
+fn write_plain_side(hfe: &[u8], n: usize, places: &[usize], image: &mut [u8])
+    requires { ⌜ PlainImage (now hfe) × (n < tracks * sides) × (length (now places) ≡ allSectors) × (length (now image) ≡ imageBytes) ⌝ }
+    ensures { λ _. ⌜ now (image .exit) ≡ withSide (now (image .entry)) (now (hfe .entry)) (now (places .entry)) n ⌝ }
+{
+    let track = n / Geometry::SIDES;
+    let head = n % Geometry::SIDES;
+    let part = track_part(hfe, track);
+    let side = track_side(hfe, track, head);
+    write_side(part, side, places, Geometry::SECTORS * n, image);
+}
+
+// Writes the n-th side of a version 3 image so, whose cells are made first (§2.8).
+fn write_coded_side(hfe: &[u8], n: usize, places: &[usize], image: &mut [u8])
+    requires { ⌜ (tableFault (now hfe) ≡ Fault.Sound) × (isVersion3 (now hfe) ≡ true) × (n < tracks * sides) × (length (now places) ≡ allSectors) × (length (now image) ≡ imageBytes) ⌝ }
+    ensures { λ _. ⌜ now (image .exit) ≡ withSide (now (image .entry)) (now (hfe .entry)) (now (places .entry)) n ⌝ }
+{
+    let mut buffer = [0u8; CELL_BYTES];
+    let side = side_cells(hfe, n / Geometry::SIDES, n % Geometry::SIDES, &mut buffer);
+    write_side(&buffer, side, places, Geometry::SECTORS * n, image);
+}
+
+// Writes the n-th side of an image of either version as image sectors 9n to 9n + 8 (§1.2 §2.2).
+pub fn write_version_side(hfe: &[u8], n: usize, places: &[usize], image: &mut [u8])
+    requires { ⌜ (tableFault (now hfe) ≡ Fault.Sound) × (n < tracks * sides) × (length (now places) ≡ allSectors) × (length (now image) ≡ imageBytes) ⌝ }
+    ensures { λ _. ⌜ now (image .exit) ≡ withSide (now (image .entry)) (now (hfe .entry)) (now (places .entry)) n ⌝ }
+{
+    if is_version3(hfe) {
+        write_coded_side(hfe, n, places, image);
+    } else {
+        write_plain_side(hfe, n, places, image);
     }
 }

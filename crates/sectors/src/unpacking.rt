@@ -8,16 +8,15 @@ ghost use Rattle.sector_rules.specs.Hfe.{tableFault};
 ghost use Rattle.sector_rules.specs.Replies.{replyWith};
 ghost use Rattle.sector_rules.specs.Unpacked.{trackOf, sideOf, rOf, isBad, sectorReply, unpackedByte, unpackReply, unpackImage};
 ghost use Rattle.sector_rules.specs.Laws.Base.Unpacked.{placeOf};
-ghost use Rattle.sectors.specs.Laws.Unpacking.SectorsJudged.{Noted, SectorsJudged, AllJudged, SectorsUnpacked};
+ghost use Rattle.sectors.specs.Laws.Unpacking.SectorsJudged.{Noted, SectorsJudged, AllJudged, SectorsUnpacked, SidesUnpacked};
 use crate::Geometry;
+use crate::codes::judge_codes;
 use crate::hfe::hfe_header_fault;
 use crate::hfe::table_fault;
-use crate::hfe::track_part;
-use crate::hfe::track_side;
 use crate::replies::done;
 use crate::replies::refused;
-use crate::sides::image_side;
-use crate::sides::write_side;
+use crate::sides::version_side;
+use crate::sides::write_version_side;
 use sector_rules::Fault;
 use sector_rules::Reply;
 use sector_rules::Sector;
@@ -84,8 +83,7 @@ fn judge_side(hfe: &[u8], n: usize, places: &mut [usize]) -> Reply
     requires { ⌜ (tableFault (now hfe) ≡ Fault.Sound) × (n < tracks * sides) × (length (now places) ≡ allSectors) × Noted (now hfe) (now places) (sectors * n) ⌝ }
     ensures { λ r. ⌜ SectorsJudged (now (hfe .entry)) (now (places .exit)) (sectors * (n + 1)) r ⌝ }
 {
-    let mut data_places = [0usize; Geometry::SECTORS];
-    let gives = image_side(hfe, n, &mut data_places);
+    let gives = version_side(hfe, n);
     for k in 0..Geometry::SECTORS {
         let sector = gives[k];
         let m = Geometry::SECTORS * n + k;
@@ -118,11 +116,7 @@ fn write_sides(hfe: &[u8], places: &[usize], image: &mut [u8])
     ensures { λ _. ⌜ now (image .exit) ≡ tab (unpackedByte (now (hfe .entry))) imageBytes ⌝ }
 {
     for n in 0..Geometry::TRACKS * Geometry::SIDES {
-        let track = n / Geometry::SIDES;
-        let head = n % Geometry::SIDES;
-        let part = track_part(hfe, track);
-        let side = track_side(hfe, track, head);
-        write_side(part, side, places, Geometry::SECTORS * n, image);
+        write_version_side(hfe, n, places, image);
     }
 }
 
@@ -141,8 +135,20 @@ fn unpack_sectors(hfe: &[u8], image: &mut [u8]) -> Reply
     reply
 }
 
-// Unpacks an HFE image to a block image (§8.1), or 1, the HFE image first (§7.1), 2 with the lowest wrong field (§7.2),
-// 3 with the lowest track whose entry is not good (§7.3), then 4 to 7. A refusal leaves the block image as it was (§7.19).
+// Judges the codes of all sides (`firstCodeRefusal`) before the sectors (§7.25).
+fn unpack_sides(hfe: &[u8], image: &mut [u8]) -> Reply
+    requires { ⌜ (tableFault (now hfe) ≡ Fault.Sound) × (length (now image) ≡ imageBytes) ⌝ }
+    ensures { λ r. ⌜ SidesUnpacked (now (hfe .entry)) (now (image .entry)) (now (image .exit)) r ⌝ }
+{
+    let reply = judge_codes(hfe);
+    if reply.number != 0 {
+        return reply;
+    }
+    unpack_sectors(hfe, image)
+}
+
+// Unpacks an HFE image of either version to a block image (§8.1), or 1, the HFE image first (§7.1), 2 with the lowest wrong
+// field (§7.2), 3 with the lowest track whose entry is not good (§7.3), 18 with the first wrong code (§7.25), then 4 to 7. A refusal leaves the block image as it was (§7.19).
 // A packed image with one burst a side at most is refused or gives what was packed (§10.5).
 pub fn unpack(hfe: &[u8], image: &mut [u8]) -> Reply
     ensures { λ r. ⌜ (r ≡ unpackReply (now (hfe .entry)) (length (now (image .entry)))) × (now (image .exit) ≡ unpackImage (now (hfe .entry)) (now (image .entry))) ⌝ }
@@ -159,6 +165,6 @@ pub fn unpack(hfe: &[u8], image: &mut [u8]) -> Reply
     }
     match table_fault(hfe) {
         Fault::At(t) => refused(3, t),
-        Fault::Sound => unpack_sectors(hfe, image),
+        Fault::Sound => unpack_sides(hfe, image),
     }
 }

@@ -23,6 +23,8 @@ pub enum Failure {
         /// The image, and the file in it where there is one.
         what: String,
         refusal: Refusal,
+        /// What helps to understand it.
+        note: Option<String>,
     },
     /// The command line is wrong. The text ends in a hint once the command
     /// is known.
@@ -42,6 +44,7 @@ impl Failure {
         Failure::Refused {
             what: image.display().to_string(),
             refusal,
+            note: None,
         }
     }
 
@@ -84,7 +87,16 @@ impl Failure {
 impl fmt::Display for Failure {
     fn fmt(&self, f: &mut fmt::Formatter<'_>) -> fmt::Result {
         match self {
-            Failure::Refused { what, refusal } => writeln!(f, "dheg: {what}: {refusal}"),
+            Failure::Refused {
+                what,
+                refusal,
+                note: None,
+            } => writeln!(f, "dheg: {what}: {refusal}"),
+            Failure::Refused {
+                what,
+                refusal,
+                note: Some(note),
+            } => writeln!(f, "dheg: {what}: {refusal} ({note})"),
             Failure::Usage(text) => writeln!(f, "dheg: {text}"),
             Failure::Io { what, error } => writeln!(f, "dheg: {what}: {error}"),
             Failure::Several { .. } => Ok(()),

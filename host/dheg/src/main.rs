@@ -18,6 +18,7 @@
 mod args;
 mod commands;
 mod dates;
+mod editions;
 mod failure;
 mod files_io;
 mod names;
@@ -70,6 +71,12 @@ fn print(text: &str) -> Result<(), Failure> {
             what: String::from("standard output"),
             error,
         })
+}
+
+/// Tells of something on standard error, so that results on standard output are
+/// not mixed with it. Where that is closed there is nobody to tell.
+fn tell(text: &str) {
+    let _ = writeln!(io::stderr(), "dheg: {text}");
 }
 
 /// Tells of a failure. Where standard error is closed there is nobody to tell.

@@ -1,8 +1,9 @@
 //! QL double-density disks in HFE images: the safe binding of the proved
 //! library.
 //!
-//! - [`unpack`] reads an HFE image of version 1 into a block image, and
-//!   [`pack`] writes one; [`rewrite`] changes one sector in it.
+//! - [`unpack`] reads an HFE image of version 1 or 3 into a block image, and
+//!   [`pack`] writes one of version 1; [`rewrite`] changes one sector in an image
+//!   of version 1. [`Edition::of`] tells which version an image is of.
 //! - [`format()`], [`check`], [`list`], [`read`], [`add`] and [`remove`] work on
 //!   a block image and the files in it.
 //! - [`first_track`] judges the first track alone, and [`place`] tells where a
@@ -47,6 +48,7 @@
 #![deny(unsafe_code)]
 #![warn(missing_docs)]
 
+mod edition;
 // Calls into C need unsafe code; it stands in this file alone.
 #[allow(unsafe_code)]
 mod ffi;
@@ -60,6 +62,7 @@ mod sectors;
 #[doc = include_str!("../../../README.md")]
 struct Readme;
 
+pub use edition::Edition;
 pub use files::{
     add, check, first_track, format, list, read, remove, DISK_NAME_LEN, ENTRY_LEN, FILE_NAME_LEN,
     FIRST_TRACK_LEN,

@@ -1,15 +1,17 @@
 //! What a refusal means.
 
+mod words;
+
 use std::error::Error;
-use std::fmt;
 
 use crate::reply::{Lent, Reply};
 
 /// Why a call was refused. A refused call has changed nothing.
 ///
-/// Of the numbers that apply the lowest is given; of the places that a
-/// number could name, the first. Refusals 4 to 7 go by sector: the first bad
-/// one by track, side and sector decides.
+/// Of the numbers that apply the lowest is given, only that 18 comes before 4
+/// to 7 and that [`rewrite`](crate::rewrite) has an order of its own; of the
+/// places that a number could name, the first. Refusals 4 to 7 go by sector:
+/// the first bad one by track, side and sector decides.
 ///
 /// ```
 /// use dhegluubin::Refusal;
@@ -113,6 +115,16 @@ pub enum Refusal {
     /// 17: with the sector rewritten the image would be misread, for it shares
     /// cells with other sectors or with the track table.
     Misread,
+    /// 18: a side of a version 3 image has a wrong code: a weak area, a code
+    /// that is reserved, a count over 7, or a code that lacks bytes of its own.
+    WrongCode {
+        /// Track, 0 to 79, of the first such side.
+        track: usize,
+        /// Side, 0 or 1.
+        side: usize,
+        /// Place of its first wrong code among the bytes of the side, from 0.
+        place: usize,
+    },
     /// An answer that this binding has no name for. The library that it was
     /// written for gives none.
     Unknown {
@@ -151,6 +163,11 @@ impl Refusal {
             15 => Refusal::TooFewBlocks,
             16 => Refusal::BufferTooShort { needed: first },
             17 => Refusal::Misread,
+            18 => Refusal::WrongCode {
+                track: first,
+                side: second,
+                place: third,
+            },
             _ => return None,
         };
         Some(refusal)
@@ -182,7 +199,7 @@ impl Refusal {
         }
     }
 
-    /// The number, 1 to 17 unless it is unknown.
+    /// The number, 1 to 18 unless it is unknown.
     pub const fn number(self) -> usize {
         self.reply().number
     }
@@ -223,64 +240,8 @@ impl Refusal {
             Refusal::TooFewBlocks => Reply::new([15, 0, 0, 0]),
             Refusal::BufferTooShort { needed } => Reply::new([16, needed, 0, 0]),
             Refusal::Misread => Reply::new([17, 0, 0, 0]),
+            Refusal::WrongCode { track, side, place } => Reply::new([18, track, side, place]),
             Refusal::Unknown { reply } => reply,
-        }
-    }
-
-    /// What is wrong, without number and places.
-    const fn words(self) -> &'static str {
-        match self {
-            Refusal::Length { lent: Lent::Hfe } => "HFE image of a wrong length",
-            Refusal::Length { lent: Lent::Blocks } => {
-                "block image or first track of a wrong length"
-            }
-            Refusal::HfeHeader { .. } => "HFE header wrong",
-            Refusal::TrackTable { .. } => "track table wrong",
-            Refusal::NoHeader { .. } => "no header",
-            Refusal::SeveralHeaders { .. } => "two or more headers",
-            Refusal::NoDataField { .. } => "no data field",
-            Refusal::DataCrc { .. } => "data CRC wrong",
-            Refusal::DiskHeader { .. } => "disk header wrong",
-            Refusal::MapRecord { .. } => "map record wrong",
-            Refusal::Directory { .. } => "directory not sound",
-            Refusal::FreeWord => "free-sector word does not fit the map",
-            Refusal::Argument => "name, block, sector or data out of range",
-            Refusal::NamePresent { .. } => "name already present",
-            Refusal::NoSuchName => "no file of this name",
-            Refusal::TooFewBlocks => "too few free blocks",
-            Refusal::BufferTooShort { .. } => "buffer too short",
-            Refusal::Misread => "rewritten, the image would be misread",
-            Refusal::Unknown { .. } => "unknown answer",
-        }
-    }
-}
-
-impl fmt::Display for Refusal {
-    fn fmt(&self, f: &mut fmt::Formatter<'_>) -> fmt::Result {
-        let [number, first, second, third] = self.reply().parts();
-        write!(f, "refused {number}: {}", self.words())?;
-        match self {
-            Refusal::HfeHeader { .. } | Refusal::DiskHeader { .. } => {
-                write!(f, " at byte {first}")
-            }
-            Refusal::TrackTable { .. } => write!(f, " at track {first}"),
-            Refusal::NoHeader { .. }
-            | Refusal::SeveralHeaders { .. }
-            | Refusal::NoDataField { .. }
-            | Refusal::DataCrc { .. } => {
-                write!(f, " at track {first}, side {second}, sector {third}")
-            }
-            Refusal::MapRecord { .. } => write!(f, " at block {first}"),
-            Refusal::Directory { .. } => write!(f, " at file {first}"),
-            Refusal::NamePresent { .. } => write!(f, " in slot {first}"),
-            Refusal::BufferTooShort { .. } => write!(f, ", {first} bytes needed"),
-            Refusal::Unknown { .. } => write!(f, " with places {first}, {second}, {third}"),
-            Refusal::Length { .. }
-            | Refusal::FreeWord
-            | Refusal::Argument
-            | Refusal::NoSuchName
-            | Refusal::TooFewBlocks
-            | Refusal::Misread => Ok(()),
         }
     }
 }
@@ -291,74 +252,10 @@ impl Error for Refusal {}
 mod tests {
     use super::*;
 
-    fn words(parts: [usize; 4]) -> String {
-        Reply::new(parts).result().unwrap_err().to_string()
-    }
-
-    /// An answer of each number, in words.
-    const IN_WORDS: [([usize; 4], &str); 19] = [
-        ([1, 1, 0, 0], "refused 1: HFE image of a wrong length"),
-        (
-            [1, 2, 0, 0],
-            "refused 1: block image or first track of a wrong length",
-        ),
-        ([2, 18, 0, 0], "refused 2: HFE header wrong at byte 18"),
-        ([3, 79, 0, 0], "refused 3: track table wrong at track 79"),
-        (
-            [4, 0, 0, 1],
-            "refused 4: no header at track 0, side 0, sector 1",
-        ),
-        (
-            [5, 41, 1, 9],
-            "refused 5: two or more headers at track 41, side 1, sector 9",
-        ),
-        (
-            [6, 79, 0, 2],
-            "refused 6: no data field at track 79, side 0, sector 2",
-        ),
-        (
-            [7, 3, 1, 4],
-            "refused 7: data CRC wrong at track 3, side 1, sector 4",
-        ),
-        ([8, 34, 0, 0], "refused 8: disk header wrong at byte 34"),
-        ([9, 479, 0, 0], "refused 9: map record wrong at block 479"),
-        ([10, 0, 0, 0], "refused 10: directory not sound at file 0"),
-        (
-            [11, 0, 0, 0],
-            "refused 11: free-sector word does not fit the map",
-        ),
-        (
-            [12, 0, 0, 0],
-            "refused 12: name, block, sector or data out of range",
-        ),
-        ([13, 5, 0, 0], "refused 13: name already present in slot 5"),
-        ([14, 0, 0, 0], "refused 14: no file of this name"),
-        ([15, 0, 0, 0], "refused 15: too few free blocks"),
-        (
-            [16, 1500, 0, 0],
-            "refused 16: buffer too short, 1500 bytes needed",
-        ),
-        (
-            [17, 0, 0, 0],
-            "refused 17: rewritten, the image would be misread",
-        ),
-        (
-            [18, 1, 2, 3],
-            "refused 18: unknown answer with places 1, 2, 3",
-        ),
-    ];
-
-    #[test]
-    fn each_number_in_words() {
-        for (parts, expected) in IN_WORDS {
-            assert_eq!(words(parts), expected);
-        }
-    }
-
     #[test]
     fn every_answer_is_kept() {
         let places = [0, 1, 2, 3, 500, usize::MAX];
-        for number in (1..20).chain([usize::MAX]) {
+        for number in (1..21).chain([usize::MAX]) {
             for first in places {
                 for second in places {
                     for third in places {

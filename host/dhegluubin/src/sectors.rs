@@ -15,16 +15,20 @@ pub const SHORTEST_HFE_LEN: usize = 1024;
 /// Bytes of a sector.
 pub const SECTOR_LEN: usize = 512;
 
-/// Reads an HFE image into a block image of [`IMAGE_LEN`] bytes: its sectors
-/// by track, side and sector number.
+/// Reads an HFE image of version 1 or 3 into a block image of [`IMAGE_LEN`]
+/// bytes: its sectors by track, side and sector number.
 ///
 /// All 1,440 sectors are judged before the first byte is written. The HFE
 /// image may have any length from [`SHORTEST_HFE_LEN`] on, its tracks may
 /// stand anywhere in it, even one over another.
 ///
-/// Refused with 1 to 7: [`Length`](Refusal::Length),
+/// In version 3 codes may stand among the bytes of a side. They give no cells,
+/// and one of them drops the first cells of a byte. A weak area and codes that
+/// are reserved are not accepted.
+///
+/// Refused with 1 to 3, 18, then 4 to 7: [`Length`](Refusal::Length),
 /// [`HfeHeader`](Refusal::HfeHeader), [`TrackTable`](Refusal::TrackTable),
-/// [`NoHeader`](Refusal::NoHeader),
+/// [`WrongCode`](Refusal::WrongCode), [`NoHeader`](Refusal::NoHeader),
 /// [`SeveralHeaders`](Refusal::SeveralHeaders),
 /// [`NoDataField`](Refusal::NoDataField), [`DataCrc`](Refusal::DataCrc).
 ///
@@ -47,7 +51,7 @@ pub fn unpack(hfe: &[u8], image: &mut [u8]) -> Result<(), Refusal> {
     ffi::unpack(hfe, image).result().map(|_| ())
 }
 
-/// Writes a block image of [`IMAGE_LEN`] bytes as an HFE image of
+/// Writes a block image of [`IMAGE_LEN`] bytes as an HFE image of version 1 with
 /// [`HFE_LEN`] bytes, every byte of it.
 ///
 /// [`unpack`] accepts what is written, and gives the block image back.
@@ -70,8 +74,8 @@ pub fn pack(image: &[u8], hfe: &mut [u8]) -> Result<(), Refusal> {
     ffi::pack(image, hfe).result().map(|_| ())
 }
 
-/// Writes [`SECTOR_LEN`] bytes as the data of one sector of an HFE image:
-/// track 0 to 79, side 0 or 1, `r` 1 to 9.
+/// Writes [`SECTOR_LEN`] bytes as the data of one sector of an HFE image of
+/// version 1: track 0 to 79, side 0 or 1, `r` 1 to 9.
 ///
 /// The data and their CRC are written in the sector's data field, and with
 /// them the clock cell after the CRC, where the side has two cells more; all
@@ -85,7 +89,8 @@ pub fn pack(image: &[u8], hfe: &mut [u8]) -> Result<(), Refusal> {
 /// [`HfeHeader`](Refusal::HfeHeader), [`TrackTable`](Refusal::TrackTable),
 /// [`NoHeader`](Refusal::NoHeader),
 /// [`SeveralHeaders`](Refusal::SeveralHeaders),
-/// [`NoDataField`](Refusal::NoDataField), [`Misread`](Refusal::Misread).
+/// [`NoDataField`](Refusal::NoDataField), [`Misread`](Refusal::Misread). An image
+/// of version 3 is an `HfeHeader` at offset 0.
 ///
 /// ```
 /// use dhegluubin::{pack, rewrite, unpack, Refusal, HFE_LEN, IMAGE_LEN, SECTOR_LEN};

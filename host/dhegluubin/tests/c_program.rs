@@ -70,10 +70,14 @@ fn stack_of(text: &str, name: &str) -> usize {
 }
 
 /// No call uses more stack than the header says, to which the program compares each. Those that judge
-/// a disk stay well below it.
+/// a disk stay well below it. Unpack is measured for either version.
 #[test]
 fn stack() {
     let text = printed("stack");
+    for name in ["dheg_unpack", "dheg_unpack, version 3"] {
+        let used = stack_of(&text, name);
+        assert!((1..65_536).contains(&used), "{name} uses {used} bytes");
+    }
     for name in [
         "dheg_check",
         "dheg_list",
@@ -84,7 +88,7 @@ fn stack() {
         let used = stack_of(&text, name);
         assert!((1..40_000).contains(&used), "{name} uses {used} bytes");
     }
-    assert_eq!(text.lines().count(), 11, "{text}");
+    assert_eq!(text.lines().count(), 12, "{text}");
 }
 
 /// Runs the readme's example on these bytes.

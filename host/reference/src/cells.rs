@@ -34,20 +34,28 @@ pub fn side_bytes(part: &[u8], track_len: usize, side: usize) -> Vec<u8> {
         .collect()
 }
 
-/// The cells of one side as a line, each 0 or 1, first cell first (§3.2).
+/// The cells of one side of a version 1 image as a line, each 0 or 1, first cell
+/// first (§3.2).
 ///
 /// Takes and demands the same as [`side_bytes`].
 pub fn side_cells(part: &[u8], track_len: usize, side: usize) -> Vec<u8> {
     buffer_cells(&side_bytes(part, track_len, side))
 }
 
-/// The cells of a plain buffer: of each byte the lowest bit comes first (§3.1).
+/// The cells of a plain buffer, those of each byte in turn.
 pub fn buffer_cells(bytes: &[u8]) -> Vec<u8> {
     let mut cells = Vec::new();
     for byte in bytes {
-        for bit in 0..8 {
-            cells.push((byte >> bit) & 1);
-        }
+        cells.extend(byte_cells(*byte));
+    }
+    cells
+}
+
+/// The eight cells of a byte: the lowest bit comes first (§3.1).
+pub fn byte_cells(byte: u8) -> [u8; 8] {
+    let mut cells = [0; 8];
+    for (bit, cell) in cells.iter_mut().enumerate() {
+        *cell = (byte >> bit) & 1;
     }
     cells
 }

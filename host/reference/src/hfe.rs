@@ -7,8 +7,11 @@ use crate::reply::Refusal;
 /// Fewest bytes of an HFE image that is read (§7.1).
 pub const SHORTEST: usize = 1024;
 
-/// The letters that an HFE image begins with (§2.2).
+/// The letters that an HFE image of version 1 begins with (§2.2).
 pub const SIGNATURE: [u8; 8] = *b"HXCPICFE";
+
+/// The letters that one of version 3 begins with (§2.2).
+pub const SIGNATURE_3: [u8; 8] = *b"HXCHFEV3";
 
 /// Thousands of bits a second.
 pub const BIT_RATE: u16 = 250;
@@ -29,15 +32,48 @@ pub fn table_start(hfe: &[u8]) -> usize {
     UNIT_LEN * word_at(hfe, TABLE_FIELD)
 }
 
-/// Judges the letters and the revision (§2.2) and the other fields (§2.3), in
-/// order; refusal 2 at the first wrong one (§7.2).
+/// The versions that are read (§2.2).
+#[derive(Clone, Copy, Debug, PartialEq, Eq)]
+pub enum Version {
+    /// All bytes of a side give cells.
+    One,
+    /// Codes stand among them.
+    Three,
+}
+
+/// The version by an image's letters, if they are those of either (§2.2).
+fn version(hfe: &[u8]) -> Option<Version> {
+    match hfe[0..8].try_into() {
+        Ok(SIGNATURE) => Some(Version::One),
+        Ok(SIGNATURE_3) => Some(Version::Three),
+        _ => None,
+    }
+}
+
+/// Judges the header of an image that is read: the letters, of either version,
+/// and the fields after them. Refusal 2 at the first wrong one (§7.2).
+pub fn judge_header(hfe: &[u8]) -> Result<Version, Refusal> {
+    let version = version(hfe).ok_or(Refusal::HfeHeader(0))?;
+    judge_fields(hfe)?;
+    Ok(version)
+}
+
+/// The same for an image that is rewritten, of which version 1 alone has the
+/// right letters (§8.15).
+pub fn judge_rewritten_header(hfe: &[u8]) -> Result<(), Refusal> {
+    match version(hfe) {
+        Some(Version::One) => judge_fields(hfe),
+        _ => Err(Refusal::HfeHeader(0)),
+    }
+}
+
+/// Judges the revision (§2.2) and the other fields (§2.3), in order.
 ///
 /// The byte after a switch (23 after 22, 25 after 24) is judged only where
 /// the switch is 00, which asks for another encoding.
-pub fn judge_header(hfe: &[u8]) -> Result<(), Refusal> {
+fn judge_fields(hfe: &[u8]) -> Result<(), Refusal> {
     let is_switch = |byte: u8| byte == 0x00 || byte == 0xFF;
     let fields = [
-        (0, hfe[0..8] == SIGNATURE),
         (8, hfe[8] == 0),
         (9, usize::from(hfe[9]) >= TRACKS),
         (10, usize::from(hfe[10]) == SIDES),

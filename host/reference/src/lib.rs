@@ -7,7 +7,7 @@
 //!
 //! - Cell layer: `cells`, `mfm`, `crc`, `header`, `field`, `sector`,
 //!   `written`.
-//! - Sector layer: `geometry`, `hfe`, `track_table`, `unpack`, `pack`,
+//! - Sector layer: `geometry`, `hfe`, `track_table`, `codes`, `unpack`, `pack`,
 //!   `rewrite`.
 //! - File layer: `layout`, `disk`, `disk_header`, `map`, `directory`, `names`,
 //!   `sound`, `volume`, `buffer`, and a file for each call.
@@ -21,6 +21,7 @@ pub mod add;
 pub mod buffer;
 pub mod cells;
 pub mod check;
+pub mod codes;
 pub mod crc;
 pub mod directory;
 pub mod disk;

@@ -81,6 +81,15 @@ pub enum Refusal {
     BufferTooShort(usize),
     /// With the sector rewritten the image would be misread (§7.24).
     Misread,
+    /// A side has a wrong code (§7.25).
+    WrongCode {
+        /// The track.
+        track: usize,
+        /// The side.
+        side: usize,
+        /// Place of the code among the bytes of the side.
+        place: usize,
+    },
 }
 
 impl Refusal {
@@ -105,6 +114,7 @@ impl Refusal {
             Refusal::TooFewBlocks => Reply::new(15, [0; 3]),
             Refusal::BufferTooShort(needed) => Reply::new(16, [needed, 0, 0]),
             Refusal::Misread => Reply::new(17, [0; 3]),
+            Refusal::WrongCode { track, side, place } => Reply::new(18, [track, side, place]),
         }
     }
 }

@@ -5,14 +5,15 @@ use crate::crc::crc_of_field;
 use crate::field::{DATA_MARK, SECTOR_LEN};
 use crate::geometry::{SECTORS_PER_SIDE, SIDES, TRACKS};
 use crate::header::{find_header, SectorId};
-use crate::hfe::{judge_header, SHORTEST};
+use crate::hfe::{judge_rewritten_header, SHORTEST};
 use crate::mfm::{clock_cell, encode_byte, CELLS_PER_BYTE};
 use crate::reply::{Lent, Refusal, Reply};
 use crate::sector::{present_field, side_sectors};
 use crate::track_table::{judge_table, Track};
 
-/// Writes 512 bytes as the data of a sector of the HFE image (§8.15). What is
-/// written is made in a copy, so that a refusal changes nothing (§7.19).
+/// Writes 512 bytes as the data of a sector of the HFE image (§8.15), which is
+/// of version 1. What is written is made in a copy, so that a refusal changes
+/// nothing (§7.19).
 pub fn rewrite(hfe: &mut [u8], track: usize, side: usize, r: usize, data: &[u8]) -> Reply {
     match rewritten(hfe, track, side, r, data) {
         Ok(result) => {
@@ -38,7 +39,7 @@ fn rewritten(
     }
     let id = sector_id(track, side, r).ok_or(Refusal::Argument)?;
     let data: &[u8; SECTOR_LEN] = data.try_into().map_err(|_| Refusal::Argument)?;
-    judge_header(hfe)?;
+    judge_rewritten_header(hfe)?;
     let tracks = judge_table(hfe)?;
     let cells = tracks[track].side_cells(hfe, side);
     let (place, _) = present_field(&cells, find_header(&cells, id))
@@ -102,7 +103,7 @@ fn reads_as_asked(before: &[u8], after: &[u8], changed: SectorId, data: &[u8; SE
         let new = new_tracks[track].side_cells(after, side);
         side_is_kept(&old, &new, track as u8, side as u8, changed, data)
     };
-    judge_header(after).is_ok() && (0..TRACKS * SIDES).all(is_kept)
+    judge_rewritten_header(after).is_ok() && (0..TRACKS * SIDES).all(is_kept)
 }
 
 /// The same for the nine sectors of one side (§8.17). On a side whose cells are

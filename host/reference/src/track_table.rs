@@ -1,6 +1,6 @@
 //! The track table of an HFE image.
 
-use crate::cells::{side_cells, UNIT_LEN};
+use crate::cells::{side_bytes, side_cells, UNIT_LEN};
 use crate::geometry::TRACKS;
 use crate::hfe::{table_start, word_at};
 use crate::reply::Refusal;
@@ -23,7 +23,12 @@ impl Track {
         self.start + UNIT_LEN * self.len.div_ceil(UNIT_LEN)
     }
 
-    /// The cells of a side of the track, in the image whose table has it (§2.6).
+    /// The bytes of a side of the track, in the image whose table has it (§2.6).
+    pub fn side_bytes(&self, hfe: &[u8], side: usize) -> Vec<u8> {
+        side_bytes(&hfe[self.start..self.end()], self.len, side)
+    }
+
+    /// The cells of a side in version 1: those of all its bytes (§3.2).
     pub fn side_cells(&self, hfe: &[u8], side: usize) -> Vec<u8> {
         side_cells(&hfe[self.start..self.end()], self.len, side)
     }

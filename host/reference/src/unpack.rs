@@ -1,11 +1,12 @@
 //! From an HFE image to the block image.
 
+use crate::codes::{coded_cells, WrongCode};
 use crate::geometry::{IMAGE_LEN, SIDES};
 use crate::header::SectorId;
-use crate::hfe::{judge_header, SHORTEST};
+use crate::hfe::{judge_header, Version, SHORTEST};
 use crate::reply::{Lent, Refusal, Reply};
 use crate::sector::side_sectors;
-use crate::track_table::judge_table;
+use crate::track_table::{judge_table, Track};
 
 /// Writes the sectors of the HFE image into the block image (§8.1), by track,
 /// side and R (§1.2). All are judged before the first byte is written, so that
@@ -22,7 +23,7 @@ pub fn unpack(hfe: &[u8], image: &mut [u8]) -> Reply {
 }
 
 /// All sectors of the disk in image order, or the refusal: 1 (§7.1), 2 (§7.2),
-/// 3 (§7.3), then that of the first bad sector (§7.18).
+/// 3 (§7.3), 18 (§7.25), then that of the first bad sector (§7.18).
 fn read_disk(hfe: &[u8], image_len: usize) -> Result<Vec<u8>, Refusal> {
     if hfe.len() < SHORTEST {
         return Err(Refusal::Size(Lent::Hfe));
@@ -30,16 +31,47 @@ fn read_disk(hfe: &[u8], image_len: usize) -> Result<Vec<u8>, Refusal> {
     if image_len != IMAGE_LEN {
         return Err(Refusal::Size(Lent::Blocks));
     }
-    judge_header(hfe)?;
+    let version = judge_header(hfe)?;
     let tracks = judge_table(hfe)?;
+    if version == Version::Three {
+        judge_codes(hfe, &tracks)?;
+    }
     let mut sectors = Vec::new();
     for (number, track) in tracks.iter().enumerate() {
         for side in 0..SIDES {
-            let cells = track.side_cells(hfe, side);
+            let cells = match version {
+                Version::One => track.side_cells(hfe, side),
+                Version::Three => side_without_codes(hfe, number, track, side)?,
+            };
             sectors.extend(read_side(&cells, number as u8, side as u8)?);
         }
     }
     Ok(sectors)
+}
+
+/// Judges the codes of all sides, by track and then side: 18 at the first wrong
+/// one (§7.25).
+fn judge_codes(hfe: &[u8], tracks: &[Track]) -> Result<(), Refusal> {
+    for (number, track) in tracks.iter().enumerate() {
+        for side in 0..SIDES {
+            side_without_codes(hfe, number, track, side)?;
+        }
+    }
+    Ok(())
+}
+
+/// The cells of a side in version 3 (§2.8), or its first wrong code (§2.9).
+fn side_without_codes(
+    hfe: &[u8],
+    number: usize,
+    track: &Track,
+    side: usize,
+) -> Result<Vec<u8>, Refusal> {
+    coded_cells(&track.side_bytes(hfe, side)).map_err(|WrongCode(place)| Refusal::WrongCode {
+        track: number,
+        side,
+        place,
+    })
 }
 
 /// The nine sectors of a side in order of R, or the first one's refusal, 4 to 7

@@ -1,11 +1,13 @@
 //! What the tests need beside the disk rules, with the standard library
-//! only: JSON, SHA-256, gzip, blocks of Markdown, and bytes made from a seed.
+//! only: JSON, SHA-256, gzip, blocks of Markdown, bytes made from a seed, and
+//! HFE images with codes.
 
 #![forbid(unsafe_code)]
 #![warn(missing_docs)]
 
 mod bits;
 pub mod cases;
+pub mod codes;
 pub mod fenced;
 pub mod gzip;
 pub mod hex;

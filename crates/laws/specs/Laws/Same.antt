@@ -4,9 +4,9 @@ use mathlib.Core.Path.{_≡_, refl, _∙_, ap, sym, subst}
 use mathlib.Core.Bool.{true, false}
 use mathlib.Core.List.{List, [], _∷_}
 use Prim.Native.Nat.{ℕ, _+_, _<_, _≤_}
-use lib.Dec.{eqb}
+use lib.Dec.{eqb, leb}
 use lib.ListN.{length, getD}
-use borrow.Author.Tests.{eq-eqb, eqb-true, le-leb, lt-leb}
+use borrow.Author.Tests.{eq-eqb, eqb-true, le-leb, lt-leb, leb-true}
 use Rattle.laws.specs.Lists.{elementAt, window, same, bytesAre, standsAt}
 use Rattle.laws.specs.Laws.Cases.{by-test}
 use Rattle.laws.specs.Laws.Tests.{and-left, and-right, and-true}
@@ -55,3 +55,15 @@ module _ (s : List ℕ) (at : ℕ) (t : List ℕ) where
       rw (le-leb (at + length t) (length s) h)
       (ne-same (window s at (length t)) t
       (λ e. n (sym (window-in s at (length t) k b) ∙ ap (λ (m : List ℕ). getD m k 0) e)))
+
+  -- a list that stands there ends within s
+  pub stands-within : standsAt s at t ≡ true → at + length t ≤ length s
+  unfolding standsAt
+  stands-within e = leb-true _ _ (and-left (leb (at + length t) (length s)) _ e)
+
+  -- the elements of a list that stands there are those of s from at on
+  pub stands-each : standsAt s at t ≡ true → (k : ℕ) → k < length t → getD s (at + k) 0 ≡ getD t k 0
+  unfolding standsAt bytesAre window elementAt
+  stands-each e k b =
+      sym (window-in s at (length t) k b)
+      ∙ ap (λ (m : List ℕ). getD m k 0) (same-eq (window s at (length t)) t (and-right (leb (at + length t) (length s)) _ e))

@@ -3,7 +3,7 @@
 use std::ffi::{OsStr, OsString};
 use std::path::Path;
 
-use dhegluubin::{add, remove};
+use dhegluubin::{add, remove, Edition};
 
 use super::pack::packed;
 use super::unpack::unpacked;
@@ -21,6 +21,9 @@ pub const COMMAND: Command = Command {
 Unpacks IN.hfe, takes the steps after -- in order and packs the result as
 OUT.hfe, which may be IN.hfe. If a step is refused, nothing is written. The
 steps are those of dheg put and dheg rm, with names and dates as there.
+
+IN.hfe is of HFE version 1 or 3. OUT.hfe is of version 1: where IN.hfe is of
+version 3, a line on standard error says so.
 ",
     example: "dheg edit old.hfe new.hfe -- rm boot put boot boot.bas put notes_txt notes.txt\n",
     run,
@@ -48,12 +51,19 @@ fn run(args: &[OsString]) -> Result<(), Failure> {
     let [from, to] = Given::parse(before, &[])?.exactly()?;
     let steps = steps(after)?;
     let progress = Progress::new();
-    let mut image = unpacked(from, &progress)?;
+    let (mut image, unusual) = unpacked(from, &progress)?;
     for step in &steps {
         step.take(from, &mut image, &progress)?;
     }
     let hfe = packed(from, &image, &progress)?;
-    files_io::write(to, &hfe)
+    files_io::write(to, &hfe)?;
+    progress.wipe();
+    if let Some(edition) = unusual {
+        let [from, to] = [from, to].map(|path| Path::new(path).display());
+        let written = Edition::Version1;
+        crate::tell(&format!("{from}: {edition}, written to {to} as {written}"));
+    }
+    Ok(())
 }
 
 /// Reads all steps, before the first of them is taken.

@@ -52,6 +52,9 @@ const ALL: [&Command; 11] = [
 
 /// What holds for all commands.
 const COMMON: &str = r"
+HFE images of version 1 and of version 3 are read; those that are written are
+of version 1.
+
 Names of files and disks are text; \xHH stands for the byte with this
 hexadecimal value and \\ for a backslash. Whatever begins with a dash is an
 option; after -- nothing is.
@@ -81,6 +84,7 @@ fn in_file(image: &OsStr, name: &[u8], refusal: Refusal) -> Failure {
     Failure::Refused {
         what: format!("{image}: {}", names::shown(name)),
         refusal,
+        note: None,
     }
 }
 

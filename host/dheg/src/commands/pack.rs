@@ -17,7 +17,7 @@ pub const COMMAND: Command = Command {
     about: "write a block image as an HFE image",
     details: "\
 The block image may hold anything; the disk in it is not judged, see dheg
-check. OUT.hfe is replaced if it is there.
+check. OUT.hfe is of HFE version 1. It is replaced if it is there.
 ",
     example: "dheg pack games.img games.hfe\n",
     run,

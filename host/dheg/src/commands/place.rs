@@ -26,6 +26,7 @@ fn run(args: &[OsString]) -> Result<(), Failure> {
     let place = place(block, sector).map_err(|refusal| Failure::Refused {
         what: format!("block {block}, sector {sector}"),
         refusal,
+        note: None,
     })?;
     crate::print(&format!("{place}\n"))
 }

@@ -1,14 +1,13 @@
 //! `dheg poke`
 
 use std::ffi::OsString;
-use std::path::Path;
 
 use dhegluubin::rewrite;
 
 use super::Command;
 use crate::args::{number, Given};
 use crate::failure::Failure;
-use crate::files_io;
+use crate::{editions, files_io};
 
 pub const COMMAND: Command = Command {
     name: "poke",
@@ -18,7 +17,8 @@ pub const COMMAND: Command = Command {
 Writes the 512 bytes of DATAFILE and their CRC in the data field of a sector:
 TRACK is 0 to 79, SIDE is 0 or 1, R is 1 to 9. All else in IN.hfe stays as it
 is, gaps too, and OUT.hfe is the result; it may be IN.hfe. Other sectors may be
-bad. If one of them would then read otherwise, nothing is written.
+bad. If one of them would then read otherwise, nothing is written. IN.hfe is of
+HFE version 1; version 3 is not rewritten.
 ",
     example: "dheg poke old.hfe new.hfe 0 1 3 sector.bin\n",
     run,
@@ -30,6 +30,6 @@ fn run(args: &[OsString]) -> Result<(), Failure> {
     let mut hfe = files_io::read_whole_hfe(from)?;
     let data = files_io::read_sector(file)?;
     rewrite(&mut hfe, track, side, r, &data)
-        .map_err(|refusal| Failure::refused(Path::new(from), refusal))?;
+        .map_err(|refusal| editions::refused(from, &hfe, refusal))?;
     files_io::write(to, &hfe)
 }

@@ -7,6 +7,8 @@ use std::path::{Path, PathBuf};
 use std::process::{Command, Output, Stdio};
 use std::sync::atomic::{AtomicUsize, Ordering};
 
+use support::codes::LETTERS;
+
 /// A folder that nothing else uses and that goes away with its value.
 pub struct Bench {
     folder: PathBuf,
@@ -130,6 +132,13 @@ impl Bench {
     pub fn damage(&self, name: &str, at: usize) {
         let mut bytes = self.read(name);
         bytes[at] ^= 0xFF;
+        self.write(name, &bytes);
+    }
+
+    /// Gives an HFE image the letters of version 3.
+    pub fn set_version_3(&self, name: &str) {
+        let mut bytes = self.read(name);
+        bytes[..8].copy_from_slice(&LETTERS);
         self.write(name, &bytes);
     }
 

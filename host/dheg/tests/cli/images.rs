@@ -38,7 +38,11 @@ fn unpack_refused() {
     for (name, bytes, words) in [
         ("short", &good[..1023], "1: HFE image of a wrong length"),
         ("empty", &[], "1: HFE image of a wrong length"),
-        ("sign", &good[1..], "2: HFE header wrong at byte 0"),
+        (
+            "sign",
+            &good[1..],
+            "2: HFE header wrong at byte 0 (neither HFE version 1 nor HFE version 3)",
+        ),
         ("cut", &good[..TRACK_3], "3: track table wrong at track 3"),
     ] {
         bench.write(name, bytes);

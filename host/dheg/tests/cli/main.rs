@@ -11,4 +11,5 @@ mod progress;
 mod readme;
 mod several;
 mod usage;
+mod version_3;
 mod writing;

@@ -104,7 +104,7 @@ fn refused_images() {
             "sign",
             inverted(0),
             1,
-            "2: HFE header wrong at byte 0".into(),
+            "2: HFE header wrong at byte 0 (neither HFE version 1 nor HFE version 3)".into(),
         ),
         (
             "cut",

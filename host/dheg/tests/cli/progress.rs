@@ -26,11 +26,14 @@ fn shown_and_wiped() {
             "dheg check disk.img disk.img",
             &["1/2 disk.img", "2/2 disk.img"][..],
         ),
-        ("dheg unpack disk.hfe out.img", &["unpacking disk.hfe"]),
+        (
+            "dheg unpack disk.hfe out.img",
+            &["unpacking disk.hfe, HFE version 1"],
+        ),
         (
             "dheg edit disk.hfe disk.hfe -- rm one put two data",
             &[
-                "unpacking disk.hfe",
+                "unpacking disk.hfe, HFE version 1",
                 "removing one",
                 "adding data",
                 "packing disk.hfe",
@@ -49,6 +52,20 @@ fn shown_and_wiped() {
         }
         assert!(out.ends_with(WIPE), "{line}: {out:?}");
     }
+}
+
+/// What is told of a version 3 image stands on a line of its own.
+#[test]
+fn edition_is_told_after_the_progress() {
+    let bench = Bench::with_file();
+    bench.set_version_3("disk.hfe");
+    let Some(out) = at_a_terminal(&bench, "dheg unpack disk.hfe out.img") else {
+        return;
+    };
+    let progress = format!("{WIPE}unpacking disk.hfe, HFE version 3{WIPE}");
+    let rest = out.strip_prefix(&progress);
+    let told = format!("dheg: disk.hfe: HFE version 3\r\n{WIPE}");
+    assert_eq!(rest, Some(told.as_str()), "{out:?}");
 }
 
 #[test]

@@ -6,10 +6,13 @@
 use crate::file_layer::both as files;
 use crate::sector_layer::both as sectors;
 use crate::sector_layer::build::{empty_tracks, packed, sides, track_0};
+use crate::sector_layer::coded::random::random_bytes as bytes_and_codes;
+use crate::sector_layer::coded::{coded_track_0, version_3_of_empty};
 use crate::sector_layer::rewrites::{self, Call};
 use dhegluubin::{FIRST_TRACK_LEN, HFE_LEN, IMAGE_LEN};
 use std::collections::BTreeMap;
 use support::cases::cases;
+use support::codes::{cells, coded, fill};
 use support::noise::{noise, Generator};
 
 /// How many calls are usually made.
@@ -103,9 +106,26 @@ fn random_image(generator: &mut Generator, disk: &[u8]) -> Vec<u8> {
     }
 }
 
+/// A version 3 image of one track, with codes right and, often, wrong ones, or
+/// of bytes by chance; then damaged, in header, table and track.
+fn random_version_3(generator: &mut Generator, track: &[Vec<u8>; 2]) -> Vec<u8> {
+    let mut hfe = match generator.below(3) {
+        0 => version_3_of_empty(track_0(&bytes_and_codes(generator))),
+        _ => {
+            let every = *generator.choice(&[5, 40, 3000]);
+            let mut sides = [0, 1].map(|side| coded(&cells(&track[side]), every, generator));
+            fill(&mut sides, generator);
+            coded_track_0(sides)
+        }
+    };
+    damage(generator, &mut hfe);
+    hfe
+}
+
 /// An HFE image that is judged quickly: cut, damaged, or of one track.
 fn random_hfe(generator: &mut Generator, track: &[Vec<u8>; 2]) -> Vec<u8> {
-    match generator.below(6) {
+    match generator.below(9) {
+        6..=8 => random_version_3(generator, track),
         0 => {
             let len = random_len(generator);
             random_bytes(generator, len)
@@ -262,8 +282,10 @@ fn random_calls() {
 }
 
 /// Asserts that each call was done and refused, but for unpacking: that is
-/// never tried on a whole good disk, which takes long.
+/// never tried on a whole good disk, which takes long. Wrong codes are among
+/// what it was refused for.
 fn assert_done_and_refused(counts: &BTreeMap<Made, u32>) {
+    assert!(counts.contains_key(&("unpack", 18)));
     for call in CALLS {
         let numbers = || counts.keys().filter(|made| made.0 == call);
         let done = call == "unpack" || numbers().any(|made| made.1 == 0);

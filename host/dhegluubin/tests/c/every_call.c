@@ -308,6 +308,69 @@ static void hfe_images(void)
     refused("unpack: two headers", unpack(), DHEG_SEVERAL_HEADERS, 0, 0, 2);
 }
 
+/* A byte of a side of the packed disk. */
+static uint8_t *side_byte(size_t track, size_t side, size_t byte)
+{
+    return hfe + 512 * (2 + 49 * track) + 512 * (byte / 256) + 256 * side + byte % 256;
+}
+
+/* Puts bytes at a place of a side; those that were there fall off at its end, where there is a gap. */
+static void insert(size_t track, size_t side, size_t at, const uint8_t *bytes, size_t count)
+{
+    size_t i;
+
+    for (i = 12500 - count; i-- > at;)
+        *side_byte(track, side, i + count) = *side_byte(track, side, i);
+    for (i = 0; i < count; i++)
+        *side_byte(track, side, at + i) = bytes[i];
+}
+
+/* The packed disk as version 3: without codes, with right ones and with wrong ones. */
+static void version_3(void)
+{
+    static const uint8_t no_cells[] = {0x0F, 0x8F, 0x4F, 0x2F};
+    static const uint8_t no_cells_dropped[] = {0xCF, 0x00};
+    static uint8_t original[DHEG_IMAGE_LEN];
+    size_t i;
+
+    for (i = 0; i < sizeof image; i++)
+        image[i] = (uint8_t)(i * 5 + i / 700);
+    memcpy(original, image, sizeof image);
+    dheg_pack(image, sizeof image, hfe, sizeof hfe);
+    memcpy(hfe, "HXCHFEV3", 8);
+    memset(image, 0xAA, sizeof image);
+    expect("version 3 without codes", unpack(), DHEG_DONE, 0, 0, 0);
+    check("the same image", memcmp(image, original, sizeof image) == 0);
+
+    for (i = 0; i < 160; i++) {
+        insert(i / 2, i % 2, 10 + 37 * i, no_cells, sizeof no_cells);
+        insert(i / 2, i % 2, 6010 + 33 * i, no_cells_dropped, sizeof no_cells_dropped);
+    }
+    memset(image, 0xAA, sizeof image);
+    expect("version 3 with codes", unpack(), DHEG_DONE, 0, 0, 0);
+    check("the same image", memcmp(image, original, sizeof image) == 0);
+
+    memset(image, 0xAA, sizeof image);
+    keep();
+    refused("version 3: not rewritten", dheg_rewrite(hfe, sizeof hfe, 0, 0, 1, original, 512),
+            DHEG_HFE_HEADER, 0, 0, 0);
+    refused("version 3: no track", dheg_rewrite(hfe, sizeof hfe, 80, 0, 1, original, 512),
+            DHEG_ARGUMENT, 0, 0, 0);
+    /* The CRC of the first header, after the codes that were put before it. */
+    *side_byte(0, 0, sizeof no_cells + 2 * (146 + 20)) = 0;
+    keep();
+    refused("version 3: no header", unpack(), DHEG_NO_HEADER, 0, 0, 1);
+    *side_byte(79, 1, 12499) = 0xCF;
+    keep();
+    refused("version 3: cut", unpack(), DHEG_WRONG_CODE, 79, 1, 12499);
+    *side_byte(40, 0, 12000) = 0x2F;
+    keep();
+    refused("version 3: weak area", unpack(), DHEG_WRONG_CODE, 40, 0, 12000);
+    hfe[8] = 1;
+    keep();
+    refused("version 3: revision", unpack(), DHEG_HFE_HEADER, 8, 0, 0);
+}
+
 static dheg_reply rewrite(size_t track, size_t side, size_t r, const uint8_t *data, size_t data_len)
 {
     return dheg_rewrite(hfe, sizeof hfe, track, side, r, data, data_len);
@@ -380,6 +443,7 @@ int main(void)
     wrong_disks();
     first_track();
     hfe_images();
+    version_3();
     rewriting();
     printf("%u checks, %u failed\n", checks, failures);
     return failures == 0 ? EXIT_SUCCESS : EXIT_FAILURE;

@@ -93,13 +93,29 @@ static size_t depth(void *(*call)(void *), int wanted)
     return STACK_LEN - kept;
 }
 
-enum { UNPACK, PACK, REWRITE, PLACE, FORMAT, CHECK, LIST, READ, ADD, REMOVE, FIRST_TRACK, COUNT };
+/* dheg_unpack twice: of version 1 and of version 3. */
+enum {
+    UNPACK,
+    UNPACK_3,
+    PACK,
+    REWRITE,
+    PLACE,
+    FORMAT,
+    CHECK,
+    LIST,
+    READ,
+    ADD,
+    REMOVE,
+    FIRST_TRACK,
+    COUNT
+};
 
 static const char *const names[COUNT] = {
-    "dheg_unpack", "dheg_pack", "dheg_rewrite", "dheg_place",  "dheg_format",     "dheg_check",
-    "dheg_list",   "dheg_read", "dheg_add",     "dheg_remove", "dheg_first_track"};
-static void *(*const calls[COUNT])(void *) = {unpack, pack, rewrite, place, format,     check,
-                                              list,   read, add,     take,  first_track};
+    "dheg_unpack", "dheg_unpack, version 3", "dheg_pack",   "dheg_rewrite",
+    "dheg_place",  "dheg_format",            "dheg_check",  "dheg_list",
+    "dheg_read",   "dheg_add",               "dheg_remove", "dheg_first_track"};
+static void *(*const calls[COUNT])(void *) = {unpack, unpack, pack, rewrite, place, format,
+                                              check,  list,   read, add,     take,  first_track};
 static size_t most[COUNT];
 
 /* What a thread uses without a call. */
@@ -137,11 +153,37 @@ static void fill_disk(void)
     file = FILES / 2;
 }
 
+/* A byte of a side of the packed disk. */
+static uint8_t *side_byte(size_t track, size_t side, size_t byte)
+{
+    return hfe + 512 * (2 + 49 * track) + 512 * (byte / 256) + 256 * side + byte % 256;
+}
+
 /* Byte `index` of a sector of track 40, side 1, counted from the 00 before its header. */
 static uint8_t *cells(size_t r, size_t index)
 {
-    size_t byte = 2 * (146 + 658 * (r - 1) + index);
-    return hfe + 512 * (2 + 49 * 40) + 512 * (byte / 256) + 256 + byte % 256;
+    return side_byte(40, 1, 2 * (146 + 658 * (r - 1) + index));
+}
+
+/* The packed disk as version 3, which it is left as: without codes; then with a code of each kind in
+ * the gap before and after the sectors of all sides; then with a bad sector, and with a wrong code. */
+static void unpack_version_3(void)
+{
+    static const uint8_t codes[] = {0x0F, 0x8F, 0x4F, 0x2F, 0xCF, 0xE0, 0x2F, 0xCF, 0x00, 0x49};
+    size_t side, i;
+
+    memcpy(hfe, "HXCHFEV3", 8);
+    measure(UNPACK_3, 1);
+    for (side = 0; side < 160; side++)
+        for (i = 0; i < sizeof codes; i++) {
+            *side_byte(side / 2, side % 2, 20 + i) = codes[i];
+            *side_byte(side / 2, side % 2, 12480 + i) = codes[i];
+        }
+    measure(UNPACK_3, 1);
+    memset(cells(9, 20), 0, 2);
+    measure(UNPACK_3, 0);
+    *side_byte(79, 1, 12499) = 0xCF;
+    measure(UNPACK_3, 0);
 }
 
 /* All sectors of a side; then one that has the header of another in its data, which would be lost;
@@ -187,6 +229,7 @@ int main(void)
     measure_readers(1);
     measure(PACK, 1);
     measure(UNPACK, 1);
+    unpack_version_3();
     file = FILES - 1;
     measure(READ, 1);
     measure(REMOVE, 1);

@@ -2,6 +2,7 @@
 
 mod build;
 mod cells;
+mod codes;
 mod crc;
 mod fields;
 mod headers;

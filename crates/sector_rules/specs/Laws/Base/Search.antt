@@ -3,7 +3,7 @@
 use mathlib.Core.Bool.{Bool, true, false, cond}
 use mathlib.Core.List.{List, [], _∷_, _++_}
 use mathlib.Core.Path.{_≡_, refl, sym, ap, _∙_}
-use Prim.Native.Nat.{ℕ, zero, suc, _+_, _*_, _<_}
+use Prim.Native.Nat.{ℕ, zero, suc, _+_, _*_, _≤_, _<_}
 use native.Mathlib.Nat.{zero-add}
 use native.Mathlib.Numerals.{add-one}
 use native.Mathlib.Omega.{arith}
@@ -59,6 +59,12 @@ module _ (p : ℕ → Bool) (k : ℕ) where
       go true e = found-yes e
       go false e = found-no e
 
+-- two tests that agree below n hold at the same places
+pub places-cong : (p q : ℕ → Bool) (n : ℕ) → ((i : ℕ) → i < n → p i ≡ q i) → placesBelow p n ≡ placesBelow q n
+unfolding placesBelow
+places-cong p q zero e = refl
+places-cong p q (suc n) e = rw (e n (omega arith), places-cong p q n (λ i l. e i (omega arith)))
+
 -- ---- the first place of a search
 
 -- what is given at the first of some places where the test holds
@@ -75,3 +81,11 @@ first-is p f none (suc m) i (suc k) h off on =
     (first-is p f none m (suc i) k (omega arith)
     (λ j l. let r : suc i + j ≡ i + suc j = omega arith in rw r (off (suc j) (omega arith)))
     (rw g at on))
+
+-- where tests and what is given agree from place i on, the same is given
+pub first-cong : {A : Type 0} (p q : ℕ → Bool) (f g : ℕ → A) (none : A) (m i : ℕ)
+    → ((j : ℕ) → i ≤ j → p j ≡ q j) → ((j : ℕ) → i ≤ j → f j ≡ g j) → first p f none m i ≡ first q g none m i
+unfolding first
+first-cong p q f g none zero i ep ef = refl
+first-cong p q f g none (suc m) i ep ef =
+    rw (ep i (omega arith), ef i (omega arith), first-cong p q f g none m (suc i) (λ j l. ep j (omega arith)) (λ j l. ef j (omega arith)))

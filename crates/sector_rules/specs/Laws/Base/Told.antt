@@ -1,7 +1,8 @@
 -- What an answer says of how it came: of a field that was delivered, of a header, of the search, of a sector, and of an image that was accepted.
--- Rests on the laws of the search (Search) and of unpacking (Unpacked).
+-- Rests on the laws of the search (Search), of unpacking (Unpacked) and of wrong codes (Versions).
 use mathlib.Core.Bool.{Bool, true, false, cond, _&&_, false≢true}
 use mathlib.Core.List.{List}
+use mathlib.Core.Option.{Option, none, some}
 use mathlib.Core.Path.{_≡_, refl, sym, ap, _∙_}
 use Prim.Native.Nat.{ℕ, zero, suc, _+_, _≤_, _<_}
 use native.Mathlib.Nat.{add-zero}
@@ -26,10 +27,13 @@ use Rattle.sector_rules.specs.Replies.{replyWith, done}
 use Rattle.sector_rules.specs.Geometry.{allSectors, imageBytes}
 use Rattle.sector_rules.specs.Hfe.{hfeHeaderFault, tableFault, sideStream}
 use Rattle.sector_rules.specs.Unpacked.{trackOf, sideOf, rOf, sectorAt, sectorReply, isBad, firstBad, sectorsReply, leastHfe, unpackReply}
+use Rattle.sector_rules.specs.Unpacked.{firstCodeRefusal}
 use Rattle.sector_rules.specs.Search.{crcHolds, headerMark, dataMark, headerCells, fieldCells, gapCells, isHeader, idOf, headerOf, isHeaderOf}
 use Rattle.sector_rules.specs.Search.{headerAt, placesBelow, foundOf, findSector, first, fieldAt, fieldOf, sectorFound, sectorOf}
 use Rattle.sector_rules.specs.Laws.Base.Search.{moreFound, found-more}
-use Rattle.sector_rules.specs.Laws.Base.Unpacked.{placeOf, good-is, bad-number, short-reply, length-reply, header-reply, table-reply, sound-reply}
+use Rattle.sector_rules.specs.Laws.Base.Unpacked.{placeOf, good-is, bad-number, short-reply, length-reply, header-reply, table-reply}
+use Rattle.sector_rules.specs.Laws.Base.Unpacked.{codes-reply, sound-reply}
+use Rattle.sector_rules.specs.Laws.Base.Versions.{codes-number}
 
 -- ---- a field
 
@@ -224,9 +228,14 @@ module _ (h : List ℕ) where
         not-zero : (r : Reply) → unpackReply h n ≡ r → (k : ℕ) → r .number ≡ suc k → ⊥
         not-zero r p k q = let z : r .number ≡ 0 = ap (λ (x : Reply). x .number) (sym p) ∙ e in omega arith
 
+        codes : (l : leastHfe ≤ length h) (q : n ≡ imageBytes) → hfeHeaderFault h ≡ Sound → tableFault h ≡ Sound → (x : Option Reply) → firstCodeRefusal h ≡ x
+            → sectorsReply h .number ≡ 0
+        codes l q g f (some r) c = absurd (not-zero r (codes-reply h n l q g f r c) 17 (codes-number h r c))
+        codes l q g f none c = ap (λ (x : Reply). x .number) (sym (sound-reply h n l q g f c)) ∙ e
+
         table : (l : leastHfe ≤ length h) (q : n ≡ imageBytes) → hfeHeaderFault h ≡ Sound → (f : Fault) → tableFault h ≡ f → sectorsReply h .number ≡ 0
         table l q g (At t) f = absurd (not-zero (replyWith 3 t 0 0) (table-reply h n l q g t f) 2 refl)
-        table l q g Sound f = ap (λ (x : Reply). x .number) (sym (sound-reply h n l q g f)) ∙ e
+        table l q g Sound f = codes l q g f (firstCodeRefusal h) refl
 
         header : (l : leastHfe ≤ length h) (q : n ≡ imageBytes) (f : Fault) → hfeHeaderFault h ≡ f → sectorsReply h .number ≡ 0
         header l q (At o) f = absurd (not-zero (replyWith 2 o 0 0) (header-reply h n l q o f) 1 refl)

@@ -1,14 +1,16 @@
 -- Unpacking: the place of a sector's bytes, and the replies in their order.
--- Rests on the definitions alone.
-use mathlib.Core.Bool.{true, false, cond, false≢true}
+-- Rests on the case splits.
+use mathlib.Core.Bool.{Bool, true, false, cond, false≢true}
 use mathlib.Core.List.{List}
-use mathlib.Core.Path.{_≡_, refl, sym, _∙_}
+use mathlib.Core.Option.{none, some}
+use mathlib.Core.Path.{_≡_, refl, sym, ap, _∙_}
 use Prim.Native.Nat.{ℕ, _≤_, _<_}
 use lib.Dec.{eqb}
 use lib.ListN.{length}
 use borrow.Author.Tests.{lt-ltb, le-ltb, eq-eqb, ne-eqb}
 use Rattle.laws.specs.Lists.{tab}
 use Rattle.laws.specs.Options.{orElse}
+use Rattle.laws.specs.Laws.Cases.{by-order, by-equal}
 use Rattle.sector_rules.specs.declared.Reply.{Reply}
 use Rattle.sector_rules.specs.declared.Fault.the-variants.{At, Sound}
 use Rattle.sector_rules.specs.declared.Sector.{Sector}
@@ -17,7 +19,7 @@ use Rattle.sector_rules.specs.Replies.{replyWith, unless}
 use Rattle.sector_rules.specs.Faults.{refusalAt}
 use Rattle.sector_rules.specs.Geometry.{imageBytes}
 use Rattle.sector_rules.specs.Hfe.{hfeHeaderFault, tableFault}
-use Rattle.sector_rules.specs.Unpacked.{leastHfe, unpackReply, unpackImage, isBad, sectorReply, sectorsReply, unpackedByte}
+use Rattle.sector_rules.specs.Unpacked.{leastHfe, isBad, sectorReply, sectorsReply, firstCodeRefusal, unpackReply, unpackImage, unpackedByte}
 
 -- the place of a sector's bytes
 abbrev pub placeOf : Sector → ℕ
@@ -58,7 +60,8 @@ module _ (h : List ℕ) (n : ℕ) where
     length-reply e = rw (le-ltb (length h) leastHfe l, ne-eqb n imageBytes e)
 
     module _ (e : n ≡ imageBytes) where
-      later-reply : unpackReply h n ≡ unless (orElse (refusalAt 2 (hfeHeaderFault h)) (refusalAt 3 (tableFault h))) (λ (r : Reply). r) (sectorsReply h)
+      later-reply : unpackReply h n
+          ≡ unless (orElse (refusalAt 2 (hfeHeaderFault h)) (orElse (refusalAt 3 (tableFault h)) (firstCodeRefusal h))) (λ (r : Reply). r) (sectorsReply h)
       unfolding unpackReply
       later-reply = rw (le-ltb (length h) leastHfe l, eq-eqb n imageBytes e)
 
@@ -73,10 +76,26 @@ module _ (h : List ℕ) (n : ℕ) where
         unfolding unless orElse
         table-reply t g = later-reply ∙ rw (f, g)
 
-        -- where header and table are right, the reply is that for the sectors
-        pub sound-reply : tableFault h ≡ Sound → unpackReply h n ≡ sectorsReply h
-        unfolding unless orElse
-        sound-reply g = later-reply ∙ rw (f, g)
+        module _ (g : tableFault h ≡ Sound) where
+          -- where header and table are right, an HFE image with a wrong code is refused with 18 and its place
+          pub codes-reply : (r : Reply) → firstCodeRefusal h ≡ some r → unpackReply h n ≡ r
+          unfolding unless orElse
+          codes-reply r c = later-reply ∙ rw (f, g, c)
+
+          -- where header, table and codes are right, the reply is that for the sectors
+          pub sound-reply : firstCodeRefusal h ≡ none → unpackReply h n ≡ sectorsReply h
+          unfolding unless orElse
+          sound-reply c = later-reply ∙ rw (f, g, c)
+
+-- an HFE image with a wrong header is refused, whatever else is wrong
+pub header-refused : (h : List ℕ) (n o : ℕ) → hfeHeaderFault h ≡ At o → eqb (unpackReply h n .number) 0 ≡ false
+header-refused h n o f =
+    by-order (length h) leastHfe
+    (λ l. ap refused (short-reply h n l))
+    (λ l. by-equal n imageBytes (λ e. ap refused (header-reply h n l e o f)) (λ e. ap refused (length-reply h n l e)))
+  where
+    refused : Reply → Bool
+    refused r = eqb (r .number) 0
 
 -- the block image after unpacking, by the reply: unpacked, or as it was
 pub image-after : (h image : List ℕ) (r : Reply) → unpackReply h (length image) ≡ r

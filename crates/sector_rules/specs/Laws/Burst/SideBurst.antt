@@ -101,7 +101,8 @@ module _ (t s : ℕ) (ht : t < 128) (hs : s < 2) (dd : ℕ → List ℕ) (d : Li
       headers-same e r =
           let a : sectorStart x + (192 + e) ≡ sectorStart x + 192 + e = omega arith in
           ap (λ (k : ℕ). getD (writtenSide t s dd) k 0) a ∙ sym (from-at (writtenSide t s dd) (sectorStart x + 192) e)
-          ∙ headers-read (from (writtenSide t s dd) (sectorStart x + 192)) (from d i) (from-bit (writtenSide t s dd) (sectorStart x + 192) bc) (from-bit d i bd)
+          ∙ headers-read (from (writtenSide t s dd) (sectorStart x + 192)) (from d i) (from-bit (writtenSide t s dd) (sectorStart x + 192) bc)
+          (from-bit d i bd)
           (header-split (writtenSide t s dd) t s (x + 1) (sectorStart x + 192) header-here .0) (header-split d t s (x + 1) i hi .0) ids e r
           ∙ from-at d i e
 

@@ -41,13 +41,15 @@ module _ (c d : List ℕ) (long : length c ≡ length d) (a b : ℕ) (e : (k : �
       ap₂ _&&_ (ap₂ _&&_ (sync-agrees i 0 (omega arith) (omega arith)) (sync-agrees i 16 (omega arith) (omega arith)))
       (sync-agrees i 32 (omega arith) (omega arith))
 
-  holds-agree : (i n : ℕ) → a ≤ i → i + 16 * (n + 2) ≤ b → crcHolds (from c i) n ≡ crcHolds (from d i) n
+  -- the CRC of n bytes whose cells lie there holds on both sides or on none
+  pub holds-agree : (i n : ℕ) → a ≤ i → i + 16 * (n + 2) ≤ b → crcHolds (from c i) n ≡ crcHolds (from d i) n
   unfolding crcHolds
   holds-agree i n l h =
       follows-cong (λ (q : ℕ). dataByte (from c i) (16 * q)) (λ (q : ℕ). dataByte (from d i) (16 * q)) n
       (λ q m. byte-agrees i (16 * q) (omega arith) (omega arith))
 
-  long-agree : (i : ℕ) → length (from c i) ≡ length (from d i)
+  -- from each place on both sides have as many cells
+  pub long-agree : (i : ℕ) → length (from c i) ≡ length (from d i)
   long-agree i = from-length c i ∙ ap (λ (n : ℕ). n - i) long ∙ sym (from-length d i)
 
   is-agree : (i : ℕ) → a ≤ i → i + 160 ≤ b → isHeader (from c i) ≡ isHeader (from d i)

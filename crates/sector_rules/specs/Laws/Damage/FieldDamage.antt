@@ -13,10 +13,12 @@ use Rattle.laws.specs.Laws.Tests.{cond-true, eq-true, and-left}
 use Rattle.laws.specs.Laws.Tab.{tab-ext}
 use Rattle.cells.specs.Crc.{crcFollows}
 use Rattle.cells.specs.Stream.{from, dataByte, hfeSide}
+use Rattle.cells.specs.Codes.{storedBytes}
 use Rattle.cells.specs.Sync.{threeSync}
 use Rattle.cells.specs.Damage.{dataBit, bitsByte, Detectable}
 use Rattle.cells.specs.Laws.Bits.{cells-spelled}
 use Rattle.cells.specs.Laws.Caught.{cells-caught, cells-bits}
+use Rattle.cells.specs.Laws.Codes.{coded-binary}
 use Rattle.cells.specs.Laws.Crc.{follows-cong}
 use Rattle.cells.specs.Laws.Number.{byte-from}
 use Rattle.cells.specs.Laws.Stream.{from-length, from-bit, stream-bit}
@@ -25,10 +27,11 @@ use Rattle.sector_rules.specs.declared.Sector.the-variants.{Delivered, N
 use Rattle.sector_rules.specs.Geometry.{allSectors, imageBytes}
 use Rattle.sector_rules.specs.Search.{crcHolds, dataMark, headerCells, fieldCells, gapCells, isHeader, idOf, headerAt}
 use Rattle.sector_rules.specs.Search.{findSector, fieldAt, fieldOf, sectorOf, sectorByte, deliveredBytes}
-use Rattle.sector_rules.specs.Hfe.{trackPart, trackLength, sideStream}
+use Rattle.sector_rules.specs.Hfe.{isVersion3, trackPart, trackLength, codedSide, sideStream}
 use Rattle.sector_rules.specs.Unpacked.{trackOf, sideOf, rOf, sectorAt, sectorBytesAt, unpackReply, unpackedByte, unpackImage}
 use Rattle.sector_rules.specs.Damage.{Binary, headerBits, fieldBits, FieldDamage, SameField, sideWith, ImageFieldDamage}
 use Rattle.sector_rules.specs.Laws.Base.Search.{first-is}
+use Rattle.sector_rules.specs.Laws.Base.Versions.{plain-stream, coded-stream}
 use Rattle.sector_rules.specs.Laws.Base.Told.{field-told, field-place, field-holds, told-header-crc, sector-told, header-told, gap-told, each-place}
 use Rattle.sector_rules.specs.Laws.Damage.Agree.{three-agree, header-agree}
 
@@ -58,7 +61,8 @@ module _ (c d : List ℕ) (bc : Binary c) (bd : Binary d) (j : ℕ) (differ : De
   field-same hc hd =
       record {
         bits =
-            cells-bits (from c j) (from d j) (from-bit c j bc) (from-bit d j bd) 516 (holds-follows (from c j) 516 hc) (holds-follows (from d j) 516 hd) differ;
+            cells-bits (from c j) (from d j) (from-bit c j bc) (from-bit d j bd) 516 (holds-follows (from c j) 516 hc) (holds-follows
+            (from d j) 516 hd) differ;
         bytes =
             tab-ext (sectorByte c (j + 64)) (sectorByte d (j + 64)) 512
             (λ k l.
@@ -145,8 +149,11 @@ sector-same c d bc bd t s r i j q ei ec g ed =
 
 -- the cells of a side of an HFE image are 0 or 1
 pub side-binary : (h : List ℕ) (t s : ℕ) → Binary (sideStream h t s)
-unfolding sideStream
-side-binary h t s i = stream-bit (trackPart h t) (hfeSide s (trackLength h t)) i
+unfolding codedSide
+side-binary h t s i =
+    by-test (isVersion3 h)
+    (λ v. rw (coded-stream h t s v) (coded-binary (storedBytes (trackPart h t) (hfeSide s (trackLength h t))) i))
+    (λ v. rw (plain-stream h t s v) (stream-bit (trackPart h t) (hfeSide s (trackLength h t)) i))
 
 -- a sector's bytes in two images
 bytes-by : (h g : List ℕ) (m j q : ℕ) → sectorAt h m ≡ Delivered (j + 64) → sectorAt g m ≡ Delivered q

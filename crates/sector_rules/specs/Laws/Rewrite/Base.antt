@@ -2,7 +2,7 @@
 -- Rests on the cell layer's laws of streams.
 use mathlib.Core.Bool.{true, false, _&&_}
 use mathlib.Core.List.{List}
-use mathlib.Core.Path.{_≡_, refl, sym, ap, _∙_}
+use mathlib.Core.Path.{_≡_, sym, ap, _∙_}
 use Prim.Native.Nat.{ℕ, _+_, _-_, _*_, _/_, _%_, _^_, _≤_, _<_}
 use native.Mathlib.Nat.{zero-add}
 use native.Mathlib.Omega.{arith}
@@ -13,19 +13,21 @@ use borrow.Author.Tests.{le-leb, lt-ltb, eq-eqb}
 use Rattle.laws.specs.Numbers.{quotientUp}
 use Rattle.laws.specs.Laws.Cases.{by-test, by-order}
 use Rattle.laws.specs.Laws.Tests.{true-le, true-lt, true-eq, true≢false, and-left, and-right, cond-true, cond-false}
-use Rattle.laws.specs.Laws.Tab.{tab-length, tab-in, tab-out, getD-past}
+use Rattle.laws.specs.Laws.Tab.{tab-length, tab-in, tab-out, tab-ext, getD-past}
 use Rattle.cells.specs.Stream.{bytePlace, cellAt, hfeSide}
+use Rattle.cells.specs.Codes.{storedBytes, coded}
 use Rattle.cells.specs.Laws.Stream.{stream-length, stream-in, stream-bit}
-use Rattle.sector_rules.specs.Hfe.{unitBytes, trackStart, trackLength, trackUnitBytes, trackPart, sideStream}
+use Rattle.sector_rules.specs.Hfe.{unitBytes, isVersion3, trackStart, trackLength, trackUnitBytes, trackPart, codedSide, sideStream}
 use Rattle.sector_rules.specs.Rewritten.{sideByteOf, isSideByte, withSideBytes}
 use Rattle.sector_rules.specs.Rewriting.{sideCellsAt}
+use Rattle.sector_rules.specs.Laws.Base.Versions.{plain-stream}
 
 -- ---- the cells of a side
 
--- the cells of a side by the table are those of a track that begins where the entry says and is as long as it says
-pub side-cells-at : (h : List ℕ) (t s : ℕ) → sideStream h t s ≡ sideCellsAt h (trackStart h t) (trackLength h t) s
-unfolding sideStream trackPart trackUnitBytes sideCellsAt
-side-cells-at h t s = refl
+-- where the image is not of version 3, the cells of a side by the table are those of a track that begins where the entry says and is as long as it says
+pub side-cells-at : (h : List ℕ) (t s : ℕ) → isVersion3 h ≡ false → sideStream h t s ≡ sideCellsAt h (trackStart h t) (trackLength h t) s
+unfolding trackPart trackUnitBytes sideCellsAt
+side-cells-at h t s plain = plain-stream h t s plain
 
 module _ (h : List ℕ) (start long s : ℕ) where
   -- a side has eight cells for each of its bytes, which are half of the track's
@@ -66,6 +68,21 @@ cells-same h g start long s hs same =
     (λ i l.
     let m : i < 8 * (long / 2) = rw (cells-length g start long s) at l in
     cells-in g start long s i hs m ∙ ap (λ (v : ℕ). v / 2 ^ (i % 8) % 2) (same (i / 8) (omega arith)) ∙ sym (cells-in h start long s i hs m))
+
+-- two images that have the same bytes on a side give the same in version 3
+pub coded-same : (h g : List ℕ) (t s : ℕ) → s < 2 → trackStart g t ≡ trackStart h t → trackLength g t ≡ trackLength h t
+    → ((b : ℕ) → b < trackLength h t / 2
+    → getD g (trackStart h t + 256 * s + 512 * (b / 256) + b % 256) 0 ≡ getD h (trackStart h t + 256 * s + 512 * (b / 256) + b % 256) 0)
+    → codedSide g t s ≡ codedSide h t s
+unfolding codedSide trackPart trackUnitBytes storedBytes bytePlace
+coded-same h g t s hs e f same =
+    rw (e, f)
+    (ap coded
+    (tab-ext _ _ (8 * (trackLength h t / 2) / 8)
+    (λ b l.
+    part-byte g (trackStart h t) (trackLength h t) s b hs (omega arith)
+    ∙ same b (omega arith)
+    ∙ sym (part-byte h (trackStart h t) (trackLength h t) s b hs (omega arith)))))
 
 -- ---- the bytes of a side
 

@@ -24,7 +24,7 @@ use Rattle.sector_rules.specs.declared.Sector.{Sector}
 use Rattle.sector_rules.specs.declared.Sector.the-variants.{Delivered, Missing, Repeated, NoField, Damaged}
 use Rattle.sector_rules.specs.Replies.{replyWith, done, refusal, wrongHfe, unless}
 use Rattle.sector_rules.specs.Geometry.{tracks, sides, sectors, allSectors, sectorBytes}
-use Rattle.sector_rules.specs.Hfe.{hfeHeaderFault, tableFault, sideStream}
+use Rattle.sector_rules.specs.Hfe.{version1Fault, tableFault, sideStream}
 use Rattle.sector_rules.specs.Search.{sectorOf}
 use Rattle.sector_rules.specs.Unpacked.{trackOf, sideOf, rOf, leastHfe, sectorAt, sectorBytesAt, sectorReply, isBad}
 use Rattle.sector_rules.specs.Packed.{imageSectorOf}
@@ -53,11 +53,11 @@ module _ (h : List ℕ) (t s r : ℕ) (d : List ℕ) where
       rewrite-later = cond-false wrongHfe _ (lt-false l) ∙ cond-true _ (refusal 12) a
 
       -- an HFE image with a wrong header is refused with 2 and the offset
-      pub rewrite-header : (o : ℕ) → hfeHeaderFault h ≡ At o → rewriteReply h t s r d ≡ replyWith 2 o 0 0
+      pub rewrite-header : (o : ℕ) → version1Fault h ≡ At o → rewriteReply h t s r d ≡ replyWith 2 o 0 0
       unfolding unless orElse
       rewrite-header o f = rewrite-later ∙ rw f
 
-      module _ (f : hfeHeaderFault h ≡ Sound) where
+      module _ (f : version1Fault h ≡ Sound) where
         -- an HFE image with a wrong table entry is refused with 3 and the track
         pub rewrite-table : (k : ℕ) → tableFault h ≡ At k → rewriteReply h t s r d ≡ replyWith 3 k 0 0
         unfolding unless orElse
@@ -100,7 +100,7 @@ module _ (h : List ℕ) (t s r : ℕ) (d : List ℕ) where
 -- what holds where a rewrite is done
 pub record AcceptedRewrite (h : List ℕ) (t s r : ℕ) (d : List ℕ) : Type 0 where
   pub arguments : rewriteArguments t s r d ≡ true
-  pub header : hfeHeaderFault h ≡ Sound
+  pub header : version1Fault h ≡ Sound
   pub table : tableFault h ≡ Sound
   pub field : hasField (sectorAt h (imageSectorOf t s r)) ≡ true
   pub result : resultRight h (rewritten h t s r d) (imageSectorOf t s r) d ≡ true
@@ -118,7 +118,7 @@ module _ (h : List ℕ) (t s r : ℕ) (d : List ℕ) (e : rewriteReply h t s r d
   not-zero x p n = true≢false (eqb (x .number) 0) (eq-true (ap (λ (y : Reply). y .number) (sym p) ∙ e)) n
 
   module _ (l : leastHfe ≤ length h) (a : rewriteArguments t s r d ≡ true) where
-    sector-accepted : hfeHeaderFault h ≡ Sound → tableFault h ≡ Sound → AcceptedRewrite h t s r d
+    sector-accepted : version1Fault h ≡ Sound → tableFault h ≡ Sound → AcceptedRewrite h t s r d
     sector-accepted f g =
         let m : ℕ = imageSectorOf t s r in
         let p = rewrite-sound h t s r d l a f g in
@@ -129,11 +129,11 @@ module _ (h : List ℕ) (t s r : ℕ) (d : List ℕ) (e : rewriteReply h t s r d
         (λ u. absurd
         (not-zero (sectorReply m (sectorAt h m)) (p ∙ rewrite-field h t s r d u) (bad-number m (sectorAt h m) (no-field-bad (sectorAt h m) u))))
 
-    table-accepted : hfeHeaderFault h ≡ Sound → (g : Fault) → tableFault h ≡ g → AcceptedRewrite h t s r d
+    table-accepted : version1Fault h ≡ Sound → (g : Fault) → tableFault h ≡ g → AcceptedRewrite h t s r d
     table-accepted f (At k) g = absurd (not-zero (replyWith 3 k 0 0) (rewrite-table h t s r d l a f k g) refl)
     table-accepted f Sound g = sector-accepted f g
 
-    header-accepted : (f : Fault) → hfeHeaderFault h ≡ f → AcceptedRewrite h t s r d
+    header-accepted : (f : Fault) → version1Fault h ≡ f → AcceptedRewrite h t s r d
     header-accepted (At o) f = absurd (not-zero (replyWith 2 o 0 0) (rewrite-header h t s r d l a o f) refl)
     header-accepted Sound f = table-accepted f (tableFault h) refl
 
@@ -142,7 +142,7 @@ module _ (h : List ℕ) (t s r : ℕ) (d : List ℕ) (e : rewriteReply h t s r d
   rewrite-accepted =
       by-order (length h) leastHfe
       (λ l. absurd (not-zero wrongHfe (rewrite-short h t s r d l) refl))
-      (λ l. by-test (rewriteArguments t s r d) (λ a. header-accepted l a (hfeHeaderFault h) refl)
+      (λ l. by-test (rewriteArguments t s r d) (λ a. header-accepted l a (version1Fault h) refl)
       (λ a. absurd (not-zero (refusal 12) (rewrite-arguments h t s r d l a) refl)))
 
 -- ---- the arguments

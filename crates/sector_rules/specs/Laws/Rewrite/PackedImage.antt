@@ -117,7 +117,8 @@ track-agree : (image next : List ℕ) (t o : ℕ)
 unfolding hfeTrackByte packed
 track-agree image next t o same =
     ap (λ (x : ℕ). cond (ltb (sideByteOf o) 12500) x fillByte)
-    (packedBits-same (writtenCell (imageSide image t (o % 512 / 256))) (writtenCell (imageSide next t (o % 512 / 256))) (8 * sideByteOf o) (8 * sideByteOf o) 8
+    (packedBits-same (writtenCell (imageSide image t (o % 512 / 256))) (writtenCell (imageSide next t (o % 512 / 256))) (8 * sideByteOf o)
+    (8 * sideByteOf o) 8
     (λ j h. same (8 * sideByteOf o + j) (omega arith) (omega arith)))
 
 -- ---- the place, and what is written
@@ -224,7 +225,8 @@ module _ (image d : List ℕ) (t s k : ℕ) (ht : t < 80) (hs : s < 2) (hk : k <
       never b i x y et es lo hi =
           let z : j - 512 * (2 + 49 * t) ≡ o = omega arith in
           true≢false (isSideByte (512 * (2 + 49 * t)) 12500 s (16 * (146 + 658 * k + 60) / 8) changedBytes j)
-          (in-yes (512 * (2 + 49 * t)) 12500 s (16 * (146 + 658 * k + 60) / 8) changedBytes j (omega arith) (rw z es) (rw z (omega arith)) (rw z (omega arith))
+          (in-yes (512 * (2 + 49 * t)) 12500 s (16 * (146 + 658 * k + 60) / 8) changedBytes j (omega arith) (rw z es) (rw z (omega arith)) (rw z
+          (omega arith))
           (rw z (omega arith))) e
 
   -- what is written to a packed image is the packed image of the block image with the sector replaced

@@ -23,7 +23,7 @@ use Rattle.sector_rules.specs.Rewritten.{rewritten, sectorNumber, sector
 use Rattle.sector_rules.specs.Rewritten.{rewriteArguments, rewriteReply, rewriteHfe}
 use Rattle.sector_rules.specs.Rewriting.{RewritePacks}
 use Rattle.sector_rules.specs.Laws.Base.Unpacked.{good-is}
-use Rattle.sector_rules.specs.Laws.Trip.RoundTrip.{packedImage, size, header-sound, table-sound, good-sector, sector-bytes, packed-is}
+use Rattle.sector_rules.specs.Laws.Trip.RoundTrip.{packedImage, size, version1-sound, table-sound, good-sector, sector-bytes, packed-is}
 use Rattle.sector_rules.specs.Laws.Rewrite.PackedImage.{put-here, put-other, put-small, put-long, rewritten-is}
 
 -- ---- what a packed image gives
@@ -32,7 +32,7 @@ module _ (image : List ℕ) where
   -- header and table of a packed image are right
   refused-none : hfeRefusal (packedImage image) ≡ none
   unfolding orElse
-  refused-none = rw (header-sound image, table-sound image)
+  refused-none = rw (version1-sound image, table-sound image)
 
   module _ (small : (j : ℕ) → getD image j 0 < 256) (q : ℕ) (hq : q < 1440) where
     -- each sector of a packed image gives 0

@@ -11,7 +11,7 @@ use Rattle.laws.specs.Laws.Tests.{eq-true, eq-false, and-false-right}
 use Rattle.sector_rules.specs.declared.Fault.the-variants.{Sound}
 use Rattle.sector_rules.specs.Replies.{replyWith}
 use Rattle.sector_rules.specs.Geometry.{tracks, sides, sectors, allSectors}
-use Rattle.sector_rules.specs.Hfe.{hfeHeaderFault, tableFault}
+use Rattle.sector_rules.specs.Hfe.{version1Fault, tableFault}
 use Rattle.sector_rules.specs.Unpacked.{sectorAt}
 use Rattle.sector_rules.specs.Packed.{imageSectorOf}
 use Rattle.sector_rules.specs.Rewritten.{rewritten, resultRight, hasField, rewriteArguments, rewriteReply}
@@ -32,7 +32,7 @@ argument-limits =
       long = λ t s r d n. and-false-right (ltb t tracks && ltb s sides && leb 1 r && leb r sectors) (eq-false n);
     }
 
-module _ (h : List ℕ) (t s r : ℕ) (d : List ℕ) (l : 1024 ≤ length h) (a : rewriteArguments t s r d ≡ true) (f : hfeHeaderFault h ≡ Sound)
+module _ (h : List ℕ) (t s r : ℕ) (d : List ℕ) (l : 1024 ≤ length h) (a : rewriteArguments t s r d ≡ true) (f : version1Fault h ≡ Sound)
     (g : tableFault h ≡ Sound) (x : hasField (sectorAt h (imageSectorOf t s r)) ≡ true) where
   within : imageSectorOf t s r < allSectors
   within = let n : Named t s r d = arguments-named t s r d a in named-within t s r (n .track) (n .side) (n .least) (n .most)

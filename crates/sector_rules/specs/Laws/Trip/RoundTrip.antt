@@ -10,7 +10,7 @@ use lib.Dec.{eqb, lit<}
 use lib.ListN.{length, getD, drop}
 use lib.Seq.{ext-getD, getD-take, getD-drop}
 use borrow.Author.Tests.{le-leb}
-use Rattle.laws.specs.Lists.{tab, window, standsAt}
+use Rattle.laws.specs.Lists.{tab, window}
 use Rattle.laws.specs.Below.{all}
 use Rattle.laws.specs.Numbers.{quotientUp, lowFirst, lowByte}
 use Rattle.laws.specs.Laws.Cases.{by-order}
@@ -26,15 +26,28 @@ use Rattle.cells.specs.Laws.Written.{written-length, writtenCell-bit}
 use Rattle.sector_rules.specs.declared.Fault.the-variants.{Sound}
 use Rattle.sector_rules.specs.Replies.{done}
 use Rattle.sector_rules.specs.Geometry.{sectorBytes, allSectors, imageBytes}
-use Rattle.sector_rules.specs.Hfe.{hfeSignature, formatFault, flagFault, hfeHeaderFault, entryPlace, trackStart}
-use Rattle.sector_rules.specs.Hfe.{trackLength, trackUnitBytes, trackGood, tableFault, trackPart, sideStream}
-use Rattle.sector_rules.specs.Unpacked.{leastHfe, trackOf, sideOf, rOf, isBad, sectorAt, sectorBytesAt, firstBad, sectorsReply, unpackReply, unpackedByte}
+use Rattle.sector_rules.specs.Hfe.{hfeSignature, isVersion1, isVersion3, fieldFault, formatFault, flagFault, hfeHeaderFault, version1Fault}
+use Rattle.sector_rules.specs.Hfe.{entryPlace, trackStart, trackLength, trackUnitBytes, trackGood, tableFault, trackPart, sideStream}
+use Rattle.sector_rules.specs.Unpacked.{
+  leastHfe,
+  trackOf,
+  sideOf,
+  rOf,
+  isBad,
+  sectorAt,
+  sectorBytesAt,
+  firstBad,
+  sectorsReply,
+  unpackReply,
+  unpackedByte,
+}
 use Rattle.sector_rules.specs.Packed.{hfeBytes, hfeHeaderRest, hfeHeaderByte, hfeTableByte, hfeTrackByte, hfeByte}
 use Rattle.sector_rules.specs.Packed.{packHfe, imageSectorOf, sectorData, imageSide, sideItem}
 use Rattle.sector_rules.specs.RoundTrip.{RoundTrip}
 use Rattle.sector_rules.specs.Laws.Base.Faults.{fault-none}
 use Rattle.sector_rules.specs.Laws.Base.Packed.{table-0, table-1, table-2, table-3, track-in, hfe-header, hfe-table, hfe-track, pack-done, hfe-after}
 use Rattle.sector_rules.specs.Laws.Base.Unpacked.{sound-reply, image-after}
+use Rattle.sector_rules.specs.Laws.Base.Versions.{version-1-not-3, version1-judged, plain-stream, plain-codes}
 use Rattle.sector_rules.specs.Laws.Trip.SideTrip.{writtenSide}
 use Rattle.sector_rules.specs.Laws.Trip.FieldTrip.{sector-back, bytes-back}
 
@@ -65,8 +78,8 @@ module _ (image : List ℕ) where
   front : (k : ℕ) → k < 512 → getD packedImage k 0 ≡ hfeHeaderByte k
   front k h = byte k (omega arith) ∙ hfe-header image k h
 
-  signed : standsAt packedImage 0 hfeSignature ≡ true
-  unfolding hfeSignature
+  signed : isVersion1 packedImage ≡ true
+  unfolding isVersion1 hfeSignature
   signed = stands-all packedImage 0 hfeSignature (rw size (omega arith)) each
     where
       each : (k : ℕ) → k < 8 → getD packedImage (0 + k) 0 ≡ getD hfeSignature k 0
@@ -76,10 +89,10 @@ module _ (image : List ℕ) where
   unfolding lowFirst hfeHeaderByte hfeSignature hfeHeaderRest lowByte
   table-unit = rw (front 18 (lit< tt), front 19 (lit< tt))
 
-  -- its header is right
-  pub header-sound : hfeHeaderFault packedImage ≡ Sound
-  unfolding hfeHeaderFault formatFault flagFault lowFirst hfeHeaderByte hfeSignature hfeHeaderRest lowByte
-  header-sound =
+  -- its header is right, with the letters of version 1
+  pub version1-sound : version1Fault packedImage ≡ Sound
+  unfolding version1Fault fieldFault formatFault flagFault lowFirst hfeHeaderByte hfeSignature hfeHeaderRest lowByte
+  version1-sound =
       rw (
         signed,
         front 8 (lit< tt),
@@ -93,6 +106,14 @@ module _ (image : List ℕ) where
         front 22 (lit< tt),
         front 24 (lit< tt),
       )
+
+  -- so it can be unpacked
+  header-sound : hfeHeaderFault packedImage ≡ Sound
+  header-sound = version1-judged packedImage signed ∙ version1-sound
+
+  -- it has no codes
+  plain : isVersion3 packedImage ≡ false
+  plain = version-1-not-3 packedImage signed
 
   -- ---- the table
 
@@ -111,7 +132,15 @@ module _ (image : List ℕ) where
     offset =
         let q : (4 * t + 0) / 4 ≡ t = omega arith in
         let q₁ : (4 * t + 1) / 4 ≡ t = omega arith in
-        rw (in-table 0 (lit< tt), in-table 1 (lit< tt), table-0 (4 * t + 0) (omega arith) (omega arith), table-1 (4 * t + 1) (omega arith) (omega arith), q, q₁)
+        rw (
+          in-table 0 (lit< tt),
+          in-table 1 (lit< tt),
+          table-0 (4 * t + 0) (omega arith) (omega arith),
+          table-1 (4 * t + 1) (omega arith)
+              (omega arith),
+          q,
+          q₁,
+        )
         (omega arith)
 
     long : lowFirst packedImage (512 + 4 * t + 2) 2 ≡ 25000
@@ -119,7 +148,15 @@ module _ (image : List ℕ) where
     long =
         let e : 512 + 4 * t + 2 + 0 ≡ 512 + 4 * t + 2 = omega arith in
         let f : 512 + 4 * t + 2 + 1 ≡ 512 + 4 * t + 3 = omega arith in
-        rw (e, f, in-table 2 (lit< tt), in-table 3 (lit< tt), table-2 (4 * t + 2) (omega arith) (omega arith), table-3 (4 * t + 3) (omega arith) (omega arith))
+        rw (
+          e,
+          f,
+          in-table 2 (lit< tt),
+          in-table 3 (lit< tt),
+          table-2 (4 * t + 2) (omega arith) (omega arith),
+          table-3 (4 * t + 3) (omega arith)
+              (omega arith),
+        )
 
     -- where each track begins in it
     pub start : trackStart packedImage t ≡ 512 * (2 + 49 * t)
@@ -181,9 +218,10 @@ module _ (image : List ℕ) where
 
     -- each side's stream of the written image is the written side
     pub stream-back : sideStream packedImage t s ≡ writtenSide t s (sectorData image t s)
-    unfolding sideStream writtenSide
+    unfolding writtenSide
     stream-back =
-        rw (track-long t ht)
+        plain-stream packedImage t s plain
+        ∙ rw (track-long t ht)
         (ext-getD 0 (stream (trackPart packedImage t) (hfeSide s 25000)) (written (sideItem t s (sectorData image t s)) 6250)
         (stream-length (trackPart packedImage t) (hfeSide s 25000) ∙ sym (written-length (sideItem t s (sectorData image t s)) 6250))
         (λ i h. cell-back i (rw (stream-length (trackPart packedImage t) (hfeSide s 25000)) at h)))
@@ -254,7 +292,8 @@ round-trip image hfe old li small lh lo =
     let x : packHfe image hfe ≡ packedImage image = packed-is image hfe li lh in
     let l : leastHfe ≤ length (packedImage image) = rw (size image) (omega arith) in
     let r : unpackReply (packedImage image) (length old) ≡ done =
-    sound-reply (packedImage image) (length old) l lo (header-sound image) (table-sound image) ∙ sectors-done image small in (
+    sound-reply (packedImage image) (length old) l lo (header-sound image) (table-sound image)
+    (plain-codes (packedImage image) (plain image)) ∙ sectors-done image small in (
       p,
       rw x r,
       rw x

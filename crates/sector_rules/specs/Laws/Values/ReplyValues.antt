@@ -4,7 +4,7 @@ use mathlib.Core.List.{List, _∷_, _++_}
 use mathlib.Core.Logic.{_≢_}
 use mathlib.Core.Path.{_≡_, refl, _∙_}
 use Prim.Native.Nat.{ℕ, _+_, _-_, _*_, _%_, _≤_, _<_}
-use lib.ListN.{length}
+use lib.ListN.{length, replicate}
 use Rattle.laws.specs.Below.{lowest}
 use Rattle.laws.specs.Laws.Tests.{eq-false, lt-true, lt-false, cond-true, cond-false}
 use Rattle.laws.specs.Lists.{same, bytesAre, standsAt, tab}
@@ -12,8 +12,8 @@ use Rattle.laws.specs.Numbers.{quotientUp, lowFirst}
 use Rattle.laws.specs.Options.{orElse}
 use Rattle.sector_rules.specs.Faults.{faultBelow, lowestFault}
 use Rattle.sector_rules.specs.Geometry.{sidePlace, toImageSector}
-use Rattle.sector_rules.specs.HeaderValues.{hfeHeader}
-use Rattle.sector_rules.specs.Hfe.{hfeSignature, formatFault, flagFault, hfeHeaderFault}
+use Rattle.sector_rules.specs.HeaderValues.{hfeHeader, version3Header}
+use Rattle.sector_rules.specs.Hfe.{hfeSignature, version3Signature, isVersion1, isVersion3, fieldFault, formatFault, flagFault, hfeHeaderFault}
 use Rattle.sector_rules.specs.Hfe.{entryPlace, trackStart, trackLength, trackUnitBytes, trackGood, tableFault}
 use Rattle.sector_rules.specs.Packed.{packReply}
 use Rattle.sector_rules.specs.Replies.{replyWith, unless}
@@ -40,11 +40,17 @@ pack-length-is : (n : ℕ) → n ≢ 737280 → packReply n 2008064 ≡ replyWit
 unfolding packReply
 pack-length-is n w = cond-false _ _ (eq-false w)
 
+table-first : unpackReply (version3Header ++ (replicate 486 0 ++ (1 ∷ 0 ∷ 0 ∷ 2 ∷ 0x2F ∷ replicate 507 0))) 737280 ≡ replyWith 3 1 0 0
+unfolding hfeHeader version3Header unpackReply unless orElse hfeHeaderFault isVersion1 isVersion3 fieldFault formatFault flagFault hfeSignature
+    version3Signature standsAt bytesAre same tab lowFirst tableFault lowestFault faultBelow lowest trackGood entryPlace trackStart trackLength trackUnitBytes
+    quotientUp
+table-first = refl
+
 -- reply-values: all of these hold
 pub reply-values : ReplyValues
-unfolding toImageSector sidePlace tableReply withTable hfeHeader unpackReply unless orElse hfeHeaderFault formatFault flagFault hfeSignature standsAt bytesAre
-    same tab lowFirst tableFault lowestFault faultBelow lowest trackGood entryPlace trackStart trackLength trackUnitBytes quotientUp
-    goodEntries
+unfolding toImageSector sidePlace tableReply withTable hfeHeader unpackReply unless orElse hfeHeaderFault isVersion1 fieldFault formatFault flagFault
+    hfeSignature standsAt bytesAre same tab lowFirst tableFault lowestFault faultBelow lowest trackGood entryPlace trackStart trackLength trackUnitBytes
+    quotientUp goodEntries
 reply-values =
     record {
       pack-accepted = pack-accepted-is;
@@ -54,6 +60,7 @@ reply-values =
       pack-length = pack-length-is;
       table-judged = refl;
       table-ends = (refl, refl);
+      table-before-codes = table-first;
       last-track = refl;
       sectors-named = refl;
       places-named = refl;

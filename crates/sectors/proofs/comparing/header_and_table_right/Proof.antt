@@ -1,5 +1,5 @@
 -- `header_and_table_right` meets its contract.
--- Rests on: the laws in Rewriting/Exchanged; the contracts of put_bytes, hfe_header_fault, table_fault and is_sound.
+-- Rests on: the laws in Rewriting/Exchanged; the contracts of put_bytes, version1_fault, table_fault and is_sound.
 -- Assumes nothing.
 use mathlib.Core.Path.{_∙_}
 use Rattle.sectors.specs.Laws.Rewriting.Exchanged.{fits-after, goes-back, sound-both}
@@ -10,8 +10,8 @@ use Rattle.sectors.proofs.comparing.header_and_table_right.Tie as tie
 put-bytes-requires : tie.Need-put-bytes-requires
 put-bytes-requires c κs = c .before .before .pre .fits
 
-hfe-header-fault-requires : tie.Need-hfe-header-fault-requires
-hfe-header-fault-requires c κs = search needs
+version1-fault-requires : tie.Need-version1-fault-requires
+version1-fault-requires c κs = search needs
 
 is-sound-requires : tie.Need-is-sound-requires
 is-sound-requires c κs = search needs
@@ -25,8 +25,8 @@ is-sound-requires-2 c κs = search needs
 put-bytes-requires-2 : tie.Need-put-bytes-requires-2
 put-bytes-requires-2 c κs =
     let after-table-fault-arg = c .before .before .before in
-    let after-hfe-header-fault-arg = after-table-fault-arg .before .before .before in
-    let after-put-bytes = after-hfe-header-fault-arg .before .before .before in
+    let after-version1-fault-arg = after-table-fault-arg .before .before .before in
+    let after-put-bytes = after-version1-fault-arg .before .before .before in
     let start = after-put-bytes .before .before .before in
     rw (after-put-bytes .put-bytes .ensures) (fits-after _ _ _ (start .pre) _)
 
@@ -39,14 +39,14 @@ returns c =
     let after-is-sound2 = after-put-bytes2 .before .before in
     let after-table-fault = after-is-sound2 .before in
     let after-is-sound = after-table-fault .before .before in
-    let after-hfe-header-fault = after-is-sound .before in
-    let after-hfe = after-hfe-header-fault .before .before .before in
+    let after-version1-fault = after-is-sound .before in
+    let after-hfe = after-version1-fault .before .before .before in
     let after-put-bytes = after-hfe .before in
     let start = after-put-bytes .before .before .before in (
       rw (
         after-is-sound .is-sound .ensures,
         after-is-sound2 .is-sound2 .ensures,
-        after-hfe-header-fault .hfe-header-fault .ensures,
+        after-version1-fault .version1-fault .ensures,
         after-table-fault .table-fault .ensures,
         after-put-bytes .put-bytes .ensures,
       ) (sound-both _),
@@ -59,7 +59,7 @@ header-and-table-right-spec =
     tie.close
     (tie.spec
     put-bytes-requires
-    hfe-header-fault-requires
+    version1-fault-requires
     is-sound-requires
     table-fault-requires
     is-sound-requires-2

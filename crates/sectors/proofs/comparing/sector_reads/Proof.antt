@@ -44,8 +44,8 @@ returns c =
     let after-track-side = at-loop .before in
     let after-track-part = after-track-side .before in
     sym (reads-differ _ _ _ _ (at-loop .loop .k)
-    (λ e. c .if1 .taken (byte-read _ _ _ _ (plain-cells _ _ _ _ _ (after-track-part .track-part .ensures) (after-track-side .track-side .ensures)) _ _
-    (omega arith)
+    (λ e. c .if1 .taken (byte-read _ _ _ _ (plain-cells _ (after-track-part .before .before .before .pre .0) _ _ _ _
+    (after-track-part .track-part .ensures) (after-track-side .track-side .ensures)) _ _ (omega arith)
     (after-data-byte .data-byte .ensures) ∙ e)))
 
 add-k : tie.Need-add-k Inv-loop μ-loop
@@ -62,8 +62,8 @@ loop-again c =
     let after-track-part = after-track-side .before in (
       omega arith,
       λ i h. by-equal i (at-loop .loop .k)
-          (λ e. rw e (sym (byte-read _ _ _ _ (plain-cells _ _ _ _ _ (after-track-part .track-part .ensures) (after-track-side .track-side .ensures)) _ _
-          (omega arith)
+          (λ e. rw e (sym (byte-read _ _ _ _ (plain-cells _ (after-track-part .before .before .before .pre .0) _ _ _ _
+          (after-track-part .track-part .ensures) (after-track-side .track-side .ensures)) _ _ (omega arith)
           (after-data-byte .data-byte .ensures)) ∙ c .if1 .left)) (λ e. at-loop .loop .inv .1 i (omega arith)),
     )
 

@@ -1,7 +1,7 @@
 -- `side_right` meets its contract.
 -- Rests on: the laws in Rewriting/Skipped; the contracts of untouched and side_reads_right.
 -- Assumes nothing.
-use mathlib.Core.Path.{refl, sym}
+use mathlib.Core.Path.{refl, sym, _∙_}
 use Prim.Native.Nat.{_/_}
 use Rattle.sector_rules.specs.Geometry.{sectors}
 use Rattle.sectors.specs.Laws.Rewriting.Skipped.{skip-told, skipped-right}
@@ -19,8 +19,11 @@ returns : tie.Need-returns
 returns c =
     let after-shared-slice-known = c .before .before .before in
     let start = after-shared-slice-known .before .before in
-    let told = skip-told (start .args .n) (start .args .m / sectors) (c .before .untouched .result) (c .if1 .taken) in
-    (sym (skipped-right _ _ _ _ (start .pre .0 .exchange .fits) (c .before .untouched .ensures (told .1)) _ _ (told .0)), refl)
+    let told = skip-told (start .args .n) (start .args .m / sectors) (c .before .untouched .result) (c .if1 .taken) in (
+      sym (skipped-right _ _ _ _ (start .pre .0 .exchange .fits) (start .pre .0 .after .version ∙ sym (start .pre .0 .exchange .plain .version))
+          (c .before .untouched .ensures (told .1)) _ _ (told .0)),
+      refl,
+    )
 
 side-reads-right-requires : tie.Need-side-reads-right-requires
 side-reads-right-requires c κs = search needs

@@ -17,7 +17,8 @@ cast-left : tie.Need-cast-left
 cast-left c = search needs
 
 sub-left : tie.Need-sub-left
-sub-left c = let long = side-cells-length (c .before .before .args .hfe .now) (c .before .before .args .track) (c .before .before .args .head) 0 in
+sub-left c = let long = side-cells-length (c .before .before .args .hfe .now) (c .before .before .args .track) (c .before .before .args .head) 0
+    (c .before .before .pre .0) in
     let le = c .track-length .ensures in omega (arith, long, le, c .before .before .pre .3)
 
 track-start-requires : tie.Need-track-start-requires
@@ -31,7 +32,7 @@ returns c =
     (after-track-length .track-length .result / 2 - start .args .p / 8) (c .before .track-start .ensures .0)
     (let le = after-track-length .track-length .ensures in omega (arith, le)) in (
       e,
-      rw e (window-fits _ _ _ _ (start .pre .0 .table) (start .pre .1) (start .pre .2) (start .pre .3)
+      rw e (window-fits _ _ _ _ (start .pre .0) (start .pre .1) (start .pre .2) (start .pre .3)
           (rw (sym (c .before .track-start .ensures .0)) (omega arith)) (rw (sym (after-track-length .track-length .ensures)) (omega arith))),
     )
 
@@ -42,7 +43,7 @@ returns-2 c =
     let e = window-is (start .args .hfe .now) (start .args .track) (start .args .head) (start .args .p) (c .before .track-start .result) changedBytes
     (c .before .track-start .ensures .0) (let le = after-track-length .track-length .ensures in omega (arith, le)) in (
       e,
-      rw e (window-fits _ _ _ _ (start .pre .0 .table) (start .pre .1) (start .pre .2) (start .pre .3)
+      rw e (window-fits _ _ _ _ (start .pre .0) (start .pre .1) (start .pre .2) (start .pre .3)
           (rw (sym (c .before .track-start .ensures .0)) (omega arith)) (rw (sym (after-track-length .track-length .ensures)) (omega arith))),
     )
 

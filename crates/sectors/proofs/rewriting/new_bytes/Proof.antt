@@ -30,8 +30,8 @@ returns c =
     let after-field-row = c .before .before in
     let after-track-side = after-field-row .before in
     let after-track-part = after-track-side .before in
-    renewed-side _ _ _ _ (plain-cells _ _ _ _ _ (after-track-part .track-part .ensures) (after-track-side .track-side .ensures)) _ _
-    (after-field-row .field-row .ensures) _
+    renewed-side _ _ _ _ (plain-cells _ (after-track-part .before .before .before .pre .0) _ _ _ _
+    (after-track-part .track-part .ensures) (after-track-side .track-side .ensures)) _ _ (after-field-row .field-row .ensures) _
     _ _ _ (c .bytes-after .ensures)
 
 pub new-bytes-spec : {M : Type 1} → statement M

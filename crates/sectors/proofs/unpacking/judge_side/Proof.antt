@@ -1,5 +1,5 @@
 -- `judge_side` meets its contract: the sectors below k are good, and the places of their bytes are noted.
--- Rests on: the laws in Unpacking/SectorsJudged; the contracts of image_side, is_bad, sector_reply, place_of
+-- Rests on: the laws in Unpacking/SectorsJudged; the contracts of version_side, is_bad, sector_reply, place_of
 -- and done.
 -- Assumes nothing.
 use mathlib.Core.Path.{_≡_, sym, _∙_}
@@ -18,16 +18,12 @@ Inv-loop hfe n places₀ gives k₀ places k = (k ≤ sectors) × (length places
 abbrev μ-loop : tie.MeasureT-loop
 μ-loop hfe n places₀ gives k₀ places k = sectors - k
 
-slice-aggregate-image-side : tie.Need-slice-aggregate-image-side Inv-loop μ-loop
-slice-aggregate-image-side c = search needs
-
-image-side-requires : tie.Need-image-side-requires Inv-loop μ-loop
-image-side-requires c κs = search needs
+version-side-requires : tie.Need-version-side-requires Inv-loop μ-loop
+version-side-requires c κs = search needs
 
 loop-holds : tie.Need-loop-holds Inv-loop μ-loop
 loop-holds c =
-    let after-slice-known = c .before .before .before in
-    let start = after-slice-known .before .before in
+    let start = c .before .before .before in
     let e : sectors * start .args .n + 0 ≡ sectors * start .args .n = omega arith in (omega arith, start .pre .2, rw e (start .pre .3))
 
 mul-sector : tie.Need-mul-sector Inv-loop μ-loop
@@ -55,8 +51,8 @@ returns : tie.Need-returns Inv-loop μ-loop
 returns c =
     let after-is-bad = c .before .before in
     let at-loop = after-is-bad .before .before .before in
-    let after-image-side = at-loop .before .before in
-    judged-stop _ _ _ (at-loop .loop .inv .2) _ (after-image-side .image-side .ensures .0 .each (at-loop .loop .k) (omega arith)) (omega arith)
+    let after-version-side = at-loop .before in
+    judged-stop _ _ _ (at-loop .loop .inv .2) _ (after-version-side .version-side .ensures .each (at-loop .loop .k) (omega arith)) (omega arith)
     (sym (after-is-bad .is-bad .ensures) ∙ c .before .if1 .taken) _ _ (c .sector-reply .ensures)
 
 place-of-requires : tie.Need-place-of-requires Inv-loop μ-loop
@@ -78,15 +74,14 @@ loop-again : tie.Need-loop-again Inv-loop μ-loop
 loop-again c =
     let after-is-bad = c .before .before in
     let at-loop = after-is-bad .before .before .before in
-    let after-image-side = at-loop .before .before in
-    let after-shared-slice-known = after-image-side .before .before .before in
-    let start = after-shared-slice-known .before in
+    let after-version-side = at-loop .before in
+    let start = after-version-side .before .before .before in
     let n = start .args .n in (
       omega arith,
       simp length-set (at-loop .loop .inv .1),
       rw (c .place-of .ensures)
           (noted-more _ _ (sectors * n + at-loop .loop .k) (at-loop .loop .inv .2) _
-          (after-image-side .image-side .ensures .0 .each (at-loop .loop .k) (omega arith)) (omega arith)
+          (after-version-side .version-side .ensures .each (at-loop .loop .k) (omega arith)) (omega arith)
           (sym (after-is-bad .is-bad .ensures) ∙ c .before .if1 .left) (sectors * n + (at-loop .loop .k + 1)) (omega arith)),
     )
 
@@ -99,8 +94,8 @@ same-length-2 c = search needs
 returns-2 : tie.Need-returns-2 Inv-loop μ-loop
 returns-2 c =
     let at-loop = c .before .before in
-    let after-data-places = at-loop .before .before .before in
-    let start = after-data-places .before .before .before in
+    let after-version-side = at-loop .before in
+    let start = after-version-side .before .before .before in
     let e : sectors * start .args .n + at-loop .loop .k ≡ sectors * (start .args .n + 1) = omega arith in judged-good _ _ _
     (rw e at (at-loop .loop .inv .2)) _ (c .done .ensures)
 
@@ -110,8 +105,7 @@ judge-side-spec =
     (tie.spec
     Inv-loop
     μ-loop
-    slice-aggregate-image-side
-    image-side-requires
+    version-side-requires
     loop-holds
     mul-sector
     array-copy-out-sector

@@ -1,10 +1,11 @@
 -- `unpack` meets its contract: each return is a reply of the definition, in its order.
--- Rests on: the laws in sector_rules::Base/Unpacked; the contracts of refused, hfe_header_fault, table_fault
--- and unpack_sectors.
+-- Rests on: the laws in sector_rules::Base/Unpacked and Unpacking/SectorsJudged; the contracts of refused, hfe_header_fault, table_fault
+-- and unpack_sides.
 -- Assumes nothing.
 use mathlib.Core.Path.{sym, _∙_}
 use borrow.Author.Needs.{needs}
-use Rattle.sector_rules.specs.Laws.Base.Unpacked.{short-reply, length-reply, header-reply, table-reply, sound-reply, image-after}
+use Rattle.sector_rules.specs.Laws.Base.Unpacked.{short-reply, length-reply, header-reply, table-reply, image-after}
+use Rattle.sectors.specs.Laws.Unpacking.SectorsJudged.{sides-reply}
 use Rattle.sectors.proofs.unpacking.unpack.Statement.{statement}
 use Rattle.sectors.proofs.unpacking.unpack.Tie as tie
 
@@ -54,8 +55,8 @@ refused-requires-4 c κs = search needs
 enum-told-2 : tie.Need-enum-told-2
 enum-told-2 c = search needs
 
-unpack-sectors-requires : tie.Need-unpack-sectors-requires
-unpack-sectors-requires c κs =
+unpack-sides-requires : tie.Need-unpack-sides-requires
+unpack-sides-requires c κs =
     let after-table-fault = c .before .before .before in
     let after-hfe-header-fault = after-table-fault .before .before .before in
     let else2 = after-hfe-header-fault .before in
@@ -79,18 +80,18 @@ same-length c = search needs
 
 returns-5 : tie.Need-returns-5
 returns-5 c =
-    let after-unpack-sectors = c .before .before in
-    let unpack-sectors = after-unpack-sectors .unpack-sectors in
-    let after-enum-told2 = after-unpack-sectors .before .before in
+    let after-unpack-sides = c .before .before in
+    let unpack-sides = after-unpack-sides .unpack-sides in
+    let after-enum-told2 = after-unpack-sides .before .before in
     let after-table-fault = after-enum-told2 .before .before in
     let after-enum-told = after-table-fault .before in
     let after-hfe-header-fault = after-enum-told .before .before in
     let else2 = after-hfe-header-fault .before in
     let else1 = else2 .before in
-    let e = sound-reply _ _ (else1 .if1 .left) (else2 .if2 .left)
+    let e = sides-reply _ _ (else1 .if1 .left) (else2 .if2 .left)
     (sym (after-hfe-header-fault .hfe-header-fault .ensures) ∙ after-enum-told .enum-told .given .1)
-    (sym (after-table-fault .table-fault .ensures) ∙ after-enum-told2 .enum-told2 .given .1) in
-    (unpack-sectors .ensures .answer ∙ sym e, unpack-sectors .ensures .after ∙ sym (image-after _ _ _ e))
+    (sym (after-table-fault .table-fault .ensures) ∙ after-enum-told2 .enum-told2 .given .1) ∙ sym (unpack-sides .ensures .answer) in
+    (sym e, unpack-sides .ensures .after ∙ sym (image-after _ _ _ e))
 
 pub unpack-spec : {M : Type 1} → statement M
 unpack-spec =
@@ -109,7 +110,7 @@ unpack-spec =
     enum-known-t
     refused-requires-4
     enum-told-2
-    unpack-sectors-requires
+    unpack-sides-requires
     returns-4
     same-length
     returns-5)

@@ -1,8 +1,7 @@
 -- `write_sides` meets its contract: the sides below n are written.
--- Rests on: the laws in Unpacking/Sides and laws::Overlay; the contracts of track_part, track_side and
--- write_side.
+-- Rests on: the laws in Unpacking/Sides and laws::Overlay; the contract of write_version_side.
 -- Assumes nothing.
-use mathlib.Core.Path.{_≡_, ap, _∙_}
+use mathlib.Core.Path.{_≡_, refl, ap, _∙_}
 use Prim.Native.Nat.{ℕ, _+_, _-_, _*_, _≤_}
 use native.Mathlib.Omega.{arith}
 use lib.ListN.{length}
@@ -11,7 +10,7 @@ use Rattle.laws.specs.Changes.{overlay}
 use Rattle.laws.specs.Laws.Overlay.{overlay-none, overlay-next, overlay-all, overlay-length}
 use Rattle.sector_rules.specs.Geometry.{tracks, sides, sectors, sectorBytes, imageBytes}
 use Rattle.sector_rules.specs.Unpacked.{unpackedByte}
-use Rattle.sectors.specs.Laws.Unpacking.Sides.{plain-cells, side-byte}
+use Rattle.sectors.specs.Laws.Unpacking.Sides.{side-byte}
 use Rattle.sectors.proofs.unpacking.write_sides.Statement.{statement}
 use Rattle.sectors.proofs.unpacking.write_sides.Tie as tie
 
@@ -26,17 +25,8 @@ abbrev μ-loop : tie.MeasureT-loop
 loop-holds : tie.Need-loop-holds Inv-loop μ-loop
 loop-holds c = (omega arith, c .before .before .before .pre .2, overlay-none _ _ _)
 
-track-part-requires : tie.Need-track-part-requires Inv-loop μ-loop
-track-part-requires c κs = search needs
-
-track-side-requires : tie.Need-track-side-requires Inv-loop μ-loop
-track-side-requires c κs = search needs
-
-mul-write-side : tie.Need-mul-write-side Inv-loop μ-loop
-mul-write-side c = search needs
-
-write-side-requires : tie.Need-write-side-requires Inv-loop μ-loop
-write-side-requires c κs = search needs
+write-version-side-requires : tie.Need-write-version-side-requires Inv-loop μ-loop
+write-version-side-requires c κs = search needs
 
 add-n : tie.Need-add-n Inv-loop μ-loop
 add-n c = search needs
@@ -46,11 +36,9 @@ loop-less c = omega arith
 
 loop-again : tie.Need-loop-again Inv-loop μ-loop
 loop-again c =
-    let after-write-side = c .before .before in
-    let write-side = after-write-side .write-side in
-    let after-track-side = after-write-side .before .before in
-    let after-track-part = after-track-side .before in
-    let at-loop = after-track-part .before .before in
+    let after-write-version-side = c .before .before in
+    let write-version-side = after-write-version-side .write-version-side in
+    let at-loop = after-write-version-side .before .before .before in
     let loop = at-loop .loop in
     let after-shared-slice-known = at-loop .before .before .before in
     let start = after-shared-slice-known .before in
@@ -58,11 +46,10 @@ loop-again c =
     let n = loop .n in
     let q : sectorBytes * (sectors * n) + sectorBytes * sectors ≡ sectorBytes * (sectors * (n + 1)) = omega arith in (
       omega arith,
-      ap length (write-side .ensures) ∙ overlay-length _ _ _ _ ∙ loop .inv .1,
-      write-side .ensures ∙ overlay-next
+      ap length (write-version-side .ensures) ∙ overlay-length _ _ _ _ ∙ loop .inv .1,
+      write-version-side .ensures ∙ overlay-next
           _ (sectorBytes * (sectors * n)) (sectorBytes * sectors) _ (unpackedByte h) _ (loop .inv .2)
-          (side-byte h n _ (plain-cells _ _ _ _ _ (after-track-part .track-part .ensures) (after-track-side .track-side .ensures)) _
-          (start .pre .3 .each) (omega arith)) ∙ ap (λ (j : ℕ). overlay (start .args .image .now) 0 j (unpackedByte h)) q,
+          (side-byte h n _ refl _ (start .pre .3 .each) (omega arith)) ∙ ap (λ (j : ℕ). overlay (start .args .image .now) 0 j (unpackedByte h)) q,
     )
 
 same-length : tie.Need-same-length Inv-loop μ-loop
@@ -84,10 +71,7 @@ write-sides-spec =
     Inv-loop
     μ-loop
     loop-holds
-    track-part-requires
-    track-side-requires
-    mul-write-side
-    write-side-requires
+    write-version-side-requires
     add-n
     loop-less
     loop-again

@@ -9,15 +9,14 @@ use native.Mathlib.Omega.{arith}
 use lib.Dec.{eqb}
 use lib.ListN.{length, getD}
 use Rattle.laws.specs.Laws.Tests.{true≢false, cond-true, cond-false}
-use Rattle.cells.specs.Stream.{stream, hfeSide, packed}
-use Rattle.cells.specs.declared.Side.{Side}
+use Rattle.cells.specs.Stream.{packed}
 use Rattle.sector_rules.specs.declared.Fault.the-variants.{Sound}
 use Rattle.sector_rules.specs.declared.Reply.{Reply}
 use Rattle.sector_rules.specs.declared.Sector.{Sector}
 use Rattle.sector_rules.specs.declared.Sector.the-variants.{Delivered, Missing, Repeated, NoField, Damaged}
 use Rattle.sector_rules.specs.Replies.{done, refusal}
 use Rattle.sector_rules.specs.Geometry.{tracks, sides, sectors}
-use Rattle.sector_rules.specs.Hfe.{hfeHeaderFault, tableFault, trackStart, trackLength, trackPart, sideStream}
+use Rattle.sector_rules.specs.Hfe.{version1Fault, tableFault, trackStart, trackLength, sideStream}
 use Rattle.sector_rules.specs.Search.{sectorOf}
 use Rattle.sector_rules.specs.Unpacked.{leastHfe, sectorAt, sectorReply}
 use Rattle.sector_rules.specs.Packed.{imageSectorOf}
@@ -27,7 +26,7 @@ use Rattle.sector_rules.specs.Laws.Base.Faults.{table-good, track-within}
 use Rattle.sector_rules.specs.Laws.Rewrite.Base.{side-cells-at, cells-length}
 use Rattle.sector_rules.specs.Laws.Rewrite.Judged.{rewrite-sound, rewrite-field, rewrite-kept, named-sector}
 use Rattle.sectors.specs.declared.SideBytes.{SideBytes}
-use Rattle.sectors.specs.Laws.Unpacking.Sides.{ImageSideGives, DataPlaces}
+use Rattle.sectors.specs.Laws.Unpacking.Sides.{PlainImage, ImageSideGives, DataPlaces}
 use Rattle.sectors.specs.Laws.Rewriting.Changed.{storedPlace, SideBytesFit, changed, with-equal}
 use Rattle.sectors.specs.Laws.Rewriting.NewCells.{Renewed}
 use Rattle.sectors.specs.Laws.Rewriting.Skipped.{unit-start, unit-end}
@@ -50,12 +49,12 @@ pub record Answered (h : List ℕ) (t s r : ℕ) (d : List ℕ) (x : Reply) (aft
 
 module _ (h : List ℕ) (t s p : ℕ) where
   -- a side has eight cells for each of its bytes
-  pub side-cells-length : length (sideStream h t s) ≡ 8 * (trackLength h t / 2)
-  side-cells-length = ap length (side-cells-at h t s) ∙ cells-length h (trackStart h t) (trackLength h t) s
+  pub side-cells-length : PlainImage h → length (sideStream h t s) ≡ 8 * (trackLength h t / 2)
+  side-cells-length x = ap length (side-cells-at h t s (x .version)) ∙ cells-length h (trackStart h t) (trackLength h t) s
 
-  module _ (sound : tableFault h ≡ Sound) (ht : t < tracks) (hs : s < sides) (within : p + dataCells ≤ length (sideStream h t s)) where
+  module _ (plain : PlainImage h) (ht : t < tracks) (hs : s < sides) (within : p + dataCells ≤ length (sideStream h t s)) where
     inside : (b : ℕ) → b < trackLength h t / 2 → storedPlace (trackStart h t) s b < length h
-    inside b l = let e = unit-end h t b l in omega (arith, e, track-within h t (table-good h sound t ht))
+    inside b l = let e = unit-end h t b l in omega (arith, e, track-within h t (table-good h (plain .table) t ht))
 
     -- they are bytes of the image
     pub window-fits : trackStart h t < 2 ^ 26 → trackLength h t < 2 ^ 16 → SideBytesFit (windowOf h t s p) (length h)
@@ -64,7 +63,7 @@ module _ (h : List ℕ) (t s p : ℕ) where
           start = a;
           aligned = unit-start h t;
           side = hs;
-          first = omega (arith, side-cells-length, within);
+          first = omega (arith, side-cells-length plain, within);
           count = omega arith;
           within = λ j l. inside (p / 8 + j) (omega (arith, l));
         }
@@ -178,7 +177,7 @@ module _ (h : List ℕ) (t s r : ℕ) (d : List ℕ) where
   call-kept x e n = sym (rewrite-kept h t s r d (λ z. n (ap (λ (y : Reply). y .number) (sym e) ∙ z)))
 
   -- where arguments, header and table are right, the call answers for the sector
-  pub call-answered : leastHfe ≤ length h → rewriteArguments t s r d ≡ true → hfeHeaderFault h ≡ Sound → tableFault h ≡ Sound
+  pub call-answered : leastHfe ≤ length h → rewriteArguments t s r d ≡ true → version1Fault h ≡ Sound → tableFault h ≡ Sound
       → (x : Reply) (after : List ℕ) → Answered h t s r d x after → (x ≡ rewriteReply h t s r d) × (after ≡ rewriteHfe h t s r d)
   unfolding rewriteHfe
   call-answered l a f g x after w =

@@ -15,12 +15,11 @@ use Rattle.laws.specs.Laws.Same.{same-eq, eq-same, ne-same}
 use Rattle.laws.specs.Laws.Tests.{true≢false, and-true, and-false-left, eq-true, eq-false, cond-true, cond-false}
 use Rattle.laws.specs.Laws.Tab.{tab-in, eq-tab}
 use Rattle.laws.specs.Laws.Overlay.{overlay-all}
-use Rattle.cells.specs.Stream.{stream, hfeSide, from, dataByte}
-use Rattle.cells.specs.declared.Side.{Side}
+use Rattle.cells.specs.Stream.{from, dataByte}
 use Rattle.sector_rules.specs.declared.Sector.{Sector}
 use Rattle.sector_rules.specs.declared.Sector.the-variants.{Delivered, Missing, Repeated, NoField, Damaged}
 use Rattle.sector_rules.specs.Geometry.{sectorBytes}
-use Rattle.sector_rules.specs.Hfe.{trackLength, trackPart, sideStream}
+use Rattle.sector_rules.specs.Hfe.{sideStream}
 use Rattle.sector_rules.specs.Search.{sectorByte, deliveredBytes}
 use Rattle.sector_rules.specs.Unpacked.{trackOf, sideOf, isBad, sectorAt, sectorBytesAt, sectorReply}
 use Rattle.sector_rules.specs.Rewritten.{givesData, sameSector, sectorRight}

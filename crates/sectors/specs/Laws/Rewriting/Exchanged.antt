@@ -15,8 +15,9 @@ use Rattle.sector_rules.specs.declared.Fault.{Fault}
 use Rattle.sector_rules.specs.declared.Fault.the-variants.{At, Sound}
 use Rattle.sector_rules.specs.Faults.{refusalAt}
 use Rattle.sector_rules.specs.Geometry.{tracks, sides, sectors, allSectors}
-use Rattle.sector_rules.specs.Hfe.{hfeHeaderFault, tableFault}
+use Rattle.sector_rules.specs.Hfe.{version1Fault, tableFault}
 use Rattle.sector_rules.specs.Rewritten.{hfeRefusal, sectorRight, resultRight}
+use Rattle.sector_rules.specs.Laws.Base.Versions.{version1-plain}
 use Rattle.sectors.specs.declared.SideBytes.{SideBytes}
 use Rattle.sectors.specs.Laws.Unpacking.Sides.{PlainImage}
 use Rattle.sectors.specs.Laws.Rewriting.Changed.{SideBytesFit, Taken, changed, changed-size, changed-back}
@@ -50,9 +51,9 @@ isSound Sound = true
 
 module _ (g : List ℕ) where
   -- header and table are right exactly where neither 2 nor 3 is given
-  pub sound-both : (isSound (hfeHeaderFault g) && isSound (tableFault g)) ≡ not (isSome (hfeRefusal g))
+  pub sound-both : (isSound (version1Fault g) && isSound (tableFault g)) ≡ not (isSome (hfeRefusal g))
   unfolding isSome orElse
-  sound-both = both (hfeHeaderFault g) (tableFault g)
+  sound-both = both (version1Fault g) (tableFault g)
     where
       both : (a b : Fault) → (isSound a && isSound b) ≡ not (isSome (orElse (refusalAt 2 a) (refusalAt 3 b)))
       both (At o) b = refl
@@ -62,8 +63,16 @@ module _ (g : List ℕ) where
   -- where neither is given the sides are read as they are stored
   pub sound-plain : not (isSome (hfeRefusal g)) ≡ true → PlainImage g
   unfolding isSome orElse
-  sound-plain e = record { table = second (hfeHeaderFault g) (tableFault g) e }
+  sound-plain e =
+      record {
+        table = second (version1Fault g) (tableFault g) e;
+        version = version1-plain g (first (version1Fault g) (tableFault g) e);
+      }
     where
+      first : (a b : Fault) → not (isSome (orElse (refusalAt 2 a) (refusalAt 3 b))) ≡ true → a ≡ Sound
+      first (At o) b z = true≢false false z refl
+      first Sound b z = refl
+
       second : (a b : Fault) → not (isSome (orElse (refusalAt 2 a) (refusalAt 3 b))) ≡ true → b ≡ Sound
       second (At o) b z = true≢false false z refl
       second Sound (At o) z = true≢false false z refl

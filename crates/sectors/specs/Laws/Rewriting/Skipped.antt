@@ -15,7 +15,7 @@ use Rattle.laws.specs.Laws.All.{all-is}
 use Rattle.laws.specs.Laws.Cases.{by-test, by-equal}
 use Rattle.laws.specs.Laws.Tests.{true-le, false-eq, not-was, and-left, and-right, or-none, or-other}
 use Rattle.sector_rules.specs.Geometry.{sides, sectors}
-use Rattle.sector_rules.specs.Hfe.{entryPlace, trackStart, trackLength, trackUnitBytes, sideStream}
+use Rattle.sector_rules.specs.Hfe.{isVersion3, entryPlace, trackStart, trackLength, trackUnitBytes, sideStream}
 use Rattle.sector_rules.specs.Unpacked.{trackOf, sideOf, sectorAt, sectorBytesAt}
 use Rattle.sector_rules.specs.Rewritten.{sideByteOf, isSideByte, sectorRight}
 use Rattle.sector_rules.specs.Laws.Rewrite.Base.{in-side-parts, with-out}
@@ -160,10 +160,11 @@ module _ (h : List ℕ) (w : SideBytes) (t s : ℕ) (hs : s < 2) (aligned : w .s
 
 -- ---- the side
 
-module _ (h : List ℕ) (w : SideBytes) (new : List ℕ) (n : ℕ) (fits : SideBytesFit w (length h)) (x : Untouched h w n) where
+module _ (h : List ℕ) (w : SideBytes) (new : List ℕ) (n : ℕ) (fits : SideBytesFit w (length h)) (version : isVersion3 (changed h w new) ≡ isVersion3 h)
+    (x : Untouched h w n) where
   same-side : sideStream (changed h w new) (n / sides) (n % sides) ≡ sideStream h (n / sides) (n % sides)
   same-side =
-      side-untouched h (changed h w new) (n / sides) (n % sides) (omega arith) (same-start h w new (n / sides) (x .table) (x .entry))
+      side-untouched h (changed h w new) (n / sides) (n % sides) (omega arith) version (same-start h w new (n / sides) (x .table) (x .entry))
       (same-long h w new (n / sides) (x .table) (x .entry))
       (λ b l. kept-byte h w new _ (not-among h w (n / sides) (n % sides) (omega arith) (fits .aligned) (x .apart) b l))
 

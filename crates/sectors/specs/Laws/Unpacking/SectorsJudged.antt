@@ -2,8 +2,9 @@
 -- Rests on the laws of unpacking (Base.Unpacked of sector_rules) and of the lowest number that passes a test.
 use mathlib.Core.Bool.{true, false, cond}
 use mathlib.Core.List.{List}
-use mathlib.Core.Path.{_≡_, sym, ap, _∙_}
-use Prim.Native.Nat.{ℕ, _+_, _<_}
+use mathlib.Core.Option.{Option, none, some}
+use mathlib.Core.Path.{_≡_, refl, sym, ap, _∙_}
+use Prim.Native.Nat.{ℕ, _+_, _≤_, _<_}
 use native.Mathlib.Omega.{arith}
 use lib.Dec.{eqb}
 use lib.ListN.{length, getD, set}
@@ -12,13 +13,15 @@ use borrow.Author.Tests.{lt-ltb, eq-eqb, ne-eqb, eqb-false}
 use Rattle.laws.specs.Lists.{tab}
 use Rattle.laws.specs.Laws.Cases.{by-equal}
 use Rattle.laws.specs.Laws.Lowest.{lowest-none, lowest-some}
+use Rattle.sector_rules.specs.declared.Fault.the-variants.{Sound}
 use Rattle.sector_rules.specs.declared.Reply.{Reply}
 use Rattle.sector_rules.specs.declared.Sector.{Sector}
 use Rattle.sector_rules.specs.declared.Sector.the-variants.{Delivered}
-use Rattle.sector_rules.specs.Replies.{done}
+use Rattle.sector_rules.specs.Replies.{done, unless}
 use Rattle.sector_rules.specs.Geometry.{allSectors, imageBytes}
-use Rattle.sector_rules.specs.Unpacked.{sectorAt, isBad, sectorReply, firstBad, sectorsReply, unpackedByte}
-use Rattle.sector_rules.specs.Laws.Base.Unpacked.{placeOf, good-is, bad-number}
+use Rattle.sector_rules.specs.Hfe.{hfeHeaderFault, tableFault}
+use Rattle.sector_rules.specs.Unpacked.{sectorAt, isBad, sectorReply, firstBad, sectorsReply, firstCodeRefusal, leastHfe, unpackReply, unpackedByte}
+use Rattle.sector_rules.specs.Laws.Base.Unpacked.{placeOf, good-is, bad-number, codes-reply, sound-reply}
 
 -- the sectors below n are good, and the places of their bytes are noted
 pub record Noted (h places : List ℕ) (n : ℕ) : Type 0 where
@@ -38,6 +41,11 @@ pub record AllJudged (h places : List ℕ) (r : Reply) : Type 0 where
 pub record SectorsUnpacked (h p q : List ℕ) (r : Reply) : Type 0 where
   pub answer : r ≡ sectorsReply h
   pub after : q ≡ cond (eqb (sectorsReply h .number) 0) (tab (unpackedByte h) imageBytes) p
+
+-- the same where codes are judged before the sectors
+pub record SidesUnpacked (h p q : List ℕ) (r : Reply) : Type 0 where
+  pub answer : r ≡ unless (firstCodeRefusal h) (λ (x : Reply). x) (sectorsReply h)
+  pub after : q ≡ cond (eqb (r .number) 0) (tab (unpackedByte h) imageBytes) p
 
 -- ---- sector by sector
 
@@ -62,7 +70,12 @@ module _ (h places : List ℕ) where
     first-reply : m < allSectors → isBad x ≡ true → sectorsReply h ≡ sectorReply m x
     unfolding sectorsReply firstBad
     first-reply l e =
-        rw (lowest-some (λ (k : ℕ). isBad (sectorAt h k)) allSectors m l (λ k b. ap isBad (noted .each k b)) (ap isBad (sym is) ∙ e), lt-ltb m allSectors l, is)
+        rw (
+          lowest-some (λ (k : ℕ). isBad (sectorAt h k)) allSectors m l (λ k b. ap isBad (noted .each k b)) (ap isBad (sym is)
+              ∙ e),
+          lt-ltb m allSectors l,
+          is,
+        )
 
     -- judging ends at a bad sector with that sector's reply
     pub judged-stop : m < allSectors → isBad x ≡ true → (n : ℕ) (r : Reply) → r ≡ sectorReply m x → SectorsJudged h places n r
@@ -95,3 +108,26 @@ module _ (h p q : List ℕ) (r : Reply) (is : r ≡ sectorsReply h) where
   -- where the reply is 0, the image is the one unpacked
   pub written-after : r .number ≡ 0 → q ≡ tab (unpackedByte h) imageBytes → SectorsUnpacked h p q r
   written-after z e = record { answer = is; after = rw (← is, eq-eqb (r .number) 0 z) e }
+
+-- ---- codes before sectors
+
+module _ (h p q : List ℕ) (r : Reply) where
+  -- a wrong code: its refusal, and the image is as it was
+  pub codes-after : firstCodeRefusal h ≡ some r → (r .number ≡ 0 → ⊥) → q ≡ p → SidesUnpacked h p q r
+  unfolding unless
+  codes-after c n e = record { answer = rw c; after = e ∙ rw (ne-eqb (r .number) 0 n) }
+
+  -- no wrong code: the sectors decide
+  pub sectors-after : firstCodeRefusal h ≡ none → SectorsUnpacked h p q r → SidesUnpacked h p q r
+  unfolding unless
+  sectors-after c x = record { answer = x .answer ∙ rw c; after = rw (x .answer) (x .after) }
+
+-- where header and table are right, the codes decide, and then the sectors
+pub sides-reply : (h : List ℕ) (n : ℕ) → leastHfe ≤ length h → n ≡ imageBytes → hfeHeaderFault h ≡ Sound → tableFault h ≡ Sound
+    → unpackReply h n ≡ unless (firstCodeRefusal h) (λ (x : Reply). x) (sectorsReply h)
+unfolding unless
+sides-reply h n l e f g = by (firstCodeRefusal h) refl
+  where
+    by : (o : Option Reply) → firstCodeRefusal h ≡ o → unpackReply h n ≡ unless (firstCodeRefusal h) (λ (x : Reply). x) (sectorsReply h)
+    by none c = sound-reply h n l e f g c ∙ rw c
+    by (some r) c = codes-reply h n l e f g r c ∙ rw c

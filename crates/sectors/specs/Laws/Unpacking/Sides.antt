@@ -1,5 +1,6 @@
 -- One side: what its nine sectors give, and their bytes as they are written into the image.
 -- Rests on the laws of the search (Reading.Search) and of what is written into a list.
+use mathlib.Core.Bool.{false}
 use mathlib.Core.List.{List}
 use mathlib.Core.Path.{_≡_, sym, _∙_}
 use Prim.Native.Nat.{ℕ, _+_, _*_, _/_, _%_, _<_}
@@ -17,9 +18,10 @@ use Rattle.sector_rules.specs.declared.Sector.{Sector}
 use Rattle.sector_rules.specs.declared.Sector.the-variants.{Delivered, Missing}
 use Rattle.sector_rules.specs.Geometry.{tracks, sides, sectors, allSectors, sectorBytes}
 use Rattle.sector_rules.specs.Search.{sectorFound, sectorOf, sectorByte, deliveredBytes}
-use Rattle.sector_rules.specs.Hfe.{tableFault, trackLength, trackPart, sideStream}
+use Rattle.sector_rules.specs.Hfe.{isVersion3, tableFault, trackLength, trackPart, sideStream}
 use Rattle.sector_rules.specs.Unpacked.{trackOf, sideOf, sectorBytesAt, sectorAt, unpackedByte}
 use Rattle.sector_rules.specs.Rewritten.{dataPlaceOf, dataPlace}
+use Rattle.sector_rules.specs.Laws.Base.Versions.{plain-stream}
 use Rattle.sectors.specs.Laws.Reading.Search.{BySector, Scanned}
 
 -- what the nine sectors of a side with the cells c give
@@ -38,6 +40,12 @@ pub record DataPlaces (places c : List ℕ) (t s : ℕ) : Type 0 where
 unfoldable pub placedByte : List ℕ → List ℕ → ℕ → ℕ → ℕ
 placedByte c places at k = sectorByte c (getD places (at + k / sectorBytes) 0) (k % sectorBytes)
 
+-- an image into which the nine sectors of the n-th side of h are written, whose bytes are at these places
+abbrev pub withSide : List ℕ → List ℕ → List ℕ → ℕ → List ℕ
+withSide d h places n =
+    overlay d (sectorBytes * (sectors * n)) (sectorBytes * sectors)
+    (placedByte (sideStream h (n / sides) (n % sides)) places (sectors * n))
+
 -- ---- what the sectors give
 
 -- the search's answer gives what the sector gives
@@ -54,15 +62,15 @@ found-place found c t s k x h = rw (x .each k h)
 
 -- ---- the cells of a side, as the code reads them
 
--- an HFE image whose sides are read as they are stored: its table is right
+-- an HFE image whose sides are read as they are stored: its table is right, and it is not of version 3
 pub record PlainImage (h : List ℕ) : Type 0 where
   pub table : tableFault h ≡ Sound
+  pub version : isVersion3 h ≡ false
 
 -- the cells of the part and the side that the code hands on are those of the image's side
-pub plain-cells : (h : List ℕ) (t s : ℕ) (part : List ℕ) (side : Side) → part ≡ trackPart h t → side ≡ hfeSide s (trackLength h t)
+pub plain-cells : (h : List ℕ) → PlainImage h → (t s : ℕ) (part : List ℕ) (side : Side) → part ≡ trackPart h t → side ≡ hfeSide s (trackLength h t)
     → stream part side ≡ sideStream h t s
-unfolding sideStream
-plain-cells h t s part side is-part is-side = rw (is-part, is-side)
+plain-cells h x t s part side is-part is-side = rw (is-part, is-side) (sym (plain-stream h t s (x .version)))
 
 -- ---- the n-th side of an HFE image, by its cells
 
@@ -121,3 +129,8 @@ side-more c places d out at k e =
     let q : (sectorBytes * k + j) / sectorBytes ≡ k = omega arith in
     let r : (sectorBytes * k + j) % sectorBytes ≡ j = omega arith in
     rw (q, r)))
+
+-- the nine sectors of a side by its cells, as the code writes them
+pub side-written : (d h places : List ℕ) (n : ℕ) (c out : List ℕ) → c ≡ sideStream h (n / sides) (n % sides)
+    → out ≡ overlay d (sectorBytes * (sectors * n)) (sectorBytes * sectors) (placedByte c places (sectors * n)) → out ≡ withSide d h places n
+side-written d h places n c out is e = e ∙ rw is

@@ -2,6 +2,7 @@
 
 pub mod both;
 mod clocks;
+mod codes;
 mod cuts;
 mod damage;
 mod fields;
@@ -19,3 +20,4 @@ use both as answer;
 pub use shared::build;
 pub use shared::rewrite::random as rewrites;
 use shared::side;
+pub use shared::version_3 as coded;

@@ -1,8 +1,9 @@
 //! The safe calls: named refusals.
 
-use super::build::{disk, in_sector, packed, set_entry};
+use super::build::{cell_byte, disk, in_sector, packed, set_entry};
 use super::shared::spoil::{copy, spoil, DATA, SYNC};
-use dhegluubin::{pack, place, rewrite, unpack, Lent, Refusal, IMAGE_LEN};
+use dhegluubin::{pack, place, rewrite, unpack, Edition, Lent, Refusal, IMAGE_LEN};
+use support::codes::{LETTERS, WEAK};
 
 /// Each wrong length with its place (§7.1).
 #[test]
@@ -64,6 +65,28 @@ fn wrong_header_and_table() {
     assert_eq!(refusal(&hfe), Refusal::TrackTable { track: 33 });
     hfe[10] = 1;
     assert_eq!(refusal(&hfe), Refusal::HfeHeader { offset: 10 });
+}
+
+/// Either version is unpacked. A wrong code is named with track, side and place
+/// (§7.25), and version 3 is not rewritten (§8.15).
+#[test]
+fn version_3() {
+    let mut hfe = packed();
+    assert_eq!(Edition::of(&hfe), Some(Edition::Version1));
+    hfe[..8].copy_from_slice(&LETTERS);
+    assert_eq!(Edition::of(&hfe), Some(Edition::Version3));
+    let mut image = vec![0; IMAGE_LEN];
+    assert_eq!(unpack(&hfe, &mut image), Ok(()));
+    assert!(image == disk());
+    hfe[cell_byte(33, 1, 7000)] = WEAK;
+    let wrong_code = Refusal::WrongCode {
+        track: 33,
+        side: 1,
+        place: 7000,
+    };
+    assert_eq!(refusal(&hfe), wrong_code);
+    let not_rewritten = Err(Refusal::HfeHeader { offset: 0 });
+    assert_eq!(rewrite(&mut hfe, 0, 0, 1, &[0; 512]), not_rewritten);
 }
 
 /// Blocks and sectors out of range (§7.12).

@@ -1,6 +1,6 @@
 //! One sector rewritten in an HFE image.
 
-use super::{answer, build, recipe, side, spoil};
+use super::{answer, build, recipe_answers, side, spoil};
 
 mod layouts;
 mod order;
