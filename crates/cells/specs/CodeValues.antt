@@ -1,15 +1,21 @@
 -- code-values: codes and counts as they are stored, the cells that bytes with codes give, and wrong codes, by value (§2.7, §2.8, §2.9).
--- code-steps: the same code by code, for all bytes. Together they leave no other reading of a side's bytes.
+-- code-steps: the same code by code, whatever the bytes are. Together they leave no other reading of a side's bytes: those of a byte's bits are computed for
+-- all 256 bytes, and the cells of a byte are those that a version 1 side has of it.
 -- Assumes nothing: these are definitions. The proofs are `code-values` in Laws/CodeValues.antt and `code-steps` in Laws/CodeSteps.antt.
 use mathlib.Core.Bool.{false}
-use mathlib.Core.List.{List, [], _∷_, map}
+use mathlib.Core.List.{List, [], _∷_, _++_, map}
 use mathlib.Core.Path.{_≡_}
-use Prim.Native.Nat.{ℕ, _+_, _%_, _≤_, _<_}
+use Prim.Native.Nat.{ℕ, _+_, _*_, _/_, _%_, _≤_, _<_}
 use lib.Dec.{eqb}
 use lib.ListN.{drop}
 use Rattle.laws.specs.Lists.{tab}
 use Rattle.cells.specs.declared.Expected.the-variants.{Any}
+use Rattle.cells.specs.Stream.{stream, hfeSide}
 use Rattle.cells.specs.Codes.{byteCells, reversedBits, isCode, Decoded, Cells, WrongCode, cellsBefore, codedFrom, coded}
+
+-- all bytes (§2.7)
+abbrev pub allBytes : List ℕ
+allBytes = tab (λ (b : ℕ). b) 256
 
 -- a byte of data that is no code: 9B (§2.8)
 abbrev pub dataSample : ℕ
@@ -33,8 +39,12 @@ pub record CodeValues : Type 0 where
   pub codes-stored : map reversedBits (0x0F ∷ 0x8F ∷ 0x4F ∷ 0xCF ∷ 0x2F ∷ []) ≡ 0xF0 ∷ 0xF1 ∷ 0xF2 ∷ 0xF3 ∷ 0xF4 ∷ []
   -- the counts 0 to 8 as they are stored
   pub counts-stored : map reversedBits (0x00 ∷ 0x80 ∷ 0x40 ∷ 0xC0 ∷ 0x20 ∷ 0xA0 ∷ 0x60 ∷ 0xE0 ∷ 0x10 ∷ []) ≡ 0 ∷ 1 ∷ 2 ∷ 3 ∷ 4 ∷ 5 ∷ 6 ∷ 7 ∷ 8 ∷ []
+  -- every byte, bit by bit: its lowest bit, as stored, is the highest that is read
+  pub bits-reversed : map reversedBits allBytes
+      ≡ map (λ (b : ℕ). b % 2 * 128 + b / 2 % 2 * 64 + b / 4 % 2 * 32 + b / 8 % 2 * 16 + b / 16 % 2 * 8 + b / 32 % 2 * 4 + b / 64 % 2 * 2 + b / 128 % 2)
+      allBytes
   -- of all bytes those are codes whose lowest four bits, as stored, are all 1
-  pub low-bits : map isCode (tab (λ (b : ℕ). b) 256) ≡ map (λ (b : ℕ). eqb (b % 16) 15) (tab (λ (b : ℕ). b) 256)
+  pub low-bits : map isCode allBytes ≡ map (λ (b : ℕ). eqb (b % 16) 15) allBytes
   -- no byte, a byte of data; F0 and F1 give nothing, before it and after it
   pub no-code : map coded ([] ∷ (dataSample ∷ []) ∷ (0x0F ∷ dataSample ∷ 0x8F ∷ []) ∷ (0x8F ∷ 0x0F ∷ []) ∷ [])
       ≡ Cells [] ∷ Cells sampleCells ∷ Cells sampleCells ∷ Cells [] ∷ []
@@ -53,10 +63,10 @@ pub record CodeValues : Type 0 where
       map (λ (v : ℕ). afterData (v ∷ dataSample ∷ dataSample ∷ []))
       (0x2F ∷ 0xAF ∷ 0x6F ∷ 0xEF ∷ 0x1F ∷ 0x9F ∷ 0x5F ∷ 0xDF ∷ 0x3F ∷ 0xBF ∷ 0x7F ∷ 0xFF ∷ [])
       ≡ map (λ (v : ℕ). WrongCode 1) (tab (λ (j : ℕ). j) 12)
-  -- F2 without its byte, F3 without its count and F3 without its data, cut by the end, after each count
+  -- F2 without its byte, F3 without its count, and F3 with the counts 0, 3 and 7 without its data, cut by the end
   pub codes-cut : map afterData ((0x4F ∷ []) ∷ (0xCF ∷ []) ∷ (0xCF ∷ 0x00 ∷ []) ∷ (0xCF ∷ 0xC0 ∷ []) ∷ (0xCF ∷ 0xE0 ∷ []) ∷ [])
       ≡ WrongCode 1 ∷ WrongCode 1 ∷ WrongCode 1 ∷ WrongCode 1 ∷ WrongCode 1 ∷ []
-  -- the counts 8, 128 and 255, with data and cut by the end: the place is that of F3
+  -- the counts 8, 128 and 255 with data, and 8 and 128 cut by the end: the place is that of F3
   pub wrong-counts :
       map afterData
       ((0xCF ∷ 0x10 ∷ dataSample ∷ []) ∷ (0xCF ∷ 0x01 ∷ dataSample ∷ []) ∷ (0xCF ∷ 0xFF ∷ dataSample ∷ []) ∷ (0xCF ∷ 0x10 ∷ []) ∷ (0xCF ∷ 0x01 ∷ []) ∷ [])
@@ -87,3 +97,8 @@ pub record CodeSteps : Type 0 where
   pub wrong : (k b : ℕ) (bs : List ℕ) → 0xF4 ≤ reversedBits b → codedFrom Any k (b ∷ bs) ≡ WrongCode k
   -- a side begins at place 0, where any byte may stand
   pub begins : (bs : List ℕ) → coded bs ≡ codedFrom Any 0 bs
+  -- the cells of a byte are those of a version 1 side with this byte alone
+  pub byte-cells : (b : ℕ) → byteCells b ≡ stream (b ∷ []) (hfeSide 0 2)
+  -- cells before others come first, and before a wrong code they are not given
+  pub before-cells : (c d : List ℕ) → cellsBefore c (Cells d) ≡ Cells (c ++ d)
+  pub before-wrong : (c : List ℕ) (p : ℕ) → cellsBefore c (WrongCode p) ≡ WrongCode p

@@ -11,7 +11,7 @@ use Rattle.cells.specs.declared.Expected.{Expected}
 use Rattle.cells.specs.declared.Expected.the-variants.{Any, Rate, Count, Partial, Wrong}
 use Rattle.cells.specs.Stream.{bytePlace, number}
 
--- the bytes of a side in their order, one for every eight cells (§2.6)
+-- the bytes of a side in their order, one for every eight cells that they store (§2.6)
 unfoldable pub storedBytes : List ℕ → Side → List ℕ
 storedBytes part s = tab (λ (b : ℕ). getD part (bytePlace s b) 0) (s .cells / 8)
 

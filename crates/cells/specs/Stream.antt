@@ -10,11 +10,11 @@ use Rattle.cells.specs.declared.Side.{Side}
 unfoldable pub bytePlace : Side → ℕ → ℕ
 bytePlace s b = s .first + s .stride * (b / 256) + b % 256
 
--- the cell at place i of a side: lowest bit of each byte first; 0 where the part has no such byte (§3.1)
+-- the cell at place i of those that a side's bytes store: lowest bit of each byte first; 0 where the part has no such byte (§3.1)
 unfoldable pub cellAt : List ℕ → Side → ℕ → ℕ
 cellAt part s i = getD part (bytePlace s (i / 8)) 0 / 2 ^ (i % 8) % 2
 
--- the cells of a side as a line: it begins with the first cell and ends with the last (§3.2)
+-- the cells that a side's bytes store, as a line: it begins with the first cell and ends with the last (§3.2)
 unfoldable pub stream : List ℕ → Side → List ℕ
 stream part s = tab (cellAt part s) (s .cells)
 

@@ -43,8 +43,8 @@ pub enum Item {
 }
 
 // What the next byte of a side with codes is, by those before it: any byte, which may be a code; the bit rate after an F2;
-// the count after an F3; the byte of which so many cells are dropped. Each names the place of its code. After a wrong
-// code, the place of that code (§2.7 §2.9).
+// the count after an F3; the byte of which cells are dropped, how many in the second number; or nothing more, after a wrong
+// code. The first number is the place of the code (§2.7 §2.9).
 pub enum Expected {
     Any,
     Rate(usize),

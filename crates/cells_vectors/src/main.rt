@@ -109,7 +109,7 @@ fn place(name: &[u8], x: Expected) {
     io::write_all(1, b"\n");
 }
 
-// A byte as a number to print: read through a function, no need asks that it fits.
+// A byte as a number to print, in a function of its own, so that no proof is asked that it fits.
 fn wide(b: u8) -> u16 {
     b as u16
 }

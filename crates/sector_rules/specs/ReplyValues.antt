@@ -1,5 +1,5 @@
 -- reply-values: the lengths that 1 refuses and its places (§7.1), what 3 judges of a track table (§2.5, §7.3), the numbers 4 to 7 with their places, and
--- 12 of the placement call (§8.3), by value.
+-- 12 of the placement call (§8.3), by value; and that 3 comes before 18 (§7.25).
 -- Assumes nothing: these are definitions. The proof is `reply-values` in Laws/Values/ReplyValues.antt.
 use mathlib.Core.Bool.{cond}
 use mathlib.Core.List.{List, [], _∷_, _++_, map}
@@ -54,8 +54,8 @@ pub record ReplyValues : Type 0 where
   -- the entry of track 0 is wholly within the image: here the table begins at byte 1,024
   pub table-ends : (unpackReply (set hfeHeader 18 2 ++ (replicate 998 0 ++ (0 ∷ 0 ∷ 2 ∷ []))) 737280 ≡ replyWith 3 0 0 0)
       × (unpackReply (set hfeHeader 18 2 ++ (replicate 998 0 ++ (0 ∷ 0 ∷ 2 ∷ 0 ∷ []))) 737280 ≡ replyWith 3 1 0 0)
-  -- 3 comes before 18: the table of a version 3 image, where track 0 has the table's own unit and the entry of track 1 is not good, nor is its first byte, 2F,
-  -- a right code
+  -- 3 comes before 18 (§7.25): the table of a version 3 image, where track 0 has the table's own unit and the entry of track 1 is not good, nor is its first
+  -- byte, 2F, a right code
   pub table-before-codes : unpackReply (version3Header ++ (replicate 486 0 ++ (1 ∷ 0 ∷ 0 ∷ 2 ∷ 0x2F ∷ replicate 507 0))) 737280 ≡ replyWith 3 1 0 0
   -- the last track is judged too
   pub last-track : tableReply (goodEntries 79) ≡ replyWith 3 79 0 0

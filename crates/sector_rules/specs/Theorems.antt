@@ -16,13 +16,17 @@ pub use Rattle.sector_rules.specs.Laws.Values.WrittenValues.{written-val
 pub use Rattle.sector_rules.specs.Laws.Values.ReplyValues.{reply-values}
 -- ---- the two versions of HFE images (Versions.antt)
 
+-- version-letters: bytes 0 to 7 decide of which version an image is; others are refused with 2 at 0; a rewrite takes version 1 alone
+pub use Rattle.sector_rules.specs.Laws.Versions.Replies.{version-letters}
 -- version-3-plain: where no byte of its sides reads as a code, a version 3 image gets the reply, and gives the block image, that it would with the letters
 -- of version 1
 pub use Rattle.sector_rules.specs.Laws.Versions.Plain.{version-3-plain}
--- version-1-cells: the cells of a side of a version 1 image are all that its bytes store, and 18 is not given; version-3-cells: those of a version 3 image
--- are what its bytes give, half of the track's length of them
+-- version-1-cells: the cells of a side of a version 1 image are all that its bytes store; version-3-cells: those of a version 3 image are what its bytes
+-- give, half of the track's length of them, and a side without codes gives what a version 1 side does
 pub use Rattle.sector_rules.specs.Laws.Versions.Replies.{version-1-cells, version-3-cells}
--- code-replies: 2 and 3 come first, then 18 for the first wrong code of all sides, then the sectors; a rewrite of a version 3 image is refused with 2
+-- sectors-read: in either version the cells of the sides decide the reply for the sectors, and the block image has the bytes that they give
+pub use Rattle.sector_rules.specs.Laws.Versions.Sectors.{sectors-read}
+-- code-replies: 2 and 3 come first, then in version 3 18 for the first wrong code of all sides, then the sectors
 pub use Rattle.sector_rules.specs.Laws.Versions.Replies.{code-replies}
 -- ---- rewriting one sector (Rewriting.antt)
 

@@ -77,6 +77,7 @@ pub fn side_cells(hfe: &[u8], track: usize, head: usize, buffer: &mut [u8]) -> S
     ensures { λ r. ⌜ stream (now (buffer .exit)) r ≡ sideStream (now (hfe .entry)) track head ⌝ }
 {
     let part = track_part(hfe, track);
+    // As in `track_side`; here the type of the length, 16 bits, says that the cells fit the buffer.
     let side = cells::hfe_side(head as u8, track_length(hfe, track));
     cells::coded_cells(part, side, buffer)
 }

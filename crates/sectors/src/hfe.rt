@@ -49,7 +49,7 @@ fn is_version1(hfe: &[u8]) -> bool
     fields::stands_at(hfe, 0, b"HXCPICFE")
 }
 
-// Whether the image has the letters of version 3 (§2.2), so that codes stand on its sides (§2.7).
+// Whether the image has the letters of version 3 (§2.2), so that codes may stand on its sides (§2.7).
 pub fn is_version3(hfe: &[u8]) -> bool
     ensures { λ r. ⌜ r ≡ isVersion3 (now (hfe .entry)) ⌝ }
 {

@@ -148,7 +148,8 @@ fn unpack_sides(hfe: &[u8], image: &mut [u8]) -> Reply
 }
 
 // Unpacks an HFE image of either version to a block image (§8.1), or 1, the HFE image first (§7.1), 2 with the lowest wrong
-// field (§7.2), 3 with the lowest track whose entry is not good (§7.3), 18 with the first wrong code (§7.25), then 4 to 7. A refusal leaves the block image as it was (§7.19).
+// field (§7.2), 3 with the lowest track whose entry is not good (§7.3), 18 with the first wrong code (§7.25), then 4 to 7.
+// A refusal leaves the block image as it was (§7.19).
 // A packed image with one burst a side at most is refused or gives what was packed (§10.5).
 pub fn unpack(hfe: &[u8], image: &mut [u8]) -> Reply
     ensures { λ r. ⌜ (r ≡ unpackReply (now (hfe .entry)) (length (now (image .entry)))) × (now (image .exit) ≡ unpackImage (now (hfe .entry)) (now (image .entry))) ⌝ }

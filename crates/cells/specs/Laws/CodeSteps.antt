@@ -12,7 +12,7 @@ use Rattle.laws.specs.Laws.Cases.{by-order}
 use Rattle.laws.specs.Laws.Tests.{le-true, cond-true}
 use Rattle.cells.specs.declared.Expected.{Expected}
 use Rattle.cells.specs.declared.Expected.the-variants.{Any, Rate, Count, Partial, Wrong}
-use Rattle.cells.specs.Stream.{number}
+use Rattle.cells.specs.Stream.{number, bytePlace, cellAt, stream}
 use Rattle.cells.specs.Codes.{byteCells, reversedBits, isCode, afterCode, expectedAfter, cellsGiven, WrongCode, cellsBefore, atEnd, codedFrom, coded}
 use Rattle.cells.specs.CodeValues.{CodeSteps}
 use Rattle.cells.specs.Laws.Codes.{before-none, plain-given, plain-after}
@@ -93,7 +93,7 @@ dropped-cut-step k n =
 
 -- code-steps: all of these hold
 pub code-steps : CodeSteps
-unfolding codedFrom atEnd coded
+unfolding tab bytePlace cellAt stream byteCells cellsBefore codedFrom atEnd coded
 code-steps =
     record {
       ended = λ k. refl;
@@ -108,4 +108,7 @@ code-steps =
       count-over = over-step;
       wrong = λ k b bs h. wrong-step k bs b h;
       begins = λ bs. refl;
+      byte-cells = λ b. refl;
+      before-cells = λ c d. refl;
+      before-wrong = λ c p. refl;
     }

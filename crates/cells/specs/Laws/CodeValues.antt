@@ -13,6 +13,7 @@ code-values =
     record {
       codes-stored = refl;
       counts-stored = refl;
+      bits-reversed = refl;
       low-bits = refl;
       no-code = refl;
       any-rate = refl;

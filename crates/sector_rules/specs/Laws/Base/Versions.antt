@@ -51,6 +51,11 @@ module _ (h : List ℕ) where
   unfolding version1Fault fieldFault
   letters-wrong e = rw e
 
+  -- the same for an image to unpack whose letters are of neither version
+  pub neither-version : isVersion1 h ≡ false → isVersion3 h ≡ false → hfeHeaderFault h ≡ At 0
+  unfolding hfeHeaderFault fieldFault
+  neither-version e f = rw (e, f)
+
   -- an image to rewrite whose header is right has the letters of version 1
   pub version1-letters : version1Fault h ≡ Sound → isVersion1 h ≡ true
   version1-letters e = by-test (isVersion1 h) (λ t. t) (λ f. absurd (at-not-sound 0 (sym (letters-wrong f) ∙ e)))

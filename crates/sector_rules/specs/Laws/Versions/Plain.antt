@@ -132,7 +132,7 @@ module _ (h g : List ℕ) (o : OtherLetters h g) where
       coded-cells : (t s : ℕ) → t < tracks → s < sides → codedSide h t s ≡ Cells (stream (trackPart h t) (hfeSide s (trackLength h t)))
       unfolding codedSide
       coded-cells t s ht hs =
-          coded-plain (trackPart h t) (hfeSide s (trackLength h t)) (omega arith) (λ b l. plain .each t s b ht hs (omega arith))
+          coded-plain (trackPart h t) (hfeSide s (trackLength h t)) (omega arith) (λ b l. plain .each t s ht hs b (omega arith))
 
       no-codes : firstCodeRefusal h ≡ none
       no-codes =
