@@ -22,6 +22,7 @@ fn note(edition: Option<Edition>, refusal: Refusal) -> Option<String> {
     match (refusal, edition) {
         // What is wrong is not in the image.
         (Refusal::Length { .. } | Refusal::Argument, _) => None,
+        // Letters that are read are at fault only where the image is rewritten.
         (Refusal::HfeHeader { offset: 0 }, Some(edition)) => {
             Some(format!("{edition} is not rewritten"))
         }
@@ -35,8 +36,8 @@ fn note(edition: Option<Edition>, refusal: Refusal) -> Option<String> {
     }
 }
 
-/// The edition of an image that was read, if it is not the usual one, which
-/// nobody needs to be told of.
-pub fn unusual(hfe: &[u8]) -> Option<Edition> {
+/// The edition of an image that was read, if it is to be told: not the usual
+/// one, which nobody needs to hear of.
+pub fn edition_to_tell(hfe: &[u8]) -> Option<Edition> {
     Edition::of(hfe).filter(|&edition| edition != Edition::Version1)
 }

@@ -30,7 +30,8 @@ pub enum Refusal {
         /// Which one.
         lent: Lent,
     },
-    /// 2: the HFE header is not that of a readable image.
+    /// 2: the HFE header is wrong; to [`rewrite`](crate::rewrite) that of
+    /// version 3 is too, at offset 0.
     HfeHeader {
         /// Offset of the lowest wrong field.
         offset: usize,

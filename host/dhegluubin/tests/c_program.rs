@@ -28,12 +28,12 @@ fn compiler() -> &'static str {
 }
 
 /// Compiles and links a program, to which a warning is a failure.
-fn compiled(source: &Path, name: &str) -> PathBuf {
+fn compiled(sources: &[PathBuf], name: &str) -> PathBuf {
     let program = temporary(name);
     let compiled = Command::new(compiler())
         .args(["-std=c99", "-pedantic", "-Wall", "-Wextra", "-Werror", "-I"])
         .arg(main_folder().join("include"))
-        .arg(source)
+        .args(sources)
         .arg(main_folder().join("target/staticlib/libbridge.a"))
         .arg("-o")
         .arg(&program)
@@ -44,10 +44,13 @@ fn compiled(source: &Path, name: &str) -> PathBuf {
     program
 }
 
-/// What a program of `tests/c` prints; its status must be 0.
-fn printed(name: &str) -> String {
-    let source = Path::new(env!("CARGO_MANIFEST_DIR")).join(format!("tests/c/{name}.c"));
-    let program = compiled(&source, name);
+/// What a program of these files of `tests/c` prints; its status must be 0. It
+/// has the name of the first.
+fn printed(files: &[&str]) -> String {
+    let folder = Path::new(env!("CARGO_MANIFEST_DIR")).join("tests/c");
+    let source = |file: &&str| folder.join(format!("{file}.c"));
+    let sources: Vec<PathBuf> = files.iter().map(source).collect();
+    let program = compiled(&sources, files[0]);
     let run = Command::new(&program).output().expect("the program runs");
     let text = String::from_utf8_lossy(&run.stdout);
     assert!(run.status.success(), "{}:\n{text}", run.status);
@@ -56,7 +59,7 @@ fn printed(name: &str) -> String {
 
 #[test]
 fn every_call() {
-    let text = printed("every_call");
+    let text = printed(&["every_call", "version_3", "checks"]);
     assert!(text.ends_with(" checks, 0 failed\n"), "{text}");
 }
 
@@ -73,7 +76,7 @@ fn stack_of(text: &str, name: &str) -> usize {
 /// a disk stay well below it. Unpack is measured for either version.
 #[test]
 fn stack() {
-    let text = printed("stack");
+    let text = printed(&["stack"]);
     for name in ["dheg_unpack", "dheg_unpack, version 3"] {
         let used = stack_of(&text, name);
         assert!((1..65_536).contains(&used), "{name} uses {used} bytes");
@@ -104,7 +107,7 @@ fn example(program: &Path, input: &[u8]) -> Output {
 fn readme_example() {
     let source = temporary("readme.c");
     std::fs::write(&source, fenced(README, "c")).expect("the source is written");
-    let program = compiled(&source, "readme");
+    let program = compiled(&[source], "readme");
 
     let mut image = vec![0; IMAGE_LEN];
     format(&mut image, b"STAGE", 7).unwrap();

@@ -28,7 +28,7 @@ pub struct WrongCode(pub usize);
 
 /// A byte as codes and counts are read: its first cell, which is stored in the
 /// lowest bit, is the highest (§2.7).
-pub fn turned(byte: u8) -> u8 {
+pub fn reversed_bits(byte: u8) -> u8 {
     byte.reverse_bits()
 }
 
@@ -42,7 +42,7 @@ pub fn coded_cells(bytes: &[u8]) -> Result<Vec<u8>, WrongCode> {
     let mut place = 0;
     while place < bytes.len() {
         let wrong = WrongCode(place);
-        match turned(bytes[place]) {
+        match reversed_bits(bytes[place]) {
             NOTHING | INDEX => place += 1,
             BIT_RATE => {
                 bytes.get(place + 1).ok_or(wrong)?;
@@ -68,6 +68,6 @@ pub fn coded_cells(bytes: &[u8]) -> Result<Vec<u8>, WrongCode> {
 /// The count at this place, if the side has a byte there that reads as 0 to 7;
 /// else its code is wrong (§2.9).
 fn count(bytes: &[u8], place: usize) -> Option<usize> {
-    let count = turned(*bytes.get(place)?);
+    let count = reversed_bits(*bytes.get(place)?);
     (count <= MOST_SKIPPED).then_some(count.into())
 }

@@ -37,7 +37,7 @@ pub fn table_start(hfe: &[u8]) -> usize {
 pub enum Version {
     /// All bytes of a side give cells.
     One,
-    /// Codes stand among them.
+    /// Codes may stand among them.
     Three,
 }
 

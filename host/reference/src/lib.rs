@@ -5,9 +5,9 @@
 //! every search tries every cell place, and the calls of the file layer work
 //! on a copy of the disk in block order.
 //!
-//! - Cell layer: `cells`, `mfm`, `crc`, `header`, `field`, `sector`,
+//! - Cell layer: `cells`, `codes`, `mfm`, `crc`, `header`, `field`, `sector`,
 //!   `written`.
-//! - Sector layer: `geometry`, `hfe`, `track_table`, `codes`, `unpack`, `pack`,
+//! - Sector layer: `geometry`, `hfe`, `track_table`, `unpack`, `pack`,
 //!   `rewrite`.
 //! - File layer: `layout`, `disk`, `disk_header`, `map`, `directory`, `names`,
 //!   `sound`, `volume`, `buffer`, and a file for each call.

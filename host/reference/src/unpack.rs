@@ -1,7 +1,7 @@
 //! From an HFE image to the block image.
 
 use crate::codes::{coded_cells, WrongCode};
-use crate::geometry::{IMAGE_LEN, SIDES};
+use crate::geometry::{IMAGE_LEN, SIDES, TRACKS};
 use crate::header::SectorId;
 use crate::hfe::{judge_header, Version, SHORTEST};
 use crate::reply::{Lent, Refusal, Reply};
@@ -37,14 +37,13 @@ fn read_disk(hfe: &[u8], image_len: usize) -> Result<Vec<u8>, Refusal> {
         judge_codes(hfe, &tracks)?;
     }
     let mut sectors = Vec::new();
-    for (number, track) in tracks.iter().enumerate() {
-        for side in 0..SIDES {
-            let cells = match version {
-                Version::One => track.side_cells(hfe, side),
-                Version::Three => side_without_codes(hfe, number, track, side)?,
-            };
-            sectors.extend(read_side(&cells, number as u8, side as u8)?);
-        }
+    for number in 0..TRACKS * SIDES {
+        let (track, side) = (number / SIDES, number % SIDES);
+        let cells = match version {
+            Version::One => tracks[track].side_cells(hfe, side),
+            Version::Three => version_3_cells(hfe, &tracks, track, side)?,
+        };
+        sectors.extend(read_side(&cells, track as u8, side as u8)?);
     }
     Ok(sectors)
 }
@@ -52,26 +51,22 @@ fn read_disk(hfe: &[u8], image_len: usize) -> Result<Vec<u8>, Refusal> {
 /// Judges the codes of all sides, by track and then side: 18 at the first wrong
 /// one (§7.25).
 fn judge_codes(hfe: &[u8], tracks: &[Track]) -> Result<(), Refusal> {
-    for (number, track) in tracks.iter().enumerate() {
-        for side in 0..SIDES {
-            side_without_codes(hfe, number, track, side)?;
-        }
+    for number in 0..TRACKS * SIDES {
+        let (track, side) = (number / SIDES, number % SIDES);
+        version_3_cells(hfe, tracks, track, side)?;
     }
     Ok(())
 }
 
 /// The cells of a side in version 3 (§2.8), or its first wrong code (§2.9).
-fn side_without_codes(
+fn version_3_cells(
     hfe: &[u8],
-    number: usize,
-    track: &Track,
+    tracks: &[Track],
+    track: usize,
     side: usize,
 ) -> Result<Vec<u8>, Refusal> {
-    coded_cells(&track.side_bytes(hfe, side)).map_err(|WrongCode(place)| Refusal::WrongCode {
-        track: number,
-        side,
-        place,
-    })
+    let bytes = tracks[track].side_bytes(hfe, side);
+    coded_cells(&bytes).map_err(|WrongCode(place)| Refusal::WrongCode { track, side, place })
 }
 
 /// The nine sectors of a side in order of R, or the first one's refusal, 4 to 7

@@ -51,14 +51,14 @@ fn run(args: &[OsString]) -> Result<(), Failure> {
     let [from, to] = Given::parse(before, &[])?.exactly()?;
     let steps = steps(after)?;
     let progress = Progress::new();
-    let (mut image, unusual) = unpacked(from, &progress)?;
+    let (mut image, edition_to_tell) = unpacked(from, &progress)?;
     for step in &steps {
         step.take(from, &mut image, &progress)?;
     }
     let hfe = packed(from, &image, &progress)?;
     files_io::write(to, &hfe)?;
     progress.wipe();
-    if let Some(edition) = unusual {
+    if let Some(edition) = edition_to_tell {
         let [from, to] = [from, to].map(|path| Path::new(path).display());
         let written = Edition::Version1;
         crate::tell(&format!("{from}: {edition}, written to {to} as {written}"));

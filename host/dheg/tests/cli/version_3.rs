@@ -1,7 +1,7 @@
 //! HFE images of version 3: read, changed into version 1, and told.
 
 use dhegluubin::IMAGE_LEN;
-use support::codes::{with_codes, WEAK};
+use support::codes::{with_codes, SKIP, WEAK};
 use support::noise::{noise, Generator};
 
 use crate::bench::{Bench, Ended};
@@ -113,7 +113,7 @@ fn refused_images() {
         ),
         (
             "cut",
-            changed(side_byte(79, 0, 12_499), 0xCF),
+            changed(side_byte(79, 0, 12_499), SKIP),
             "18: wrong code at track 79, side 0, byte 12499",
         ),
         (

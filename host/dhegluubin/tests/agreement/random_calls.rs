@@ -125,7 +125,6 @@ fn random_version_3(generator: &mut Generator, track: &[Vec<u8>; 2]) -> Vec<u8> 
 /// An HFE image that is judged quickly: cut, damaged, or of one track.
 fn random_hfe(generator: &mut Generator, track: &[Vec<u8>; 2]) -> Vec<u8> {
     match generator.below(9) {
-        6..=8 => random_version_3(generator, track),
         0 => {
             let len = random_len(generator);
             random_bytes(generator, len)
@@ -139,11 +138,12 @@ fn random_hfe(generator: &mut Generator, track: &[Vec<u8>; 2]) -> Vec<u8> {
             }
             track_0(&sides)
         }
-        _ => {
+        3..=5 => {
             let mut hfe = empty_tracks();
             damage(generator, &mut hfe);
             hfe
         }
+        _ => random_version_3(generator, track),
     }
 }
 

@@ -1,57 +1,15 @@
-/* Calls every function of the library, good and refused, and compares replies and lent bytes. */
+/* Calls every function of the library, good and refused, and compares replies and lent bytes. What is
+ * asked of version 3 images stands in version_3.c. */
 
 #define _DEFAULT_SOURCE /* for mmap */
 
-#include "dhegluubin.h"
+#include "checks.h"
+#include "packed_disk.h"
 
 #include <stdio.h>
 #include <stdlib.h>
 #include <string.h>
 #include <sys/mman.h>
-
-static unsigned checks, failures;
-
-static uint8_t image[DHEG_IMAGE_LEN], kept_image[DHEG_IMAGE_LEN];
-static uint8_t hfe[DHEG_HFE_LEN], kept_hfe[DHEG_HFE_LEN];
-static uint8_t out[4096], kept_out[4096];
-
-static void check(const char *what, int holds)
-{
-    checks++;
-    if (!holds) {
-        failures++;
-        printf("failed: %s\n", what);
-    }
-}
-
-/* Remembers all memory that is lent for writing. */
-static void keep(void)
-{
-    memcpy(kept_image, image, sizeof image);
-    memcpy(kept_hfe, hfe, sizeof hfe);
-    memcpy(kept_out, out, sizeof out);
-}
-
-static void expect(const char *what, dheg_reply reply, size_t number, size_t first, size_t second,
-                   size_t third)
-{
-    int same = reply.number == number && reply.first == first && reply.second == second
-               && reply.third == third;
-    if (!same)
-        printf("reply %lu %lu %lu %lu\n", (unsigned long)reply.number, (unsigned long)reply.first,
-               (unsigned long)reply.second, (unsigned long)reply.third);
-    check(what, same);
-}
-
-/* The same for a refusal, after which all is as it was kept. */
-static void refused(const char *what, dheg_reply reply, size_t number, size_t first, size_t second,
-                    size_t third)
-{
-    expect(what, reply, number, first, second, third);
-    check(what, memcmp(image, kept_image, sizeof image) == 0);
-    check(what, memcmp(hfe, kept_hfe, sizeof hfe) == 0);
-    check(what, memcmp(out, kept_out, sizeof out) == 0);
-}
 
 static const uint8_t *text(const char *letters)
 {
@@ -236,16 +194,11 @@ static void first_track(void)
     check("no counts", result.free == 0 && result.good == 0 && result.held == 0);
 }
 
-static dheg_reply unpack(void)
-{
-    return dheg_unpack(hfe, sizeof hfe, image, sizeof image);
-}
-
-/* Cell byte of track 0, side 0: byte `index` of a sector, counted from the 00 before its header. */
+/* Byte `index` of a sector of track 0, side 0, counted from the 00 before its header: two bytes of
+ * cells. */
 static uint8_t *cell(size_t sector, size_t index)
 {
-    size_t byte = 2 * (146 + 658 * (sector - 1) + index);
-    return hfe + 1024 + 512 * (byte / 256) + byte % 256;
+    return side_byte(hfe, 0, 0, in_sector(sector, index));
 }
 
 static void spoilt(const char *what, size_t sector, size_t index, size_t number)
@@ -306,69 +259,6 @@ static void hfe_images(void)
     }
     keep();
     refused("unpack: two headers", unpack(), DHEG_SEVERAL_HEADERS, 0, 0, 2);
-}
-
-/* A byte of a side of the packed disk. */
-static uint8_t *side_byte(size_t track, size_t side, size_t byte)
-{
-    return hfe + 512 * (2 + 49 * track) + 512 * (byte / 256) + 256 * side + byte % 256;
-}
-
-/* Puts bytes at a place of a side; those that were there fall off at its end, where there is a gap. */
-static void insert(size_t track, size_t side, size_t at, const uint8_t *bytes, size_t count)
-{
-    size_t i;
-
-    for (i = 12500 - count; i-- > at;)
-        *side_byte(track, side, i + count) = *side_byte(track, side, i);
-    for (i = 0; i < count; i++)
-        *side_byte(track, side, at + i) = bytes[i];
-}
-
-/* The packed disk as version 3: without codes, with right ones and with wrong ones. */
-static void version_3(void)
-{
-    static const uint8_t no_cells[] = {0x0F, 0x8F, 0x4F, 0x2F};
-    static const uint8_t no_cells_dropped[] = {0xCF, 0x00};
-    static uint8_t original[DHEG_IMAGE_LEN];
-    size_t i;
-
-    for (i = 0; i < sizeof image; i++)
-        image[i] = (uint8_t)(i * 5 + i / 700);
-    memcpy(original, image, sizeof image);
-    dheg_pack(image, sizeof image, hfe, sizeof hfe);
-    memcpy(hfe, "HXCHFEV3", 8);
-    memset(image, 0xAA, sizeof image);
-    expect("version 3 without codes", unpack(), DHEG_DONE, 0, 0, 0);
-    check("the same image", memcmp(image, original, sizeof image) == 0);
-
-    for (i = 0; i < 160; i++) {
-        insert(i / 2, i % 2, 10 + 37 * i, no_cells, sizeof no_cells);
-        insert(i / 2, i % 2, 6010 + 33 * i, no_cells_dropped, sizeof no_cells_dropped);
-    }
-    memset(image, 0xAA, sizeof image);
-    expect("version 3 with codes", unpack(), DHEG_DONE, 0, 0, 0);
-    check("the same image", memcmp(image, original, sizeof image) == 0);
-
-    memset(image, 0xAA, sizeof image);
-    keep();
-    refused("version 3: not rewritten", dheg_rewrite(hfe, sizeof hfe, 0, 0, 1, original, 512),
-            DHEG_HFE_HEADER, 0, 0, 0);
-    refused("version 3: no track", dheg_rewrite(hfe, sizeof hfe, 80, 0, 1, original, 512),
-            DHEG_ARGUMENT, 0, 0, 0);
-    /* The CRC of the first header, after the codes that were put before it. */
-    *side_byte(0, 0, sizeof no_cells + 2 * (146 + 20)) = 0;
-    keep();
-    refused("version 3: no header", unpack(), DHEG_NO_HEADER, 0, 0, 1);
-    *side_byte(79, 1, 12499) = 0xCF;
-    keep();
-    refused("version 3: cut", unpack(), DHEG_WRONG_CODE, 79, 1, 12499);
-    *side_byte(40, 0, 12000) = 0x2F;
-    keep();
-    refused("version 3: weak area", unpack(), DHEG_WRONG_CODE, 40, 0, 12000);
-    hfe[8] = 1;
-    keep();
-    refused("version 3: revision", unpack(), DHEG_HFE_HEADER, 8, 0, 0);
 }
 
 static dheg_reply rewrite(size_t track, size_t side, size_t r, const uint8_t *data, size_t data_len)

@@ -7,6 +7,7 @@
 #define _DEFAULT_SOURCE /* for pthread_attr_setstack and posix_memalign */
 
 #include "dhegluubin.h"
+#include "packed_disk.h"
 
 #include <pthread.h>
 #include <stdio.h>
@@ -153,16 +154,10 @@ static void fill_disk(void)
     file = FILES / 2;
 }
 
-/* A byte of a side of the packed disk. */
-static uint8_t *side_byte(size_t track, size_t side, size_t byte)
-{
-    return hfe + 512 * (2 + 49 * track) + 512 * (byte / 256) + 256 * side + byte % 256;
-}
-
 /* Byte `index` of a sector of track 40, side 1, counted from the 00 before its header. */
 static uint8_t *cells(size_t r, size_t index)
 {
-    return side_byte(40, 1, 2 * (146 + 658 * (r - 1) + index));
+    return side_byte(hfe, 40, 1, in_sector(r, index));
 }
 
 /* The packed disk as version 3, which it is left as: without codes; then with a code of each kind in
@@ -176,13 +171,13 @@ static void unpack_version_3(void)
     measure(UNPACK_3, 1);
     for (side = 0; side < 160; side++)
         for (i = 0; i < sizeof codes; i++) {
-            *side_byte(side / 2, side % 2, 20 + i) = codes[i];
-            *side_byte(side / 2, side % 2, 12480 + i) = codes[i];
+            *side_byte(hfe, side / 2, side % 2, 20 + i) = codes[i];
+            *side_byte(hfe, side / 2, side % 2, 12480 + i) = codes[i];
         }
     measure(UNPACK_3, 1);
     memset(cells(9, 20), 0, 2);
     measure(UNPACK_3, 0);
-    *side_byte(79, 1, 12499) = 0xCF;
+    *side_byte(hfe, 79, 1, SIDE_LEN - 1) = 0xCF;
     measure(UNPACK_3, 0);
 }
 

@@ -2,17 +2,8 @@
 
 use crate::build::noise;
 use reference::cells::buffer_cells;
-use reference::codes::{coded_cells, turned, WrongCode};
-
-/// Codes as they are stored.
-const NOTHING: u8 = 0x0F;
-const INDEX: u8 = 0x8F;
-const RATE: u8 = 0x4F;
-const SKIP: u8 = 0xCF;
-const WEAK: u8 = 0x2F;
-
-/// The counts 0 to 7 as they are stored.
-const COUNTS: [u8; 8] = [0x00, 0x80, 0x40, 0xC0, 0x20, 0xA0, 0x60, 0xE0];
+use reference::codes::{coded_cells, reversed_bits, WrongCode};
+use support::codes::{looks_like_code, COUNTS, INDEX, NOTHING, RATE, SKIP, WEAK};
 
 /// Asserts that bytes give the cells of these, which have no codes.
 fn assert_cells(bytes: &[u8], plain: &[u8]) {
@@ -28,9 +19,9 @@ fn assert_wrong(bytes: &[u8], place: usize) {
 #[test]
 fn stored_codes_and_counts() {
     let codes = [NOTHING, INDEX, RATE, SKIP, WEAK];
-    assert_eq!(codes.map(turned), [0xF0, 0xF1, 0xF2, 0xF3, 0xF4]);
-    assert_eq!(COUNTS.map(turned), [0, 1, 2, 3, 4, 5, 6, 7]);
-    assert_eq!((turned(0xFF), turned(0x01)), (0xFF, 0x80));
+    assert_eq!(codes.map(reversed_bits), [0xF0, 0xF1, 0xF2, 0xF3, 0xF4]);
+    assert_eq!(COUNTS.map(reversed_bits), [0, 1, 2, 3, 4, 5, 6, 7]);
+    assert_eq!((reversed_bits(0xFF), reversed_bits(0x01)), (0xFF, 0x80));
 }
 
 /// A byte that belongs to no code is one exactly if its lowest four bits are 1;
@@ -40,7 +31,7 @@ fn every_byte_alone() {
     for byte in 0..=255 {
         match byte {
             NOTHING | INDEX => assert_cells(&[byte], &[]),
-            byte if byte & 0x0F == 0x0F => assert_wrong(&[byte], 0),
+            byte if looks_like_code(byte) => assert_wrong(&[byte], 0),
             byte => assert_cells(&[byte], &[byte]),
         }
     }
@@ -119,7 +110,7 @@ fn every_count() {
 #[test]
 fn first_wrong_code() {
     for code in 0xF4..=0xFF {
-        let code = turned(code);
+        let code = reversed_bits(code);
         assert_wrong(&[code], 0);
         assert_wrong(&[0x12, NOTHING, RATE, 0x33, code, WEAK, SKIP], 4);
     }
@@ -142,7 +133,7 @@ fn codes_alone_and_no_codes() {
     assert_cells(&[NOTHING, INDEX, RATE, 0xFF, INDEX], &[]);
     let plain: Vec<u8> = noise(3, 3000)
         .into_iter()
-        .filter(|byte| byte & 0x0F != 0x0F)
+        .filter(|&byte| !looks_like_code(byte))
         .collect();
     assert_cells(&plain, &plain);
 }

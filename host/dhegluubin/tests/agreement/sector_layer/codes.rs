@@ -2,9 +2,9 @@
 //! reference must agree.
 
 use super::both::unpack;
-use super::build::{packed, sides};
+use super::build::{packed, sides, TRACK_0_GOOD};
 use super::shared::version_3::coded_track_0;
-use std::collections::BTreeMap;
+use std::collections::BTreeSet;
 use support::cases::cases;
 use support::codes::{cells, coded, fill, with_codes, COUNTS, INDEX, NOTHING, RATE, SKIP};
 use support::noise::Generator;
@@ -50,18 +50,20 @@ fn changed_sides(generator: &mut Generator, written: &[Vec<u8>; 2]) -> [Vec<u8>;
 fn first_track() {
     let written = sides(&packed(), 0);
     let mut generator = Generator::new(321);
-    let mut counts: BTreeMap<usize, u32> = BTreeMap::new();
+    let mut replies = BTreeSet::new();
     let usual = 600;
-    for case in 0..cases(usual) {
+    let runs = cases(usual);
+    for case in 0..runs {
         let sides = changed_sides(&mut generator, &written);
         let reply = unpack(&coded_track_0(sides));
         println!("case {case}: {reply:?}");
-        *counts.entry(reply[0]).or_insert(0) += 1;
+        replies.insert(reply);
     }
-    println!("numbers given: {counts:?}");
-    if counts.values().sum::<u32>() >= usual {
-        assert!([4, 7, 18].iter().all(|number| counts.contains_key(number)));
-    }
+    // Few cases need not give all kinds. Where track 0 is good the number is 4
+    // too, of track 1.
+    let on_track_0 = |number: usize| replies.iter().any(|reply| reply[..2] == [number, 0]);
+    let has_all = replies.contains(&TRACK_0_GOOD) && [4, 7, 18].into_iter().all(on_track_0);
+    assert!(runs < usual || has_all);
 }
 
 /// Whole disks with a few changed bytes, most of them in the tracks (§7.25).

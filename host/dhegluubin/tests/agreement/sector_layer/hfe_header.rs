@@ -6,8 +6,8 @@ use super::shared::version_3::version_3_of_empty;
 use support::cases::cases;
 use support::noise::Generator;
 
-/// The letters of the versions that are read (§2.2).
-const LETTERS: [&[u8; 8]; 2] = [b"HXCPICFE", b"HXCHFEV3"];
+/// The letters of both versions that are read (§2.2).
+const BOTH_LETTERS: [&[u8; 8]; 2] = [b"HXCPICFE", b"HXCHFEV3"];
 
 /// The shared reply for an image without cells, with these letters and these
 /// header bytes.
@@ -49,7 +49,7 @@ fn expected(letters: &[u8; 8], offset: usize, byte: u8) -> [usize; 4] {
 /// in both versions.
 #[test]
 fn every_byte_alone() {
-    for letters in LETTERS {
+    for letters in BOTH_LETTERS {
         for offset in 0..28 {
             for byte in 0..=255 {
                 let reply = judged(letters, &[(offset, byte)]);
@@ -62,7 +62,7 @@ fn every_byte_alone() {
 /// No further byte of the header is judged (§2.3).
 #[test]
 fn bytes_that_are_not_judged() {
-    for letters in LETTERS {
+    for letters in BOTH_LETTERS {
         for offset in (26..512).step_by(7) {
             assert_eq!(judged(letters, &[(offset, 0x00)]), EMPTY, "{offset}");
             assert_eq!(judged(letters, &[(offset, 0x5F)]), EMPTY, "{offset}");
@@ -73,7 +73,7 @@ fn bytes_that_are_not_judged() {
 /// Flags, and the encoding after each (§2.3).
 #[test]
 fn switches_with_the_byte_after_them() {
-    for letters in LETTERS {
+    for letters in BOTH_LETTERS {
         let judged = |patches: &[(usize, u8)]| judged(letters, patches);
         for (switch, byte, expected) in [
             (0x00, 0x00, None),
@@ -114,7 +114,7 @@ fn lowest_wrong_field_is_named() {
             13 => 12,
             offset => offset,
         };
-        for letters in LETTERS {
+        for letters in BOTH_LETTERS {
             assert_eq!(judged(letters, &faults[first..]), wrong(field));
         }
     }
@@ -131,7 +131,7 @@ fn random_headers() {
                 (generator.below(32), byte)
             })
             .collect();
-        let letters = generator.choice(&LETTERS);
+        let letters = generator.choice(&BOTH_LETTERS);
         println!("case {case}: {letters:?} {patches:?}");
         judged(letters, &patches);
     }

@@ -105,6 +105,17 @@ pub fn move_track(hfe: &mut Vec<u8>, track: usize, sides: &[Vec<u8>; 2]) {
     set_entry(hfe, 1, track, unit, len);
 }
 
+/// Puts track 0 of a packed image over its HFE header: it begins at unit 0, whose
+/// bytes are its first, and its own follow. The table stands at the end.
+pub fn lay_track_0_over_header(hfe: &mut Vec<u8>) {
+    let table = hfe[UNIT..2 * UNIT].to_vec();
+    let track = units(&sides(hfe, 0));
+    hfe[UNIT..UNIT + track.len()].copy_from_slice(&track);
+    let table_unit = append(hfe, &table);
+    set_table_unit(hfe, table_unit);
+    set_entry(hfe, table_unit, 0, 0, WRITTEN + UNIT);
+}
+
 /// What an image gives whose header and table are good and whose tracks
 /// have no cells to speak of.
 pub const EMPTY: [usize; 4] = [4, 0, 0, 1];

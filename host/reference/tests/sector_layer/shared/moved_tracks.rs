@@ -2,8 +2,8 @@
 
 use super::answer::{assert_refused, assert_unpacks, unpack};
 use super::build::{
-    append, disk, empty_tracks, move_track, packed, set_entry, set_table_unit, sides, track_0,
-    units, written_unit, TRACK_0_GOOD, UNIT, WRITTEN,
+    append, disk, empty_tracks, lay_track_0_over_header, move_track, packed, set_entry,
+    set_table_unit, sides, track_0, units, written_unit, TRACK_0_GOOD, UNIT, WRITTEN,
 };
 use support::cases::cases;
 use support::noise::{noise, Generator};
@@ -57,14 +57,8 @@ fn two_tracks_in_the_same_units_and_in_part() {
 /// Tracks may lie over the header (§2.5).
 #[test]
 fn track_over_the_header() {
-    // Track 0 begins at unit 0: the header is read as its first cells.
     let mut hfe = packed();
-    let table = hfe[UNIT..2 * UNIT].to_vec();
-    let track = units(&sides(&hfe, 0));
-    hfe[UNIT..UNIT + track.len()].copy_from_slice(&track);
-    let table_unit = append(&mut hfe, &table);
-    set_table_unit(&mut hfe, table_unit);
-    set_entry(&mut hfe, table_unit, 0, 0, WRITTEN + UNIT);
+    lay_track_0_over_header(&mut hfe);
     assert_unpacks(&hfe, disk());
 }
 

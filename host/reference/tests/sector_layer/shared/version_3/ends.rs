@@ -254,7 +254,7 @@ fn header_at_the_last_cell() {
     }
 }
 
-/// Sides of one and two bytes, and no more than a code (§2.9).
+/// Sides of one to four bytes, and no more than a code (§2.9).
 #[test]
 fn shortest_sides() {
     for (side, expected) in [

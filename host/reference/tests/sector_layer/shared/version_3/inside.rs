@@ -84,15 +84,16 @@ fn bytes_in_two_parts() {
 
 /// Where a code takes the place of a byte, that byte's cells are lost: in the
 /// sync bytes of a header that is 4, in those of a field 6, in the data 7
-/// (§2.8). Were the bit rate data, no cells would be lost.
+/// (§2.8). The bit rate is the byte itself: were it data, no cells would be
+/// lost.
 #[test]
 fn codes_in_place_of_a_byte() {
     for (index, number) in [(SYNC + 1, 4), (FIELD_SYNC + 1, 6), (DATA + 40, 7)] {
         let at = in_sector(1, index);
-        for code in [&[NOTHING][..], &[INDEX], &[RATE, 0x55]] {
-            let [side_0, side_1] = written();
-            let side_0 = spliced(&side_0, at, 1, code);
-            let reply = unpack(&coded_track_0([side_0, side_1]));
+        let [side_0, side_1] = written();
+        for code in [&[NOTHING][..], &[INDEX], &[RATE, side_0[at]]] {
+            let sides = [spliced(&side_0, at, 1, code), side_1.clone()];
+            let reply = unpack(&coded_track_0(sides));
             assert_eq!(reply, [number, 0, 0, 1], "{code:02X?}");
         }
     }

@@ -2,11 +2,13 @@
 //! for another.
 
 use super::answer::{assert_unpacks, unpack, unpack_into};
-use super::build::{append, disk, in_sector, pattern, TRACK_0_GOOD, WRITTEN};
+use super::build::{
+    append, disk, in_sector, lay_track_0_over_header, pattern, TRACK_0_GOOD, WRITTEN,
+};
 use super::spoil::{AFTER, SYNC};
 use super::{
-    coded_track_0, filled, packed, set_entry, set_table_unit, sides, spliced, units, version_3,
-    written, wrong_code, UNIT,
+    coded_track_0, filled, packed, set_entry, sides, spliced, units, version_3, written,
+    wrong_code, UNIT,
 };
 use support::codes::{COUNTS, INDEX, NOTHING, RATE, SKIP, WEAK};
 
@@ -113,6 +115,33 @@ fn track_over_codes_of_another() {
     }
 }
 
+/// A track ends within a code that another track over the same units has whole:
+/// what belongs to the code past its own end completes nothing (§2.9).
+#[test]
+fn track_that_ends_within_a_code() {
+    for side in [0, 1] {
+        let wrong = wrong_code(20, side, 12_500);
+        for (code, own, expected) in [
+            (&[RATE, 0x12][..], 0, [0; 4]),
+            (&[RATE, 0x12], 1, wrong),
+            (&[RATE, 0x12], 2, [0; 4]),
+            (&[SKIP, COUNTS[1], 0x49], 1, wrong),
+            (&[SKIP, COUNTS[1], 0x49], 2, wrong),
+            (&[SKIP, COUNTS[1], 0x49], 3, [0; 4]),
+        ] {
+            let hfe = version_3(packed());
+            let unit = hfe.len() / UNIT;
+            let mut row = two_in_a_row(&hfe, code);
+            // The other side has codes of one byte, which no end can cut.
+            row[1 - side][12_500..12_500 + code.len()].fill(NOTHING);
+            let mut hfe = both_at(hfe, &row);
+            assert_unpacks(&hfe, disk());
+            set_entry(&mut hfe, 1, 20, unit, 2 * (12_500 + own));
+            assert_eq!(unpack(&hfe), expected, "{code:02X?}, {own} of it");
+        }
+    }
+}
+
 /// The unit of the HFE header with no byte that looks like a code: what is not
 /// judged is 00, and so are flags and encodings.
 fn header_without_codes(hfe: &mut [u8]) {
@@ -120,23 +149,12 @@ fn header_without_codes(hfe: &mut [u8]) {
     hfe[20..UNIT].fill(0);
 }
 
-/// An image whose track 0 begins at unit 0.
-fn track_over_header() -> Vec<u8> {
-    let mut hfe = version_3(packed());
-    let table = hfe[UNIT..2 * UNIT].to_vec();
-    let track = units(&sides(&hfe, 0));
-    hfe[UNIT..UNIT + track.len()].copy_from_slice(&track);
-    let table_unit = append(&mut hfe, &table);
-    set_table_unit(&mut hfe, table_unit);
-    set_entry(&mut hfe, table_unit, 0, 0, WRITTEN + UNIT);
-    hfe
-}
-
 /// A track may lie over the HFE header (§2.5), whose bytes are then cells or
 /// codes as any others (§2.7).
 #[test]
 fn track_over_the_header() {
-    let mut hfe = track_over_header();
+    let mut hfe = version_3(packed());
+    lay_track_0_over_header(&mut hfe);
     // Byte 17 is FF.
     assert_eq!(unpack(&hfe), wrong_code(0, 0, 17));
     header_without_codes(&mut hfe);

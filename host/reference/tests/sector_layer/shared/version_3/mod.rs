@@ -10,9 +10,7 @@ pub mod random;
 mod vectors;
 mod wrong;
 
-use build::{
-    cell_byte, move_track, packed, set_entry, set_table_unit, sides, track_0, units, UNIT,
-};
+use build::{cell_byte, move_track, packed, set_entry, sides, track_0, units, UNIT};
 use support::codes::{part, LETTERS, NOTHING};
 
 /// 18 with these places.
