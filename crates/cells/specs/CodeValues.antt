@@ -1,6 +1,6 @@
 -- code-values: codes and counts as they are stored, the cells that bytes with codes give, and wrong codes, by value (§2.7, §2.8, §2.9).
--- code-steps: the same code by code, whatever the bytes are. Together they leave no other reading of a side's bytes: those of a byte's bits are computed for
--- all 256 bytes, and the cells of a byte are those that a version 1 side has of it.
+-- code-steps: the same code by code, whatever the bytes are. Together they leave no other reading of a side's bytes: how codes and counts are read is computed
+-- for all 256 bytes, and the cells of a byte are those that a version 1 side has of it.
 -- Assumes nothing: these are definitions. The proofs are `code-values` in Laws/CodeValues.antt and `code-steps` in Laws/CodeSteps.antt.
 use mathlib.Core.Bool.{false}
 use mathlib.Core.List.{List, [], _∷_, _++_, map}

@@ -70,6 +70,8 @@ pub record FieldsNamed (named : List ℕ → ℕ) (header : List ℕ) : Type 0 w
   pub accepted : (named header ≡ 26) × (named (set header 9 255) ≡ 26)
       × (named (set (set header 22 0) 23 0) ≡ 26) × (named (set (set header 24 0) 25 0) ≡ 26)
   pub flag-refused : (named (set (set header 22 0) 23 1) ≡ 23) × (named (set (set header 24 0) 25 1) ≡ 25)
+  -- the table offset comes after the bit rate and before the flags, and what follows the first flag before the second
+  pub in-order : (named (set (set header 12 0) 18 0) ≡ 12) × (named (set (set header 18 0) 22 1) ≡ 18) × (named (set (set (set header 22 0) 23 1) 24 1) ≡ 23)
 
 -- by value: the header that pack writes, and what 2 names where bytes of it are one more or one less (§5.4 §5.5 §7.2)
 pub record HfeHeaderValues : Type 0 where

@@ -54,6 +54,11 @@ pub record ReplyValues : Type 0 where
   -- the entry of track 0 is wholly within the image: here the table begins at byte 1,024
   pub table-ends : (unpackReply (set hfeHeader 18 2 ++ (replicate 998 0 ++ (0 ∷ 0 ∷ 2 ∷ []))) 737280 ≡ replyWith 3 0 0 0)
       × (unpackReply (set hfeHeader 18 2 ++ (replicate 998 0 ++ (0 ∷ 0 ∷ 2 ∷ 0 ∷ []))) 737280 ≡ replyWith 3 1 0 0)
+  -- all units of a track are within the image, the last one whole: here a track of two bytes at byte 1,024 (§2.5)
+  pub track-ends : map (λ (n : ℕ). unpackReply (withTable (2 ∷ 0 ∷ 2 ∷ 0 ∷ []) ++ replicate n 0) 737280) (511 ∷ 512 ∷ [])
+      ≡ replyWith 3 0 0 0 ∷ replyWith 3 1 0 0 ∷ []
+  -- the table's unit has two bytes: at unit 257 it is past the end of this image, which has good entries at unit 1 (§2.3)
+  pub table-far : unpackReply (set (withTable (goodEntries 2)) 19 1) 737280 ≡ replyWith 3 0 0 0
   -- 3 comes before 18 (§7.25): the table of a version 3 image, where track 0 has the table's own unit and the entry of track 1 is not good, nor is its first
   -- byte, 2F, a right code
   pub table-before-codes : unpackReply (version3Header ++ (replicate 486 0 ++ (1 ∷ 0 ∷ 0 ∷ 2 ∷ 0x2F ∷ replicate 507 0))) 737280 ≡ replyWith 3 1 0 0

@@ -45,6 +45,8 @@ pub record VersionLetters : Type 0 where
       → rewriteReply h t s r d ≡ replyWith 2 0 0 0
   -- what 2 judges of an image to rewrite is, in version 1, what it judges of one to unpack
   pub rewrite-fields : (h : List ℕ) → isVersion1 h ≡ true → version1Fault h ≡ hfeHeaderFault h
+  -- and of a version 3 image what it would judge with the letters of version 1
+  pub version-3-fields : (h : List ℕ) → isVersion3 h ≡ true → hfeHeaderFault h ≡ hfeHeaderFault (put h 0 hfeSignature)
 
 -- ---- the cells of a side
 
@@ -94,8 +96,8 @@ sideCellsOf h m = sideStream h (trackOf m) (sideOf m)
 abbrev pub sectorRead : List ℕ → ℕ → Sector
 sectorRead h m = sectorOf (sideCellsOf h m) (trackOf m) (sideOf m) (rOf m)
 
--- sectors-read: in an image of either version the cells of its sides decide what its sectors give, the first bad one decides the reply, and the block image
--- has the bytes of all (§4.6 §7.18 §8.1)
+-- sectors-read: in an image of either version the cells of its sides decide what its sectors give, the first bad one decides the reply for the sectors, and
+-- where unpack is done the block image has the bytes of all (§4.6 §7.18 §8.1)
 pub record SectorsRead : Type 0 where
   -- the first bad sector gives its reply
   pub bad : (h : List ℕ) (m : ℕ) → m < allSectors → ((k : ℕ) → k < m → isBad (sectorRead h k) ≡ false) → isBad (sectorRead h m) ≡ true

@@ -13,7 +13,6 @@ use Rattle.laws.specs.Laws.Tests.{cond-true, eq-true, and-left}
 use Rattle.laws.specs.Laws.Tab.{tab-ext}
 use Rattle.cells.specs.Crc.{crcFollows}
 use Rattle.cells.specs.Stream.{from, dataByte, hfeSide}
-use Rattle.cells.specs.Codes.{storedBytes}
 use Rattle.cells.specs.Sync.{threeSync}
 use Rattle.cells.specs.Damage.{dataBit, bitsByte, Detectable}
 use Rattle.cells.specs.Laws.Bits.{cells-spelled}
@@ -152,7 +151,7 @@ pub side-binary : (h : List ℕ) (t s : ℕ) → Binary (sideStream h t s)
 unfolding codedSide
 side-binary h t s i =
     by-test (isVersion3 h)
-    (λ v. rw (coded-stream h t s v) (coded-binary (storedBytes (trackPart h t) (hfeSide s (trackLength h t))) i))
+    (λ v. rw (coded-stream h t s v) (coded-binary _ i))
     (λ v. rw (plain-stream h t s v) (stream-bit (trackPart h t) (hfeSide s (trackLength h t)) i))
 
 -- a sector's bytes in two images

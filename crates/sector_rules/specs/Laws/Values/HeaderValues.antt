@@ -125,6 +125,7 @@ carried f g same header n x =
           tab-ext _ _ 26 (λ o l. same (changedFrom oneLess header o) (changed-from-length oneLess header o (omega arith) ∙ n)) ∙ x .all-less;
       accepted = (same header n ∙ x .accepted .0, once 9 255 ∙ x .accepted .1, twice 22 0 23 0 ∙ x .accepted .2, twice 24 0 25 0 ∙ x .accepted .3);
       flag-refused = (twice 22 0 23 1 ∙ x .flag-refused .0, twice 24 0 25 1 ∙ x .flag-refused .1);
+      in-order = (twice 12 0 18 0 ∙ x .in-order .0, twice 18 0 22 1 ∙ x .in-order .1, both-flags ∙ x .in-order .2);
     }
   where
     once : (o v : ℕ) → f (set header o v) ≡ g (set header o v)
@@ -133,15 +134,36 @@ carried f g same header n x =
     twice : (o v p w : ℕ) → f (set (set header o v) p w) ≡ g (set (set header o v) p w)
     twice o v p w = same (set (set header o v) p w) (length-set (set header o v) p w ∙ length-set header o v ∙ n)
 
+    both-flags : f (set (set (set header 22 0) 23 1) 24 1) ≡ g (set (set (set header 22 0) 23 1) 24 1)
+    both-flags =
+        same (set (set (set header 22 0) 23 1) 24 1)
+        (length-set (set (set header 22 0) 23 1) 24 1 ∙ length-set (set header 22 0) 23 1 ∙ length-set header 22 0 ∙ n)
+
 version-1-judged : FieldsNamed (λ (start : List ℕ). faultPlace (hfeHeaderFault start)) hfeHeader
 unfolding tab hfeHeaderFault isVersion1 isVersion3 fieldFault formatFault flagFault hfeSignature version3Signature hfeHeader changedAt changedFrom oneMore
     oneLess lowFirst standsAt bytesAre same
-version-1-judged = record { one-more = refl; one-less = refl; all-less = refl; accepted = (refl, refl, refl, refl); flag-refused = (refl, refl) }
+version-1-judged =
+    record {
+      one-more = refl;
+      one-less = refl;
+      all-less = refl;
+      accepted = (refl, refl, refl, refl);
+      flag-refused = (refl, refl);
+      in-order = (refl, refl, refl);
+    }
 
 version-3-judged : FieldsNamed (λ (start : List ℕ). faultPlace (hfeHeaderFault start)) version3Header
 unfolding tab hfeHeaderFault isVersion1 isVersion3 fieldFault formatFault flagFault hfeSignature version3Signature hfeHeader version3Header changedAt
     changedFrom oneMore oneLess lowFirst standsAt bytesAre same
-version-3-judged = record { one-more = refl; one-less = refl; all-less = refl; accepted = (refl, refl, refl, refl); flag-refused = (refl, refl) }
+version-3-judged =
+    record {
+      one-more = refl;
+      one-less = refl;
+      all-less = refl;
+      accepted = (refl, refl, refl, refl);
+      flag-refused = (refl, refl);
+      in-order = (refl, refl, refl);
+    }
 
 -- hfe-header-values: all of these hold
 pub hfe-header-values : HfeHeaderValues

@@ -216,6 +216,10 @@ other-letters h v =
     within : 8 ≤ length h
     within = stands-within h 0 version3Signature v
 
+-- the fields of a version 3 image are judged as if it had the letters of version 1
+pub version-3-header : (h : List ℕ) → isVersion3 h ≡ true → hfeHeaderFault h ≡ hfeHeaderFault (put h 0 hfeSignature)
+version-3-header h v = sym (header-same h (put h 0 hfeSignature) (other-letters h v))
+
 -- where no byte of its sides reads as a code, a version 3 image is read as if it had the letters of version 1
 pub version-3-plain : Version3Plain
 version-3-plain h v plain = (

@@ -28,6 +28,7 @@ use Rattle.sector_rules.specs.Laws.Base.Unpacked.{header-reply, table-re
 use Rattle.sector_rules.specs.Laws.Base.Versions.{version-1-not-3, letters-wrong, neither-version, version1-judged}
 use Rattle.sector_rules.specs.Laws.Base.Versions.{plain-stream, coded-stream, plain-codes, sideRefusal, codes-found, codes-none}
 use Rattle.sector_rules.specs.Laws.Rewrite.Judged.{rewrite-header}
+use Rattle.sector_rules.specs.Laws.Versions.Plain.{version-3-header}
 
 -- ---- the letters
 
@@ -60,6 +61,7 @@ version-letters =
       unpack-others = λ h l e f. header-reply h imageBytes l refl 0 (neither-version h e f);
       rewrite-others = λ h t s r d l a e. rewrite-header h t s r d l a 0 (letters-wrong h e);
       rewrite-fields = λ h e. sym (version1-judged h e);
+      version-3-fields = version-3-header;
     }
 
 -- ---- the cells of a side
