@@ -17,9 +17,7 @@ use crate::steps::set_record;
 use crate::store::put_bytes;
 use file_rules::Record;
 use sector_rules::Reply;
-use sectors::BACKWARD;
 use sectors::Geometry;
-use sectors::SIDE_PLACE;
 use sectors::done;
 use sectors::refused;
 
@@ -55,8 +53,10 @@ fn put_dimensions(head: &mut [u8])
 fn put_start(head: &mut [u8])
     ensures { λ _. ⌜ now (head .exit) ≡ started (now (head .entry)) ⌝ }
 {
-    fields::copy_into(head, 40, &SIDE_PLACE);
-    fields::copy_into(head, 58, &BACKWARD);
+    let first = Geometry::side_place_table();
+    fields::copy_into(head, 40, &first);
+    let second = Geometry::backward_table();
+    fields::copy_into(head, 58, &second);
     fields::put_high4(head, 16, 0);
     fields::put_high2(
         head,

@@ -15,9 +15,7 @@ use crate::blocks::block_word2;
 use crate::sizes::BLOCK_BYTES;
 use crate::sizes::SLOT_BYTES;
 use sector_rules::Fault;
-use sectors::BACKWARD;
 use sectors::Geometry;
-use sectors::SIDE_PLACE;
 use sectors::or_fault;
 use sectors::refused;
 use sectors::wrong_at;
@@ -81,12 +79,14 @@ fn disk_header_fault(image: &[u8]) -> Fault
     requires { ⌜ sectorBytes ≤ length (now image) ⌝ }
     ensures { λ r. ⌜ r ≡ diskHeaderFault (diskOf (now (image .entry))) ⌝ }
 {
-    let backward = wrong_at(58, fields::stands_at(image, 58, &BACKWARD));
-    let table = wrong_at(40, fields::stands_at(image, 40, &SIDE_PLACE));
+    let second = Geometry::backward_table();
+    let backward = wrong_at(58, fields::stands_at(image, 58, &second));
+    let first = Geometry::side_place_table();
+    let places = wrong_at(40, fields::stands_at(image, 40, &first));
     let offset = word_fault(image, 38, Geometry::TRACK_OFFSET);
     let directory = wrong_at(34, length_right(image));
     let signature = wrong_at(0, fields::stands_at(image, 0, b"QL5A"));
-    let rest = or_fault(directory, or_fault(offset, or_fault(table, backward)));
+    let rest = or_fault(directory, or_fault(offset, or_fault(places, backward)));
     or_fault(signature, or_fault(dimensions_fault(image), rest))
 }
 

@@ -17,8 +17,6 @@ mod written;
 pub use faults::or_fault;
 pub use faults::wrong_at;
 pub use packing::pack;
-pub use placement::BACKWARD;
-pub use placement::SIDE_PLACE;
 pub use placement::place;
 pub use replies::done;
 pub use replies::done_with;

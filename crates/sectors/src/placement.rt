@@ -1,7 +1,7 @@
 // The numbers of the disk kind, each once, and the place of a block's sector in the block image.
 ghost use mathlib.Core.Path.{_≡_};
 ghost use Prim.Native.Nat.{_<_};
-ghost use Rattle.sector_rules.specs.Geometry.{running, toImageSector, toRunningSector, placeReply};
+ghost use Rattle.sector_rules.specs.Geometry.{sidePlace, backward, running, toImageSector, toRunningSector, placeReply};
 use crate::Geometry;
 use crate::replies::done_with;
 use crate::replies::refused;
@@ -11,7 +11,7 @@ use sector_rules::Reply;
 use sector_rules::RunningSector;
 
 // Side and place by the remainder of a running sector by 18; 0x80 is added on side 1 (§1.4).
-pub const SIDE_PLACE: [u8; Geometry::TRACK_SECTORS] = [
+const SIDE_PLACE: [u8; Geometry::TRACK_SECTORS] = [
     0x00,
     0x03,
     0x06,
@@ -33,7 +33,7 @@ pub const SIDE_PLACE: [u8; Geometry::TRACK_SECTORS] = [
 ];
 
 // The backward table: by side and place on track 0 the running sector (§1.6).
-pub const BACKWARD: [u8; Geometry::TRACK_SECTORS] = [
+const BACKWARD: [u8; Geometry::TRACK_SECTORS] = [
     0x00,
     0x06,
     0x0C,
@@ -76,6 +76,20 @@ impl Geometry {
     pub const BLOCKS: usize = Geometry::ALL_SECTORS / Geometry::BLOCK_SECTORS;
 
     pub const IMAGE_BYTES: usize = Geometry::ALL_SECTORS * Geometry::SECTOR_BYTES;
+
+    // The table of sides and places (§1.4), as the disk header has it (§6.7).
+    pub fn side_place_table() -> [u8; Geometry::TRACK_SECTORS]
+        ensures { λ r. ⌜ r ≡ sidePlace ⌝ }
+    {
+        SIDE_PLACE
+    }
+
+    // The backward table (§1.6), as the disk header has it (§6.7).
+    pub fn backward_table() -> [u8; Geometry::TRACK_SECTORS]
+        ensures { λ r. ⌜ r ≡ backward ⌝ }
+    {
+        BACKWARD
+    }
 
     // The running sector of sector s of a block (§1.3).
     pub fn running(b: BlockNumber, s: usize) -> RunningSector

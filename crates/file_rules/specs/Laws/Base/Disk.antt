@@ -1,5 +1,5 @@
 -- The disk in block order (§1.3): an image and its disk determine each other, and a byte written in the one is written in the other.
--- Rests on placement being one to one (sector_rules, Laws.Base.Geometry).
+-- Rests on the laws of the placement: it is one to one, keeps each sector on its track and begins with 0 (sector_rules, Laws.Base.Geometry).
 use mathlib.Core.Path.{_≡_, sym, ap, ap₂, _∙_, fun-ext}
 use mathlib.Core.Logic.{_≢_}
 use mathlib.Core.List.{List}
@@ -14,8 +14,8 @@ use Rattle.laws.specs.Laws.Cases.{by-order, by-equal}
 use Rattle.laws.specs.Laws.Tests.{lt-true, lt-false, cond-true, cond-false, and-true, and-false-left, and-false-right}
 use Rattle.laws.specs.Laws.Tab.{tab-self, tab-length, tab-in, tab-ext}
 use Rattle.laws.specs.Laws.Changes.{upd-same, upd-other, upd₂-same, upd₂-other}
-use Rattle.sector_rules.specs.Geometry.{sectorBytes, blockSectors, allSectors, blocks, imageBytes, running, toImageSector, toRunningSector}
-use Rattle.sector_rules.specs.Laws.Base.Geometry.{image-lt, running-lt, running-image, image-running}
+use Rattle.sector_rules.specs.Geometry.{sectorBytes, blockSectors, trackSectors, allSectors, blocks, imageBytes, running, toImageSector, toRunningSector}
+use Rattle.sector_rules.specs.Laws.Base.Geometry.{image-lt, running-lt, running-image, image-running, image-track, image-first, running-first}
 use Rattle.file_rules.specs.Disk.{Disk, imagePlace, blockOf, offsetOf, diskOf, imageOf, setByte}
 use Rattle.file_rules.specs.Sizes.{blockBytes}
 
@@ -74,6 +74,37 @@ module _ (i : ℕ) (h : i < imageBytes) where
       ap₂ (λ (x y : ℕ). toImageSector x * sectorBytes + y) e₁ e₂
       ∙ ap (λ (x : ℕ). x * sectorBytes + i % sectorBytes) (image-running (i / sectorBytes) (omega arith))
       ∙ omega arith
+
+-- ---- block 0
+
+-- the first sector of block 0 is the image's first
+pub first-place : (o : ℕ) → o < sectorBytes → imagePlace 0 o ≡ o
+unfolding imagePlace
+first-place o h =
+    let e : running 0 (o / sectorBytes) ≡ 0 = omega arith in
+    ap (λ (n : ℕ). toImageSector n * sectorBytes + o % sectorBytes) e ∙ ap (λ (n : ℕ). n * sectorBytes + o % sectorBytes) image-first ∙ omega arith
+
+-- and back: the first bytes of the image are those of block 0
+pub first-block : (i : ℕ) → i < sectorBytes → blockOf i ≡ 0
+unfolding blockOf
+first-block i h =
+    let e : i / sectorBytes ≡ 0 = omega arith in ap (λ (n : ℕ). toRunningSector n / blockSectors) e ∙ ap (λ (n : ℕ). n / blockSectors) running-first
+
+-- and have their offsets
+pub first-offset : (i : ℕ) → i < sectorBytes → offsetOf i ≡ i
+unfolding offsetOf
+first-offset i h =
+    let e : i / sectorBytes ≡ 0 = omega arith in
+    ap (λ (n : ℕ). toRunningSector n % blockSectors * sectorBytes + i % sectorBytes) e
+    ∙ ap (λ (n : ℕ). n % blockSectors * sectorBytes + i % sectorBytes) running-first
+    ∙ omega arith
+
+-- all of block 0 lies on track 0
+pub zero-on-track : (o : ℕ) → o < blockBytes → imagePlace 0 o < trackSectors * sectorBytes
+unfolding imagePlace
+zero-on-track o h = omega (arith, image-track (running 0 (o / sectorBytes)) (omega arith))
+
+-- ---- whole disks
 
 -- the image of a disk has 737,280 bytes
 pub length-image : (d : Disk) → length (imageOf d) ≡ imageBytes

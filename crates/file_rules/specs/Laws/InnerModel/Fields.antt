@@ -1,4 +1,4 @@
--- What stands in a map record, in an entry and in the header that the inner model writes, and how many blocks a file has.
+-- What stands in a map record and in an entry, and how many blocks a file has.
 -- Rests on the laws of numbers in bytes (laws, Numbers).
 use mathlib.Core.Path.{_≡_, refl, ap, ap₂, _∙_}
 use mathlib.Core.Logic.{_≢_}
@@ -9,24 +9,22 @@ use Prim.Native.Nat.{ℕ, zero, suc, _+_, _-_, _*_, _≤_, _<_}
 use native.Mathlib.Omega.{arith}
 use lib.Dec.{eqb}
 use lib.ListN.{length, getD}
-use Rattle.laws.specs.Lists.{same, bytesAre, tab}
+use Rattle.laws.specs.Lists.{tab}
 use Rattle.laws.specs.Changes.{patch}
 use Rattle.laws.specs.Numbers.{at16, at32, quotientUp, bigEndian, highByte}
 use Rattle.laws.specs.Laws.Tests.{eq-true, true-eq, true≢false, and-true, and-left, and-right}
 use Rattle.laws.specs.Laws.Tab.{tab-in}
 use Rattle.laws.specs.Laws.Changes.{patch-in, patch-below}
 use Rattle.laws.specs.Laws.Numbers.{high2-at, high4-at}
-use Rattle.sector_rules.specs.Geometry.{blockSectors, sidePlace, backward}
 use Rattle.file_rules.specs.declared.Record.{Record}
 use Rattle.file_rules.specs.declared.Record.the-variants.{Free, System, File, Other}
-use Rattle.file_rules.specs.Check.{diskSignature}
 use Rattle.file_rules.specs.Directory.{entryByte, entryFor}
-use Rattle.file_rules.specs.Laws.InnerModel.Inner.{Inner, fileBlocks, header}
+use Rattle.file_rules.specs.Laws.InnerModel.Inner.{Inner}
 use Rattle.file_rules.specs.Laws.InnerModel.Invariant.{partsOf}
 use Rattle.file_rules.specs.Map.{isPart}
-use Rattle.file_rules.specs.Model.{NamedFile, heldBlocks, dirBlocks, usable, freeWord, content}
-use Rattle.file_rules.specs.Sizes.{slotBytes, nameMost, blocksOf, wholeBlocks, bytesOver}
-use Rattle.file_rules.specs.Written.{fixedByte, diskHeaderByte, blocksFor}
+use Rattle.file_rules.specs.Model.{NamedFile, heldBlocks, dirBlocks, content}
+use Rattle.file_rules.specs.Sizes.{slotBytes, nameMost, blocksOf}
+use Rattle.file_rules.specs.Written.{blocksFor}
 
 -- ---- tests of records
 
@@ -90,43 +88,3 @@ parts-none m (suc k) e p = ap heldBlocks e
 pub parts-dir : (m : Inner) → blocksOf (suc (m .peak) * slotBytes) ≡ partsOf m 0
 unfolding partsOf quotientUp dirBlocks
 parts-dir m = omega arith
-
--- ---- the header's bytes
-
-module _ (m : Inner) where
-  -- the header's word of whole directory blocks
-  pub at-34 : m .peak ≤ 460 → at16 (header m) 34 ≡ wholeBlocks (suc (m .peak))
-  unfolding at16 bigEndian header diskHeaderByte patch
-  at-34 h = high2-at (wholeBlocks (suc (m .peak))) (omega arith)
-
-  -- the header's word of directory bytes over whole blocks
-  pub at-36 : at16 (header m) 36 ≡ bytesOver (suc (m .peak))
-  unfolding at16 bigEndian header diskHeaderByte patch
-  at-36 = high2-at (bytesOver (suc (m .peak))) (omega arith)
-
-  -- the header's free word
-  pub at-20 : at16 (header m) 20 ≡ freeWord (m .peak) (fileBlocks m)
-  unfolding at16 bigEndian header diskHeaderByte patch freeWord
-  at-20 = high2-at (blockSectors * (usable - (dirBlocks (m .peak) + fileBlocks m))) (omega arith)
-
-  -- the header begins with the signature
-  pub signature-at : bytesAre (header m) 0 diskSignature ≡ true
-  unfolding bytesAre tab diskSignature header diskHeaderByte fixedByte patch same
-  signature-at = refl
-
-  -- the header has the table of places of a track
-  pub side-at : bytesAre (header m) 40 sidePlace ≡ true
-  unfolding bytesAre tab sidePlace header diskHeaderByte fixedByte patch same
-  side-at = refl
-
-  -- the header has the table of places backwards
-  pub back-at : bytesAre (header m) 58 backward ≡ true
-  unfolding bytesAre tab backward header diskHeaderByte fixedByte patch same
-  back-at = refl
-
-  -- the header fields of the disk kind have their values
-  pub fixed-at :
-      (at16 (header m) 22 ≡ 1440) × (at16 (header m) 24 ≡ 1440) × (at16 (header m) 26 ≡ 9) × (at16 (header m) 28 ≡ 18)
-      × (at16 (header m) 30 ≡ 80) × (at16 (header m) 32 ≡ 3) × (at16 (header m) 38 ≡ 5)
-  unfolding at16 bigEndian header diskHeaderByte fixedByte patch highByte
-  fixed-at = (refl, refl, refl, refl, refl, refl, refl)

@@ -4,11 +4,10 @@ use mathlib.Core.Path.{_≡_, refl, sym, ap, ap₂, _∙_, subst}
 use mathlib.Core.Logic.{_≢_}
 use mathlib.Core.Bool.{true, false, not, cond, _&&_}
 use mathlib.Core.Option.{none, some}
-use Prim.Native.Nat.{ℕ, suc, _+_, _-_, _%_, _≤_, _<_}
+use Prim.Native.Nat.{ℕ, suc, _+_, _-_, _≤_, _<_}
 use native.Mathlib.Omega.{arith}
 use lib.Dec.{ltb, eqb}
 use lib.ListN.{length}
-use Rattle.laws.specs.Lists.{bytesAre}
 use Rattle.laws.specs.Below.{count}
 use Rattle.laws.specs.Numbers.{at16}
 use Rattle.laws.specs.Options.{isSome, orElse}
@@ -20,23 +19,23 @@ use Rattle.laws.specs.Laws.Lowest.{lowest-none}
 use Rattle.laws.specs.Laws.Count.{count-cong, count-one}
 use Rattle.sector_rules.specs.declared.Fault.the-variants.{At, Sound}
 use Rattle.sector_rules.specs.Faults.{faultBelow, refusalAt}
-use Rattle.sector_rules.specs.Geometry.{blocks, sidePlace, backward}
+use Rattle.sector_rules.specs.Geometry.{blocks}
 use Rattle.file_rules.specs.declared.Record.{Record}
 use Rattle.file_rules.specs.declared.Record.the-variants.{Free, System, File, Other}
-use Rattle.file_rules.specs.Check.{diskSignature, lengthRight, dimensionsFault, diskHeaderFault}
+use Rattle.file_rules.specs.Check.{diskHeaderFault}
 use Rattle.file_rules.specs.Check.{recordFault, mapFault, partsRight, noRecordBears, newName}
 use Rattle.file_rules.specs.Check.{entryRight, fileRight, fileFault, freeRight, refusal8, refusal9, refusal10, refusal11, diskRefusal}
 use Rattle.file_rules.specs.Directory.{nameEq, slotEntry, slotName, held, dirBytes, dirEnd}
 use Rattle.file_rules.specs.Disk.{Disk}
 use Rattle.file_rules.specs.Laws.InnerModel.Inner.{Inner, header, render}
 use Rattle.file_rules.specs.Laws.InnerModel.Invariant.{partsOf, Inv}
+use Rattle.file_rules.specs.Laws.Base.Header.{header-passes}
 use Rattle.file_rules.specs.Laws.Base.Whole.{Valid}
 use Rattle.file_rules.specs.Map.{recordAt, isSystem, isOther, bears, isPart, within, freeCount}
 use Rattle.file_rules.specs.Model.{NamedFile, HeldFile, freeWord, content}
-use Rattle.file_rules.specs.Sizes.{blockBytes, slotBytes, slotCount, mapStart, nameMost, freeSectors, blocksOf}
-use Rattle.file_rules.specs.Laws.InnerModel.Fields.{isPart-true, true-isPart, parts-some, parts-none, parts-dir, signature-at, side-at, back-at}
-use Rattle.file_rules.specs.Laws.InnerModel.Fields.{fixed-at}
-use Rattle.file_rules.specs.Laws.InnerModel.Reads.{rec, head16, bytes-is, word36, dirBytes-is, dirEnd-is, word20, freeCount-at, not-zero}
+use Rattle.file_rules.specs.Sizes.{slotBytes, slotCount, nameMost, freeSectors, blocksOf}
+use Rattle.file_rules.specs.Laws.InnerModel.Fields.{isPart-true, true-isPart, parts-some, parts-none, parts-dir}
+use Rattle.file_rules.specs.Laws.InnerModel.Reads.{rec, head-byte, dirBytes-is, dirEnd-is, word20, freeCount-at, not-zero}
 use Rattle.file_rules.specs.Laws.InnerModel.Reads.{held-is, slotLength-is, slotNameLength-is, slotName-is}
 
 module _ (m : Inner) (v : Inv m) where
@@ -45,44 +44,11 @@ module _ (m : Inner) (v : Inv m) where
 
   -- ---- judgement 8
 
-  sign-right : bytesAre (d 0) 0 diskSignature ≡ true
-  unfolding diskSignature
-  sign-right = bytes-is m v 0 diskSignature (omega arith) ∙ signature-at m
-
-  side-right : bytesAre (d 0) 40 sidePlace ≡ true
-  unfolding sidePlace
-  side-right = bytes-is m v 40 sidePlace (omega arith) ∙ side-at m
-
-  back-right : bytesAre (d 0) 58 backward ≡ true
-  unfolding backward
-  back-right = bytes-is m v 58 backward (omega arith) ∙ back-at m
-
-  length-right : lengthRight d ≡ true
-  unfolding lengthRight
-  length-right =
-      and-true (lt-true {a = at16 (d 0) 36} {b = blockBytes} (omega (arith, word36 m v)))
-      (and-true (eq-true {a = dirBytes d % slotBytes} {b = 0} (ap (λ (x : ℕ). x % slotBytes) (dirBytes-is m v) ∙ omega arith))
-      (le-true {a = slotBytes} {b = dirBytes d} (omega (arith, dirBytes-is m v))))
-
-  fixed : (o w : ℕ) → o + 1 < mapStart → at16 (header m) o ≡ w → eqb (at16 (d 0) o) w ≡ true
-  fixed o w h e = eq-true (head16 m v o h ∙ e)
-
   header-right : diskHeaderFault d ≡ Sound
-  unfolding diskHeaderFault dimensionsFault
+  unfolding header
   header-right =
-      rw (
-        sign-right,
-        length-right,
-        side-right,
-        back-right,
-        fixed 22 1440 (omega arith) (fixed-at m .0),
-        fixed 24 1440 (omega arith) (fixed-at m .1),
-        fixed 26 9 (omega arith) (fixed-at m .2),
-        fixed 28 18 (omega arith) (fixed-at m .3),
-        fixed 30 80 (omega arith) (fixed-at m .4),
-        fixed 32 3 (omega arith) (fixed-at m .5),
-        fixed 38 5 (omega arith) (fixed-at m .6),
-      )
+      header-passes _ _ _ (suc (m .peak)) (omega arith) (omega (arith, v .peak-most)) d
+      (λ o h. head-byte m v o (omega arith)) (λ o l h. head-byte m v o (omega arith))
 
   -- ---- judgement 9
 

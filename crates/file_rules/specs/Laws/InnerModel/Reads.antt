@@ -9,7 +9,7 @@ use Prim.Native.Nat.{ℕ, zero, suc, _+_, _-_, _*_, _/_, _%_, _≤_, _<_}
 use native.Mathlib.Omega.{arith}
 use lib.Dec.{ltb, eqb}
 use lib.ListN.{length, getD, take}
-use Rattle.laws.specs.Lists.{same, bytesAre, tab}
+use Rattle.laws.specs.Lists.{tab}
 use Rattle.laws.specs.Below.{count, lowest}
 use Rattle.laws.specs.Numbers.{at16, at32, quotientUp, bigEndian}
 use Rattle.laws.specs.Options.{isSome}
@@ -30,6 +30,7 @@ use Rattle.file_rules.specs.Directory.{dirEnd, findName, vacantSlot}
 use Rattle.file_rules.specs.Disk.{Disk}
 use Rattle.file_rules.specs.Laws.InnerModel.Inner.{Inner, fileBlocks, header, render, innerFind, emptySlot, freeOf, innerList, innerRead}
 use Rattle.file_rules.specs.Laws.InnerModel.Invariant.{partsOf, Inv}
+use Rattle.file_rules.specs.Laws.Base.Header.{at-20, at-34, at-36}
 use Rattle.file_rules.specs.Laws.Base.Whole.{With, with-is, record-is, freeCount-is, partBlock-is}
 use Rattle.file_rules.specs.Map.{recordAt, isSystem, isPart, freeCount, partBlock, fileByte}
 use Rattle.file_rules.specs.Model.{NamedFile, HeldFile, heldBlocks, dirBlocks, usable, freeWord, slotOf, heldBytes, dirByte, content, hasName}
@@ -37,7 +38,6 @@ use Rattle.file_rules.specs.Model.{heldEntry, heldEntries, heldData}
 use Rattle.file_rules.specs.Sizes.{blockBytes, slotBytes, blockSlots, mapStart, nameMost, wholeBlocks, bytesOver}
 use Rattle.file_rules.specs.Written.{storedByte, part, blocksFor}
 use Rattle.file_rules.specs.Laws.InnerModel.Fields.{isPart-true, true-isPart, entry-length, entry-name-length, entry-name-byte, entry-low}
-use Rattle.file_rules.specs.Laws.InnerModel.Fields.{at-34, at-36, at-20}
 
 module _ (m : Inner) (v : Inv m) where
   abbrev d : Disk
@@ -59,23 +59,20 @@ module _ (m : Inner) (v : Inv m) where
 
   -- ---- the header
 
-  -- a word of the header is read as it was written
-  pub head16 : (o : ℕ) → o + 1 < mapStart → at16 (d 0) o ≡ at16 (header m) o
+  head16 : (o : ℕ) → o + 1 < mapStart → at16 (d 0) o ≡ at16 (header m) o
   head16 o h = at16-is (d 0) o ∙ ap₂ (λ (x y : ℕ). x * 256 + y) (P .head o (omega arith)) (P .head (o + 1) h) ∙ sym (at16-is (header m) o)
 
-  -- a row of header bytes is read as it was written
-  pub bytes-is : (o : ℕ) (xs : List ℕ) → o + length xs ≤ mapStart → bytesAre (d 0) o xs ≡ bytesAre (header m) o xs
-  unfolding bytesAre
-  bytes-is o xs h =
-      ap (λ (l : List ℕ). same l xs)
-      (tab-ext (λ (i : ℕ). d 0 (o + i)) (λ (i : ℕ). header m (o + i)) (length xs) (λ i k. P .head (o + i) (omega arith)))
+  -- a byte of the header is read as it was written
+  pub head-byte : (o : ℕ) → o < mapStart → d 0 o ≡ header m o
+  head-byte = P .head
 
   word34 : at16 (d 0) 34 ≡ wholeBlocks (suc (m .peak))
-  word34 = head16 34 (omega arith) ∙ at-34 m (v .peak-most)
+  unfolding header
+  word34 = head16 34 (omega arith) ∙ at-34 _ _ _ (suc (m .peak)) (omega (arith, v .peak-most))
 
-  -- the directory bytes over whole blocks that are read
-  pub word36 : at16 (d 0) 36 ≡ bytesOver (suc (m .peak))
-  word36 = head16 36 (omega arith) ∙ at-36 m
+  word36 : at16 (d 0) 36 ≡ bytesOver (suc (m .peak))
+  unfolding header
+  word36 = head16 36 (omega arith) ∙ at-36 _ _ _ (suc (m .peak))
 
   -- the directory length that is read is that of all slots up to the peak
   pub dirBytes-is : dirBytes d ≡ suc (m .peak) * slotBytes
@@ -89,7 +86,8 @@ module _ (m : Inner) (v : Inv m) where
 
   -- the free word that is read is the inner model's
   pub word20 : at16 (d 0) 20 ≡ freeWord (m .peak) (fileBlocks m)
-  word20 = head16 20 (omega arith) ∙ at-20 m
+  unfolding header freeWord
+  word20 = head16 20 (omega arith) ∙ at-20 _ _ (freeWord (m .peak) (fileBlocks m)) _ (omega arith)
 
   -- as many blocks are read as free as have the free owner
   pub freeCount-at : freeCount d ≡ count blocks (freeOf (m .owner))

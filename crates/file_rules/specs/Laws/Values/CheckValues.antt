@@ -1,37 +1,41 @@
 -- 9 and 10 by value: the proof of check-values (CheckValues.antt).
--- Rests on: the laws of the disk in block order (Base/Disk), and that a format is accepted (OnImages/Run); all else is computed.
+-- Rests on: the laws of the disk in block order (Base/Disk), that a written header passes 8 (Base/Header), and that a format is accepted (OnImages/Run);
+-- all else is computed.
 use mathlib.Core.Bool.{true}
 use mathlib.Core.List.{List}
 use mathlib.Core.Path.{_≡_, refl, sym, ap, _∙_, subst}
-use Prim.Native.Nat.{ℕ, _≤_, _<_}
+use Prim.Native.Nat.{ℕ, suc, _-_, _≤_, _<_}
 use native.Mathlib.Omega.{arith}
-use lib.Dec.{ltb, lit<}
+use lib.Dec.{ltb, lit<, lit≤}
 use lib.ListN.{set}
 use Rattle.laws.specs.Below.{lowest, count, all}
 use Rattle.laws.specs.Changes.{upd, patch}
 use Rattle.laws.specs.Laws.Changes.{upd-other, upd₂-same, upd₂-other}
 use Rattle.laws.specs.Laws.Cases.{by-equal}
 use Rattle.laws.specs.Laws.Tests.{eq-true, lt-false, cond-true, cond-false, and-false-left, and-false-right}
-use Rattle.laws.specs.Lists.{same, bytesAre, tab}
+use Rattle.laws.specs.Lists.{same, tab}
 use Rattle.laws.specs.Numbers.{at16, at32, bigEndian, highByte, quotientUp}
 use Rattle.laws.specs.Options.{orElse}
 use Rattle.sector_rules.specs.declared.Reply.{Reply}
 use Rattle.sector_rules.specs.Faults.{faultBelow}
-use Rattle.sector_rules.specs.Geometry.{blocks, sidePlace, backward, toImageSector}
+use Rattle.sector_rules.specs.declared.Fault.the-variants.{Sound}
+use Rattle.sector_rules.specs.Geometry.{sectorBytes, blocks}
 use Rattle.sector_rules.specs.Replies.{done, replyWith}
 use Rattle.file_rules.specs.declared.Record.{Record}
 use Rattle.file_rules.specs.Arguments.{FormatArguments}
-use Rattle.file_rules.specs.Calls.{ImageChanged, unless, imageRight, onSound, freshOwner, formatDisk, format, check}
-use Rattle.file_rules.specs.Check.{diskSignature, lengthRight, dimensionsFault, diskHeaderFault, recordFault, mapFault}
+use Rattle.file_rules.specs.Calls.{ImageChanged, unless, imageRight, onSound, freshOwner, freshHeader, formatDisk, check}
+use Rattle.file_rules.specs.Check.{diskHeaderFault, recordFault, mapFault}
 use Rattle.file_rules.specs.Check.{partsRight, noRecordBears, newName, entryRight, fileRight, fileFault}
 use Rattle.file_rules.specs.Check.{refusal8, refusal9, refusal10, refusal11, diskRefusal}
 use Rattle.file_rules.specs.Directory.{lowered, nameEq, entryOf, entryByte, nameOf, entryFor, slotByte, slotEntry, slotName, held, dirBytes, dirEnd}
 use Rattle.file_rules.specs.Disk.{Disk, imagePlace, imageOf, setByte}
-use Rattle.file_rules.specs.Laws.Base.Disk.{length-image, disk-image, image-set}
+use Rattle.file_rules.specs.Laws.Base.Disk.{first-place, length-image, disk-image, image-set}
+use Rattle.file_rules.specs.Laws.Base.Header.{header-passes}
+use Rattle.file_rules.specs.Laws.Base.Whole.{with-is}
 use Rattle.file_rules.specs.Laws.OnImages.Run.{format-done}
 use Rattle.file_rules.specs.Map.{decode, encode, numberOf, numberAt, recordAt, isSystem, isOther, bears, isPart, within, partBlock}
 use Rattle.file_rules.specs.Model.{Model, fileOf, takenBy, slotOf, dirByte, content, position, orRecord, slotRecord, modelRecord, modelHeader, modelDisk}
-use Rattle.file_rules.specs.Sizes.{blockBytes}
+use Rattle.file_rules.specs.Sizes.{blockBytes, mapStart, freeSectors}
 use Rattle.file_rules.specs.Written.{fixedByte, diskHeaderByte, diskWith}
 use Rattle.file_rules.specs.CheckValues.{RecordsJudged, CheckValues, emptyFile, twoFiles}
 use Rattle.file_rules.specs.NamesEqual.{reelOne, reelCapitals, reelOther}
@@ -82,25 +86,60 @@ set-is d o v e l = ap (λ (i : ℕ). set (imageOf d) i v) (sym e) ∙ image-set 
 pub changed-is : (d : Disk) → NothingOutside d → (o v : ℕ) → imagePlace 0 o ≡ o → o < blockBytes → check (set (imageOf d) o v) ≡ judgedReply (setByte d 0 o v)
 changed-is d w o v e l = ap check (set-is d o v e l) ∙ check-is (setByte d 0 o v) (set-nothing-outside d o v l w)
 
+-- what 9 to 11 say of a disk
+unfoldable afterHeader : Disk → Reply
+afterHeader d = unless (orElse (refusal9 d) (orElse (refusal10 d) (refusal11 d))) (λ (r : Reply). r) done
+
+-- where the header is right, they decide
+past-header : (d : Disk) → diskHeaderFault d ≡ Sound → judgedReply d ≡ afterHeader d
+unfolding judgedReply afterHeader diskRefusal refusal8 orElse
+past-header d e = rw e refl
+
+-- a disk has the header of a fresh one
+abbrev pub HasFreshHeader : FormatArguments → Disk → Type 0
+HasFreshHeader args d = (o : ℕ) → o < mapStart → d 0 o ≡ freshHeader args o
+
+-- a fresh disk has its header
+pub fresh-header : (args : FormatArguments) → HasFreshHeader args (formatDisk args)
+unfolding formatDisk
+fresh-header args = with-is (freshHeader args) freshOwner (λ (r : Record) (o : ℕ). 0) .head
+
+-- a byte of the map that is another leaves the header
+map-header : (args : FormatArguments) (d : Disk) (p v : ℕ) → mapStart ≤ p → HasFreshHeader args d → HasFreshHeader args (setByte d 0 p v)
+unfolding setByte
+map-header args d p v k w o h = upd₂-same d 0 (upd (d 0) p v) 0 o refl ∙ upd-other (d 0) p v o (omega arith) ∙ w o h
+
+-- what check says of an image of which a byte of the map is another
+map-changed : (args : FormatArguments) (d : Disk) → NothingOutside d → HasFreshHeader args d → (p v : ℕ) → mapStart ≤ p → p < sectorBytes
+    → check (set (imageOf d) p v) ≡ afterHeader (setByte d 0 p v)
+map-changed args d out head p v k l =
+    changed-is d out p v (first-place p l) (omega arith)
+    ∙ past-header (setByte d 0 p v)
+    (header-passes args 0 (freeSectors (blocks - 2)) 1 (lit≤ tt) (lit< tt) (setByte d 0 p v)
+    (λ o h. map-header args d p v k head o (omega arith)) (λ o g h. map-header args d p v k head o (omega arith)))
+
 judged-is : (args : FormatArguments) → RecordsJudged (imageOf (formatDisk args))
-unfolding judgedReply diskRefusal refusal8 refusal9 refusal10 refusal11 diskHeaderFault dimensionsFault lengthRight dirBytes mapFault recordAt numberAt
-    formatDisk diskWith diskHeaderByte fixedByte patch highByte diskSignature sidePlace backward bytesAre same tab at16 bigEndian lowest count
+unfolding afterHeader refusal9 refusal10 refusal11 dirBytes mapFault recordAt numberAt
+    formatDisk diskWith diskHeaderByte fixedByte patch highByte tab at16 bigEndian lowest count
     decode encode numberOf freshOwner recordFault isSystem isOther faultBelow unless orElse setByte upd
-    fileFault fileRight partsRight dirEnd all within isPart bears noRecordBears quotientUp held imagePlace toImageSector
+    fileFault fileRight partsRight dirEnd all within isPart bears noRecordBears quotientUp held
 judged-is args =
     let fresh : Disk = formatDisk args in
     let inside : NothingOutside (formatDisk args) = fresh-nothing-outside args in
+    let head : HasFreshHeader args (formatDisk args) = fresh-header args in
     let d₁ : Disk = setByte (formatDisk args) 0 102 0x00 in
     let d₂ : Disk = setByte (setByte (formatDisk args) 0 102 0x00) 0 103 0x50 in
+    let inside₁ : NothingOutside d₁ = set-nothing-outside fresh 102 0x00 (lit< tt) inside in
+    let head₁ : HasFreshHeader args d₁ = map-header args fresh 102 0x00 (lit≤ tt) head in
     record {
-      first-record = changed-is fresh inside 96 0xF9 refl (lit< tt);
-      system-record = changed-is fresh inside 99 0xF8 refl (lit< tt);
-      other-record = changed-is fresh inside 396 0xFE refl (lit< tt);
-      directory-part = changed-is fresh inside 101 1 refl (lit< tt);
+      first-record = map-changed args fresh inside head 96 0xF9 (lit≤ tt) (lit< tt);
+      system-record = map-changed args fresh inside head 99 0xF8 (lit≤ tt) (lit< tt);
+      other-record = map-changed args fresh inside head 396 0xFE (lit≤ tt) (lit< tt);
+      directory-part = map-changed args fresh inside head 101 1 (lit≤ tt) (lit< tt);
       no-slot =
-          ap (λ (l : List ℕ). check (set (set l 103 0x50) 104 0x00)) (set-is fresh 102 0x00 refl (lit< tt))
-          ∙ ap (λ (l : List ℕ). check (set l 104 0x00)) (set-is d₁ 103 0x50 refl (lit< tt))
-          ∙ changed-is d₂ (set-nothing-outside d₁ 103 0x50 (lit< tt) (set-nothing-outside fresh 102 0x00 (lit< tt) inside)) 104 0x00 refl (lit< tt);
+          ap (λ (l : List ℕ). check (set (set l 103 0x50) 104 0x00)) (set-is fresh 102 0x00 (first-place 102 (lit< tt)) (lit< tt))
+          ∙ ap (λ (l : List ℕ). check (set l 104 0x00)) (set-is d₁ 103 0x50 (first-place 103 (lit< tt)) (lit< tt))
+          ∙ map-changed args d₂ (set-nothing-outside d₁ 103 0x50 (lit< tt) inside₁) (map-header args d₁ 103 0x50 (lit≤ tt) head₁) 104 0x00 (lit≤ tt) (lit< tt);
     }
 
 -- a model's disk has nothing outside its blocks
@@ -108,10 +147,17 @@ model-nothing-outside : (m : Model) → NothingOutside (modelDisk m)
 unfolding modelDisk
 model-nothing-outside m = with-nothing-outside _ _ _
 
-spellings-found : (args : FormatArguments) → judgedReply (modelDisk (twoFiles args reelOne reelCapitals)) ≡ replyWith 10 2 0 0
-unfolding judgedReply diskRefusal refusal8 refusal9 refusal10 refusal11 diskHeaderFault dimensionsFault lengthRight dirBytes mapFault recordAt numberAt
+-- the header of a model's disk is right, while its directory is short enough for the header's words
+model-header : (m : Model) → m .peak < 1572863 → diskHeaderFault (modelDisk m) ≡ Sound
+unfolding modelDisk modelHeader
+model-header m h =
+    let head = with-is (modelHeader m) _ _ .head in
+    header-passes _ _ _ (suc (m .peak)) (omega arith) (omega arith) (modelDisk m) (λ o g. head o (omega arith)) (λ o k g. head o (omega arith))
+
+spellings-found : (args : FormatArguments) → afterHeader (modelDisk (twoFiles args reelOne reelCapitals)) ≡ replyWith 10 2 0 0
+unfolding afterHeader refusal9 refusal10 refusal11 dirBytes mapFault recordAt numberAt
     modelDisk modelHeader modelRecord content dirByte slotOf position orRecord slotRecord twoFiles emptyFile reelOne reelCapitals fileOf takenBy
-    diskWith diskHeaderByte fixedByte patch highByte diskSignature sidePlace backward bytesAre same tab at16 at32 bigEndian lowest count
+    diskWith diskHeaderByte fixedByte patch highByte same tab at16 at32 bigEndian lowest count
     decode encode numberOf recordFault isSystem isOther faultBelow unless orElse upd
     fileFault fileRight entryRight newName nameEq lowered slotEntry slotName slotByte partBlock entryOf entryByte entryFor nameOf
     partsRight dirEnd all within isPart quotientUp held
@@ -125,6 +171,10 @@ unfolding dirBytes recordAt numberAt
     partsRight dirEnd all within isPart quotientUp held
 other-found args = refl
 
+two-files-header : (args : FormatArguments) → diskHeaderFault (modelDisk (twoFiles args reelOne reelCapitals)) ≡ Sound
+unfolding twoFiles
+two-files-header args = model-header (twoFiles args reelOne reelCapitals) (lit< tt)
+
 -- check-values: these hold
 pub check-values : CheckValues
 check-values =
@@ -133,5 +183,6 @@ check-values =
           subst RecordsJudged (sym (ap (λ (w : ImageChanged). w .image) (format-done old args long short))) (judged-is args);
       other-sound = other-found;
       spellings-judged = λ args.
-          let m : Model = twoFiles args reelOne reelCapitals in check-is (modelDisk m) (model-nothing-outside m) ∙ spellings-found args;
+          let m : Model = twoFiles args reelOne reelCapitals in
+          check-is (modelDisk m) (model-nothing-outside m) ∙ past-header (modelDisk m) (two-files-header args) ∙ spellings-found args;
     }

@@ -1,11 +1,10 @@
 -- The disk header by value: the proof of disk-header-values (HeaderValues.antt).
--- Rests on: that a format is accepted (OnImages/Run); all else is computed.
+-- Rests on: that a format is accepted (OnImages/Run), the beginning of block 0 (Base/Disk), disks that are judged alike (Base/Header); all else is computed.
 use mathlib.Core.Bool.{Bool, true, false, cond}
 use mathlib.Core.List.{List, [], _∷_, _++_}
 use mathlib.Core.Option.{none, some}
 use mathlib.Core.Path.{_≡_, refl, ap, ap₂, _∙_}
-use Prim.Native.Nat.{ℕ, _+_, _-_, _*_, _/_, _%_, _≤_, _<_}
-use native.Mathlib.Nat.{zero-add}
+use Prim.Native.Nat.{ℕ, _+_, _-_, _≤_, _<_}
 use native.Mathlib.Omega.{arith}
 use lib.Dec.{lit<, lit≤}
 use lib.ListN.{length, getD, take, length-append, List·getD-append}
@@ -19,7 +18,7 @@ use Rattle.sector_rules.specs.declared.Fault.{Fault}
 use Rattle.sector_rules.specs.declared.Fault.the-variants.{At, Sound}
 use Rattle.sector_rules.specs.declared.Reply.{Reply}
 use Rattle.sector_rules.specs.Faults.{refusalAt, faultBelow}
-use Rattle.sector_rules.specs.Geometry.{sectorBytes, blocks, imageBytes, running, sidePlace, backward, toImageSector, toRunningSector}
+use Rattle.sector_rules.specs.Geometry.{blocks, imageBytes, sidePlace, backward}
 use Rattle.sector_rules.specs.HeaderValues.{placeNamed, oneMore, oneLess, changedAt, changedFrom}
 use Rattle.sector_rules.specs.Laws.Values.HeaderValues.{changed-length, changed-from-length}
 use Rattle.sector_rules.specs.Replies.{done, refusal}
@@ -28,7 +27,9 @@ use Rattle.file_rules.specs.Calls.{ImageChanged, imageKept, unless, imag
 use Rattle.file_rules.specs.Check.{diskSignature, lengthRight, dimensionsFault, diskHeaderFault}
 use Rattle.file_rules.specs.Check.{mapFault, fileFault, freeRight, refusal8, refusal9, refusal10, refusal11, diskRefusal}
 use Rattle.file_rules.specs.Directory.{dirBytes}
-use Rattle.file_rules.specs.Disk.{Disk, imagePlace, blockOf, offsetOf, diskOf, imageOf}
+use Rattle.file_rules.specs.Disk.{Disk, blockOf, offsetOf, diskOf, imageOf}
+use Rattle.file_rules.specs.Laws.Base.Disk.{first-place, first-block, first-offset}
+use Rattle.file_rules.specs.Laws.Base.Header.{judged-alike}
 use Rattle.file_rules.specs.Laws.OnImages.Run.{format-done}
 use Rattle.file_rules.specs.Map.{numberOf, encode}
 use Rattle.file_rules.specs.Sizes.{blockBytes, slotCount}
@@ -56,49 +57,11 @@ named-is image long =
     ∙ by-fault (diskHeaderFault (diskOf image)) (faultBelow blocks (mapFault (diskOf image))) (faultBelow slotCount (fileFault (diskOf image)))
     (freeRight (diskOf image))
 
--- two disks with the same 96 bytes are judged alike
-module _ (d g : Disk) (e : (o : ℕ) → o < 96 → d 0 o ≡ g 0 o) where
-  bytes-alike : (o : ℕ) (t : List ℕ) → o + length t ≤ 96 → bytesAre (d 0) o t ≡ bytesAre (g 0) o t
-  unfolding bytesAre
-  bytes-alike o t l =
-      ap (λ (x : List ℕ). same x t) (tab-ext (λ (i : ℕ). d 0 (o + i)) (λ (i : ℕ). g 0 (o + i)) (length t) (λ k h. e (o + k) (omega arith)))
-
-  word-alike : (o : ℕ) → o + 1 < 96 → at16 (d 0) o ≡ at16 (g 0) o
-  unfolding at16 bigEndian
-  word-alike o l = ap₂ (λ (x y : ℕ). (0 * 256 + x) * 256 + y) (e (o + 0) (omega arith)) (e (o + 1) (omega arith))
-
-  length-alike : dirBytes d ≡ dirBytes g
-  unfolding dirBytes
-  length-alike = rw (word-alike 34 (lit< tt), word-alike 36 (lit< tt))
-
-  signature-alike : bytesAre (d 0) 0 diskSignature ≡ bytesAre (g 0) 0 diskSignature
-  unfolding diskSignature
-  signature-alike = bytes-alike 0 diskSignature (lit≤ tt)
-
-  tables-alike : (bytesAre (d 0) 40 sidePlace ≡ bytesAre (g 0) 40 sidePlace) × (bytesAre (d 0) 58 backward ≡ bytesAre (g 0) 58 backward)
-  unfolding sidePlace backward
-  tables-alike = (bytes-alike 40 sidePlace (lit≤ tt), bytes-alike 58 backward (lit≤ tt))
-
-  judged-alike : diskHeaderFault d ≡ diskHeaderFault g
-  unfolding diskHeaderFault dimensionsFault lengthRight
-  judged-alike =
-      rw (signature-alike, word-alike 22 (lit< tt), word-alike 24 (lit< tt), word-alike 26 (lit< tt), word-alike 28 (lit< tt))
-      (rw (word-alike 30 (lit< tt), word-alike 32 (lit< tt), word-alike 36 (lit< tt), word-alike 38 (lit< tt), length-alike)
-      (rw (tables-alike .0, tables-alike .1)))
-
--- the header stands at the image's beginning
-first-place : (o : ℕ) → o < 96 → imagePlace 0 o ≡ o
-unfolding imagePlace toImageSector sidePlace
-first-place o l =
-    let a : o / 512 ≡ 0 = omega arith in
-    let b : o % 512 ≡ o = omega arith in
-    ap₂ (λ (x y : ℕ). toImageSector (running 0 x) * sectorBytes + y) a b ∙ zero-add o
-
 first-byte : (image : List ℕ) (o : ℕ) → o < 96 → diskOf image 0 o ≡ getD image o 0
 unfolding diskOf
 first-byte image o l =
     cond-true _ _ (and-true (lt-true {a = 0} {b = blocks} (lit< tt)) (lt-true {a = o} {b = blockBytes} (omega arith)))
-    ∙ ap (λ (i : ℕ). getD image i 0) (first-place o l)
+    ∙ ap (λ (i : ℕ). getD image i 0) (first-place o (omega arith))
 
 -- a disk that has these bytes in each block
 abbrev alone : List ℕ → Disk
@@ -109,8 +72,10 @@ module _ (rest : List ℕ) (long : 96 + length rest ≡ imageBytes) where
   unfolding diskFieldNamed
   begins start n =
       named-is (start ++ rest) (length-append start rest ∙ rw n long)
-      ∙ ap faultPlace (judged-alike (diskOf (start ++ rest)) (alone start)
-      (λ o l. first-byte (start ++ rest) o l ∙ List·getD-append start rest 0 o (omega arith)))
+      ∙ ap faultPlace (judged-alike (diskOf (start ++ rest)) (alone start) (λ o l. same-byte o (omega arith)) (λ o k l. same-byte o (omega arith)))
+    where
+      same-byte : (o : ℕ) → o < 96 → diskOf (start ++ rest) 0 o ≡ alone start 0 o
+      same-byte o l = first-byte (start ++ rest) o l ∙ List·getD-append start rest 0 o (omega arith)
 
   rows : (start : ℕ → List ℕ) → ((o : ℕ) → o < 96 → length (start o) ≡ 96)
       → tab (λ (o : ℕ). diskFieldNamed (start o) rest) 96 ≡ tab (λ (o : ℕ). faultPlace (diskHeaderFault (alone (start o)))) 96
@@ -124,11 +89,13 @@ header-length = refl
 
 format-is : (old : List ℕ) → length old ≡ imageBytes
     → take 105 (format old (argumentsOf title 0x1234) .image) ≡ diskHeader ++ (0xF8 ∷ 0x00 ∷ 0x00 ∷ 0x00 ∷ 0x00 ∷ 0x00 ∷ 0xFD ∷ 0xFF ∷ 0xFF ∷ [])
-unfolding imageOf tab formatDisk diskWith diskHeaderByte fixedByte patch highByte diskSignature sidePlace backward blockOf offsetOf toRunningSector title
-    diskHeader encode numberOf freshOwner
+unfolding imageOf tab formatDisk diskWith diskHeaderByte fixedByte patch highByte diskSignature sidePlace backward title diskHeader encode numberOf freshOwner
 format-is old long =
+    let fresh : Disk = formatDisk (argumentsOf title 0x1234) in
     ap (λ (w : ImageChanged). take 105 (w .image)) (format-done old (argumentsOf title 0x1234) long (lit≤ tt))
-    ∙ take-tab (λ (i : ℕ). formatDisk (argumentsOf title 0x1234) (blockOf i) (offsetOf i)) 105 imageBytes (lit≤ tt)
+    ∙ take-tab (λ (i : ℕ). fresh (blockOf i) (offsetOf i)) 105 imageBytes (lit≤ tt)
+    ∙ tab-ext (λ (i : ℕ). fresh (blockOf i) (offsetOf i)) (fresh 0) 105
+    (λ i h. ap₂ fresh (first-block i (omega arith)) (first-offset i (omega arith)))
     ∙ refl
 
 refused-is : (old : List ℕ) (args : FormatArguments) → length old ≡ imageBytes → 11 ≤ length (args .title) → format old args .answer ≡ refusal 12

@@ -4,34 +4,36 @@ use mathlib.Core.Bool.{cond, _&&_}
 use mathlib.Core.List.{List}
 use mathlib.Core.Logic.{_≢_}
 use mathlib.Core.Path.{_≡_, refl, sym, ap, _∙_, fun-ext}
-use Prim.Native.Nat.{ℕ, _/_, _≤_, _<_}
+use Prim.Native.Nat.{ℕ, _-_, _≤_, _<_}
 use native.Mathlib.Omega.{arith}
-use lib.Dec.{ltb, lit<}
+use lib.Dec.{ltb, lit<, lit≤}
 use lib.ListN.{length, set, take, length-take}
 use lib.Seq.{getD-take}
 use Rattle.laws.specs.Below.{lowest, count}
 use Rattle.laws.specs.Changes.{upd, patch}
 use Rattle.laws.specs.Laws.Cases.{by-order}
+use Rattle.laws.specs.Laws.Changes.{upd-other, upd₂-same}
 use Rattle.laws.specs.Laws.Tests.{eq-true, eq-false, lt-false, cond-true, cond-false, and-false-right}
-use Rattle.laws.specs.Lists.{same, bytesAre, tab}
 use Rattle.laws.specs.Numbers.{at16, bigEndian, highByte}
 use Rattle.laws.specs.Options.{orElse}
+use Rattle.sector_rules.specs.declared.Fault.the-variants.{Sound}
 use Rattle.sector_rules.specs.Faults.{faultBelow}
-use Rattle.sector_rules.specs.Geometry.{blocks, imageBytes, sidePlace, backward, toImageSector}
+use Rattle.sector_rules.specs.Geometry.{blocks, imageBytes}
 use Rattle.sector_rules.specs.Replies.{replyWith}
 use Rattle.file_rules.specs.declared.FirstTrack.{FirstTrack}
 use Rattle.file_rules.specs.Arguments.{FormatArguments}
 use Rattle.file_rules.specs.Calls.{ImageChanged, unless, freshOwner, formatDisk}
-use Rattle.file_rules.specs.Check.{diskSignature, lengthRight, dimensionsFault, diskHeaderFault, recordFault, mapFault, freeRight}
+use Rattle.file_rules.specs.Check.{lengthRight, dimensionsFault, diskHeaderFault, recordFault, mapFault, freeRight}
 use Rattle.file_rules.specs.Check.{refusal8, refusal9, refusal11}
-use Rattle.file_rules.specs.Laws.Values.CheckValues.{NothingOutside, fresh-nothing-outside, set-nothing-outside, set-is}
+use Rattle.file_rules.specs.Laws.Values.CheckValues.{NothingOutside, HasFreshHeader, fresh-nothing-outside, fresh-header, set-nothing-outside, set-is}
 use Rattle.file_rules.specs.Directory.{dirBytes}
 use Rattle.file_rules.specs.Disk.{Disk, imagePlace, diskOf, imageOf, setByte}
-use Rattle.file_rules.specs.FirstTrack.{counted, firstTrackResult}
-use Rattle.file_rules.specs.Laws.Base.Disk.{length-image, disk-image}
+use Rattle.file_rules.specs.FirstTrack.{refusedTrack, counted, firstTrackResult}
+use Rattle.file_rules.specs.Laws.Base.Disk.{first-place, zero-on-track, length-image, disk-image}
+use Rattle.file_rules.specs.Laws.Base.Header.{header-passes}
 use Rattle.file_rules.specs.Laws.OnImages.Run.{format-done}
 use Rattle.file_rules.specs.Map.{decode, encode, numberOf, numberAt, recordAt, isFree, isSystem, isOther, freeAt, freeCount}
-use Rattle.file_rules.specs.Sizes.{blockBytes}
+use Rattle.file_rules.specs.Sizes.{blockBytes, freeSectors}
 use Rattle.file_rules.specs.Written.{fixedByte, diskHeaderByte, diskWith}
 use Rattle.file_rules.specs.TrackValues.{judgedFirst, FirstTrackValues}
 
@@ -45,27 +47,18 @@ unfolding judgedFirst refusal8 refusal9 refusal11 diskHeaderFault dimensionsFaul
     counted
 block-alone d = refl
 
-first-place : (o : ℕ) → o < blockBytes → imagePlace 0 o < 9216
-unfolding imagePlace toImageSector sidePlace
-first-place o h =
-    by-order o 512
-    (λ l. let e : o / 512 ≡ 0 = omega arith in rw e (omega arith))
-    (λ k. by-order o 1024
-    (λ l. let e : o / 512 ≡ 1 = omega arith in rw e (omega arith))
-    (λ g. let e : o / 512 ≡ 2 = omega arith in rw e (omega arith)))
-
-first-block : (image : List ℕ) → diskOf (take 9216 image) 0 ≡ diskOf image 0
+zero-alike : (image : List ℕ) → diskOf (take 9216 image) 0 ≡ diskOf image 0
 unfolding diskOf
-first-block image =
+zero-alike image =
     fun-ext (λ (o : ℕ). by-order o blockBytes
-    (λ l. ap (λ (v : ℕ). cond (ltb 0 blocks && ltb o blockBytes) v 0) (getD-take 9216 image (imagePlace 0 o) 0 (first-place o l)))
+    (λ l. ap (λ (v : ℕ). cond (ltb 0 blocks && ltb o blockBytes) v 0) (getD-take 9216 image (imagePlace 0 o) 0 (zero-on-track o l)))
     (λ g. cond-false _ _ (and-false-right (ltb 0 blocks) (lt-false g)) ∙ sym (cond-false _ _ (and-false-right (ltb 0 blocks) (lt-false g)))))
 
 whole-is : (image : List ℕ) → length image ≡ imageBytes → firstTrackResult (take 9216 image) ≡ judgedFirst (diskOf image)
 whole-is image long =
     right
     ∙ block-alone (diskOf (take 9216 image))
-    ∙ ap (λ (f : ℕ → ℕ). judgedFirst (λ (b : ℕ). f)) (first-block image)
+    ∙ ap (λ (f : ℕ → ℕ). judgedFirst (λ (b : ℕ). f)) (zero-alike image)
     ∙ sym (block-alone (diskOf image))
   where
     long-is : length (take 9216 image) ≡ 9216
@@ -78,13 +71,35 @@ whole-is image long =
 image-is : (d : Disk) → NothingOutside d → firstTrackResult (take 9216 (imageOf d)) ≡ judgedFirst d
 image-is d w = whole-is (imageOf d) (length-image d) ∙ ap judgedFirst (disk-image d (λ b o h. w .far b o h) (λ b o h. w .out b o h))
 
+-- what 9 and 11 say of a disk, and its counts
+unfoldable afterHeader : Disk → FirstTrack
+afterHeader d = unless (orElse (refusal9 d) (refusal11 d)) refusedTrack (counted d)
+
+-- where the header is right, they decide
+past-header : (d : Disk) → diskHeaderFault d ≡ Sound → judgedFirst d ≡ afterHeader d
+unfolding judgedFirst afterHeader refusal8 orElse
+past-header d e = rw e refl
+
+-- a fresh disk passes 8, and so does one with another free word
+formatted-passes : (args : FormatArguments) → (diskHeaderFault (formatDisk args) ≡ Sound) × (diskHeaderFault (setByte (formatDisk args) 0 21 0x9B) ≡ Sound)
+unfolding setByte
+formatted-passes args =
+    let d : Disk = formatDisk args in
+    let head : HasFreshHeader args (formatDisk args) = fresh-header args in
+    let other : (o : ℕ) → o ≢ 21 → setByte d 0 21 0x9B 0 o ≡ d 0 o =
+    λ o k. upd₂-same d 0 (upd (d 0) 21 0x9B) 0 o refl ∙ upd-other (d 0) 21 0x9B o k in (
+      header-passes args 0 (freeSectors (blocks - 2)) 1 (lit≤ tt) (lit< tt) d (λ o h. head o (omega arith)) (λ o k h. head o (omega arith)),
+      header-passes args 0 (freeSectors (blocks - 2)) 1 (lit≤ tt) (lit< tt) (setByte d 0 21 0x9B)
+          (λ o h. other o (omega arith) ∙ head o (omega arith)) (λ o k h. other o (omega arith) ∙ head o (omega arith)),
+    )
+
 formatted-is : (args : FormatArguments)
-    → (judgedFirst (formatDisk args) ≡ record { reply = replyWith 0 0 0 0; free = 1434; good = 1440; held = 2 })
-    × (judgedFirst (setByte (formatDisk args) 0 21 0x9B) ≡ record { reply = replyWith 11 0 0 0; free = 0; good = 0; held = 0 }) × (imagePlace 0 21 ≡ 21)
-unfolding judgedFirst refusal8 refusal9 refusal11 diskHeaderFault dimensionsFault lengthRight dirBytes mapFault recordAt numberAt freeRight freeCount freeAt
-    counted formatDisk diskWith diskHeaderByte fixedByte patch highByte diskSignature sidePlace backward bytesAre same tab at16 bigEndian lowest count
-    decode encode numberOf freshOwner recordFault isSystem isOther isFree faultBelow unless orElse setByte upd imagePlace toImageSector
-formatted-is args = (refl, refl, refl)
+    → (afterHeader (formatDisk args) ≡ record { reply = replyWith 0 0 0 0; free = 1434; good = 1440; held = 2 })
+    × (afterHeader (setByte (formatDisk args) 0 21 0x9B) ≡ record { reply = replyWith 11 0 0 0; free = 0; good = 0; held = 0 })
+unfolding afterHeader refusal9 refusal11 mapFault recordAt numberAt freeRight freeCount freeAt
+    counted formatDisk diskWith diskHeaderByte fixedByte patch highByte at16 bigEndian lowest count
+    decode encode numberOf freshOwner recordFault isSystem isOther isFree faultBelow unless orElse setByte upd
+formatted-is args = (refl, refl)
 
 -- first-track-values: all of these hold
 pub first-track-values : FirstTrackValues
@@ -95,10 +110,12 @@ first-track-values =
       formatted-track = λ old args long short.
           ap (λ (w : ImageChanged). firstTrackResult (take 9216 (w .image))) (format-done old args long short)
           ∙ image-is (formatDisk args) (fresh-nothing-outside args)
+          ∙ past-header (formatDisk args) (formatted-passes args .0)
           ∙ formatted-is args .0;
       word-refused = λ old args long short.
           ap (λ (w : ImageChanged). firstTrackResult (take 9216 (set (w .image) 21 0x9B))) (format-done old args long short)
-          ∙ ap (λ (l : List ℕ). firstTrackResult (take 9216 l)) (set-is (formatDisk args) 21 0x9B (formatted-is args .2) (lit< tt))
+          ∙ ap (λ (l : List ℕ). firstTrackResult (take 9216 l)) (set-is (formatDisk args) 21 0x9B (first-place 21 (lit< tt)) (lit< tt))
           ∙ image-is (setByte (formatDisk args) 0 21 0x9B) (set-nothing-outside (formatDisk args) 21 0x9B (lit< tt) (fresh-nothing-outside args))
+          ∙ past-header (setByte (formatDisk args) 0 21 0x9B) (formatted-passes args .1)
           ∙ formatted-is args .1;
     }

@@ -1,17 +1,22 @@
 -- `disk_header_fault` meets its contract.
--- Rests on: the laws in Judging/Verdict and sectors::Reading/Faults; the contracts of fields::stands_at,
--- sectors::wrong_at, word_fault, length_right, sectors::or_fault and dimensions_fault.
+-- Rests on: the laws in Judging/Verdict, sectors::Reading/Faults and sector_rules::Base/Geometry; the contracts of
+-- sectors::Geometry::backward_table and side_place_table, fields::stands_at, sectors::wrong_at, word_fault, length_right,
+-- sectors::or_fault and dimensions_fault.
 -- Assumes nothing.
 use mathlib.Core.Path.{ap, _∙_}
 use native.Mathlib.Omega.{arith}
 use borrow.Author.Needs.{needs}
 use Rattle.sector_rules.specs.Faults.{wrongAt}
 use Rattle.sector_rules.specs.Geometry.{sidePlace, backward}
+use Rattle.sector_rules.specs.Laws.Base.Geometry.{side-place-length, backward-length}
 use Rattle.sectors.specs.Laws.Reading.Faults.{or-link}
 use Rattle.file_rules.specs.Check.{diskSignature, diskHeaderFault}
-use Rattle.files.specs.Laws.Judging.Verdict.{bytes-fault}
+use Rattle.files.specs.Laws.Judging.Verdict.{bytes-fault, given-fault}
 use Rattle.files.proofs.header.disk_header_fault.Statement.{statement}
 use Rattle.files.proofs.header.disk_header_fault.Tie as tie
+
+backward-table-requires : tie.Need-backward-table-requires
+backward-table-requires c κs = search needs
 
 slice-aggregate-stands-at : tie.Need-slice-aggregate-stands-at
 slice-aggregate-stands-at c = search needs
@@ -21,6 +26,9 @@ stands-at-requires c κs = search needs
 
 wrong-at-requires : tie.Need-wrong-at-requires
 wrong-at-requires c κs = search needs
+
+side-place-table-requires : tie.Need-side-place-table-requires
+side-place-table-requires c κs = search needs
 
 slice-aggregate-stands-at-2 : tie.Need-slice-aggregate-stands-at-2
 slice-aggregate-stands-at-2 c = search needs
@@ -68,7 +76,7 @@ or-fault-requires-5 : tie.Need-or-fault-requires-5
 or-fault-requires-5 c κs = search needs
 
 returns : tie.Need-returns
-unfolding diskHeaderFault diskSignature sidePlace backward
+unfolding diskHeaderFault diskSignature
 returns c =
     let after-dimensions-fault = c .before .before in
     let after-or-fault3 = after-dimensions-fault .before in
@@ -81,9 +89,11 @@ returns c =
     let after-word-fault = after-length-right .before in
     let after-wrong-at2 = after-word-fault .before in
     let after-stands-at2 = after-wrong-at2 .before in
-    let after-wrong-at = after-stands-at2 .before .before in
+    let after-side-place-table = after-stands-at2 .before .before in
+    let after-wrong-at = after-side-place-table .before in
     let after-stands-at = after-wrong-at .before in
-    let start = after-stands-at .before .before .before in
+    let after-backward-table = after-stands-at .before .before in
+    let start = after-backward-table .before .before in
     or-link _ _ _ _ _ (c .or-fault5 .ensures)
     (bytes-fault _ _ _ 0 diskSignature (start .pre) (omega arith) (after-wrong-at4 .wrong-at4 .ensures)
     (after-stands-at3 .stands-at3 .ensures))
@@ -92,18 +102,20 @@ returns c =
     (after-wrong-at3 .wrong-at3 .ensures ∙ ap (wrongAt 34) (after-length-right .length-right .ensures))
     (or-link _ _ _ _ _ (after-or-fault2 .or-fault2 .ensures) (after-word-fault .word-fault .ensures)
     (or-link _ _ _ _ _ (after-or-fault .or-fault .ensures)
-    (bytes-fault _ _ _ 40 sidePlace (start .pre) (omega arith) (after-wrong-at2 .wrong-at2 .ensures)
-    (after-stands-at2 .stands-at2 .ensures))
-    (bytes-fault _ _ _ 58 backward (start .pre) (omega arith) (after-wrong-at .wrong-at .ensures)
-    (after-stands-at .stands-at .ensures))))))
+    (given-fault _ _ _ 40 _ sidePlace (start .pre) (omega (arith, side-place-length)) (after-wrong-at2 .wrong-at2 .ensures)
+    (after-stands-at2 .stands-at2 .ensures) (after-side-place-table .side-place-table .ensures))
+    (given-fault _ _ _ 58 _ backward (start .pre) (omega (arith, backward-length)) (after-wrong-at .wrong-at .ensures)
+    (after-stands-at .stands-at .ensures) (after-backward-table .backward-table .ensures))))))
 
 pub disk-header-fault-spec : {M : Type 1} → statement M
 disk-header-fault-spec =
     tie.close
     (tie.spec
+    backward-table-requires
     slice-aggregate-stands-at
     stands-at-requires
     wrong-at-requires
+    side-place-table-requires
     slice-aggregate-stands-at-2
     stands-at-requires-2
     wrong-at-requires-2

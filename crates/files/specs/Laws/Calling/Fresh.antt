@@ -16,6 +16,7 @@ use Rattle.laws.specs.Laws.Tests.{le-false, eq-true, eq-false, cond-true, cond-
 use Rattle.laws.specs.Laws.Changes.{upd₂-same, upd₂-other, patch-in, patch-below}
 use Rattle.laws.specs.Laws.Overlay.{overlay-length, overlay-in, overlay-before, overlay-after, overlay-is, overlay-all}
 use Rattle.sector_rules.specs.Geometry.{tracks, sectors, blockSectors, trackOffset, trackSectors, allSectors, blocks, imageBytes, sidePlace, backward}
+use Rattle.sector_rules.specs.Laws.Base.Geometry.{side-place-length, backward-length}
 use Rattle.sector_rules.specs.Replies.{refusal}
 use Rattle.file_rules.specs.declared.Record.{Record}
 use Rattle.file_rules.specs.declared.Record.the-variants.{Free, System, File}
@@ -62,7 +63,7 @@ started h =
 -- the three parts of the header, written into 96 bytes FF, are the fresh header
 pub header-row : (h₀ h₁ h₂ h₃ : List ℕ) (args : FormatArguments) → h₀ ≡ tab (λ (i : ℕ). 0xFF) mapStart
     → h₁ ≡ titled h₀ args → h₂ ≡ sized h₁ → h₃ ≡ started h₂ → h₃ ≡ tab (freshHeader args) mapStart
-unfolding diskHeaderByte fixedByte titled sized started diskSignature sidePlace backward
+unfolding diskHeaderByte fixedByte titled sized started diskSignature
 header-row h₀ h₁ h₂ h₃ args e₀ e₁ e₂ e₃ =
     let a₁ = put-row h₀ 0 diskSignature 4 refl ∙ overlay-tab _ mapStart 0 4 _ _ e₀ in
     let a₂ = overlay-tab _ mapStart 4 titleMost (λ (i : ℕ). getD (args .title) i 32) _ a₁ in
@@ -74,8 +75,9 @@ header-row h₀ h₁ h₂ h₃ args e₀ e₁ e₂ e₃ =
     let b₅ = overlay-tab _ mapStart 30 2 (highByte 2 tracks) _ b₄ in
     let b₆ = overlay-tab _ mapStart 32 2 (highByte 2 blockSectors) _ b₅ in
     let b₇ = e₂ ∙ overlay-tab _ mapStart 38 2 (highByte 2 trackOffset) _ b₆ in
-    let c₁ = put-row h₂ 40 sidePlace trackSectors refl ∙ overlay-tab _ mapStart 40 trackSectors (λ (i : ℕ). getD sidePlace i 0) _ b₇ in
-    let c₂ = put-row (put h₂ 40 sidePlace) 58 backward trackSectors refl ∙ overlay-tab _ mapStart 58 trackSectors (λ (i : ℕ). getD backward i 0) _ c₁ in
+    let c₁ = put-row h₂ 40 sidePlace trackSectors side-place-length ∙ overlay-tab _ mapStart 40 trackSectors (λ (i : ℕ). getD sidePlace i 0) _ b₇ in
+    let c₂ = put-row (put h₂ 40 sidePlace) 58 backward trackSectors backward-length
+    ∙ overlay-tab _ mapStart 58 trackSectors (λ (i : ℕ). getD backward i 0) _ c₁ in
     let c₃ = overlay-tab _ mapStart 16 4 (highByte 4 0) _ c₂ in
     let c₄ = overlay-tab _ mapStart 20 2 (highByte 2 (freeSectors (blocks - 2))) _ c₃ in
     let c₅ = overlay-tab _ mapStart 34 2 (highByte 2 0) _ c₄ in
@@ -151,17 +153,18 @@ sized-is h h₁ h₂ h₃ h₄ h₅ h₆ h₇ e₁ e₂ e₃ e₄ e₅ e₆ e₇
     e₇ ∙ ap (λ (l : List ℕ). overlay l 38 2 (highByte 2 trackOffset)) a₆
 
 -- the tables, update count, free word and directory's length written one after the other
-pub started-is : (h h₁ h₂ h₃ h₄ h₅ h₆ : List ℕ)
-    → h₁ ≡ put h 40 sidePlace
-    → h₂ ≡ put h₁ 58 backward
+pub started-is : (h h₁ h₂ h₃ h₄ h₅ h₆ first second : List ℕ)
+    → first ≡ sidePlace → h₁ ≡ put h 40 first
+    → second ≡ backward → h₂ ≡ put h₁ 58 second
     → h₃ ≡ overlay h₂ 16 4 (highByte 4 0)
     → h₄ ≡ overlay h₃ 20 2 (highByte 2 (freeSectors (blocks - 2)))
     → h₅ ≡ overlay h₄ 34 2 (highByte 2 0)
     → h₆ ≡ overlay h₅ 36 2 (highByte 2 slotBytes)
     → h₆ ≡ started h
 unfolding started
-started-is h h₁ h₂ h₃ h₄ h₅ h₆ e₁ e₂ e₃ e₄ e₅ e₆ =
-    let a₂ = e₂ ∙ ap (λ (l : List ℕ). put l 58 backward) e₁ in
+started-is h h₁ h₂ h₃ h₄ h₅ h₆ first second f e₁ s e₂ e₃ e₄ e₅ e₆ =
+    let a₁ = e₁ ∙ ap (put h 40) f in
+    let a₂ = e₂ ∙ ap₂ (λ (l t : List ℕ). put l 58 t) a₁ s in
     let a₃ = e₃ ∙ ap (λ (l : List ℕ). overlay l 16 4 (highByte 4 0)) a₂ in
     let a₄ = e₄ ∙ ap (λ (l : List ℕ). overlay l 20 2 (highByte 2 (freeSectors (blocks - 2)))) a₃ in
     let a₅ = e₅ ∙ ap (λ (l : List ℕ). overlay l 34 2 (highByte 2 0)) a₄ in

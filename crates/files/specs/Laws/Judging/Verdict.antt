@@ -1,10 +1,10 @@
 -- The verdict of a judgement as the code has it, against the definitions' options; and the header's fields.
--- Rests on the disk's bytes (Loading.Blocks) and on the first sector's place (sector_rules, Laws.Base.Geometry).
+-- Rests on the disk's bytes (Loading.Blocks) and on the first sector's place (file_rules, Laws.Base.Disk).
 use mathlib.Core.Path.{_≡_, refl, sym, ap, ap₂, _∙_}
 use mathlib.Core.Bool.{Bool, _&&_}
 use mathlib.Core.List.{List}
 use mathlib.Core.Option.{Option, none, some}
-use Prim.Native.Nat.{ℕ, _+_, _*_, _/_, _%_, _≤_, _<_}
+use Prim.Native.Nat.{ℕ, _+_, _≤_, _<_}
 use native.Mathlib.Omega.{arith}
 use lib.ListN.{length, getD}
 use Rattle.laws.specs.Lists.{same, bytesAre, standsAt}
@@ -16,11 +16,11 @@ use Rattle.sector_rules.specs.declared.Fault.the-variants.{At, Sound}
 use Rattle.sector_rules.specs.declared.Reply.{Reply}
 use Rattle.sector_rules.specs.Replies.{replyWith}
 use Rattle.sector_rules.specs.Faults.{wrongAt, refusalAt}
-use Rattle.sector_rules.specs.Geometry.{sectorBytes, running, toImageSector}
-use Rattle.sector_rules.specs.Laws.Base.Geometry.{image-first}
+use Rattle.sector_rules.specs.Geometry.{sectorBytes}
 use Rattle.files.specs.declared.Verdict.{Verdict}
 use Rattle.files.specs.declared.Verdict.the-variants.{Passed, Refused}
-use Rattle.file_rules.specs.Disk.{Disk, imagePlace, diskOf}
+use Rattle.file_rules.specs.Disk.{Disk, diskOf}
+use Rattle.file_rules.specs.Laws.Base.Disk.{first-place}
 use Rattle.file_rules.specs.Check.{diskHeaderFault, refusal8}
 use Rattle.files.specs.Laws.Loading.Blocks.{disk-in}
 
@@ -57,12 +57,6 @@ verdict-some (some x) r e = ap some (let z : x ≡ r = cc in z)
 
 -- ---- the header
 
-first-place : (o : ℕ) → o < sectorBytes → imagePlace 0 o ≡ o
-unfolding imagePlace
-first-place o h =
-    let e : running 0 (o / sectorBytes) ≡ 0 = omega arith in
-    ap (λ (n : ℕ). toImageSector n * sectorBytes + o % sectorBytes) e ∙ ap (λ (n : ℕ). n * sectorBytes + o % sectorBytes) image-first ∙ omega arith
-
 -- the first sector of block 0 is the image's first
 pub first-byte : (l : List ℕ) (o : ℕ) → o < sectorBytes → diskOf l 0 o ≡ getD l o 0
 first-byte l o h = disk-in l 0 o (omega arith) (omega arith) ∙ ap (λ (i : ℕ). getD l i 0) (first-place o h)
@@ -78,6 +72,11 @@ bytes-stand l o xs h k =
 pub bytes-fault : (f : Fault) (right : Bool) (l : List ℕ) (o : ℕ) (xs : List ℕ) → sectorBytes ≤ length l → o + length xs ≤ sectorBytes
     → f ≡ wrongAt o right → right ≡ standsAt l o xs → f ≡ wrongAt o (bytesAre (diskOf l 0) o xs)
 bytes-fault f right l o xs h k e q = e ∙ ap (wrongAt o) (q ∙ bytes-stand l o xs h k)
+
+-- the same where the code has the bytes from a call
+pub given-fault : (f : Fault) (right : Bool) (l : List ℕ) (o : ℕ) (given xs : List ℕ) → sectorBytes ≤ length l → o + length xs ≤ sectorBytes
+    → f ≡ wrongAt o right → right ≡ standsAt l o given → given ≡ xs → f ≡ wrongAt o (bytesAre (diskOf l 0) o xs)
+given-fault f right l o given xs h k e q z = bytes-fault f right l o xs h k e (q ∙ ap (standsAt l o) z)
 
 -- ---- refusal 8
 

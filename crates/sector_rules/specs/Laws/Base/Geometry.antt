@@ -1,11 +1,34 @@
--- The placement: the two tables undo each other, and the placement is one-to-one.
--- Rests on one computed test for each of the two tables.
-use mathlib.Core.Path.{_≡_, refl}
+-- The placement: what its tables hold, that they undo each other, that the placement is one-to-one, keeps each sector on its track and begins with 0.
+-- Rests on computed tests. Only these laws open the tables, and the statements by value, which are computed.
+use mathlib.Core.Path.{_≡_, refl, sym, ap, _∙_}
 use Prim.Native.Nat.{ℕ, _+_, _*_, _/_, _%_, _<_}
-use lib.ListN.{getD}
+use lib.Dec.{lit<}
+use lib.ListN.{length, getD}
 use Rattle.laws.specs.Below.{all}
 use Rattle.laws.specs.Laws.All.{all-eq, all-lt}
 use Rattle.sector_rules.specs.Geometry.{trackSectors, sectors, allSectors, sidePlace, backward, toImageSector, toRunningSector}
+
+-- ---- the tables
+
+-- the first table has an entry for each sector of a track
+pub side-place-length : length sidePlace ≡ trackSectors
+unfolding sidePlace
+side-place-length = refl
+
+-- and so has the second
+pub backward-length : length backward ≡ trackSectors
+unfolding backward
+backward-length = refl
+
+-- an entry of the first table is below 137: place 8 of side 1 is the highest
+pub side-place-lt : (k : ℕ) → k < trackSectors → getD sidePlace k 0 < 137
+unfolding sidePlace all
+side-place-lt = all-lt (λ (k : ℕ). getD sidePlace k 0) (λ (k : ℕ). 137) trackSectors refl
+
+-- an entry of the second table is a sector of a track
+pub backward-lt : (k : ℕ) → k < trackSectors → getD backward k 0 < trackSectors
+unfolding backward all
+backward-lt = all-lt (λ (k : ℕ). getD backward k 0) (λ (k : ℕ). trackSectors) trackSectors refl
 
 -- an entry of the first table as a sector of track 0, and back by the second
 pub forth-back : (k : ℕ) → k < trackSectors → getD backward (sectors * (getD sidePlace k 0 / 128) + getD sidePlace k 0 % 128) 0 ≡ k
@@ -18,6 +41,8 @@ pub back-forth : (k : ℕ) → k < trackSectors
 unfolding sidePlace backward all
 back-forth =
     all-eq (λ (k : ℕ). sectors * (getD sidePlace (getD backward k 0) 0 / 128) + getD sidePlace (getD backward k 0) 0 % 128) (λ (k : ℕ). k) trackSectors refl
+
+-- ---- the placement
 
 -- the image sector of a running sector is on the disk
 pub image-lt : (n : ℕ) → n < allSectors → toImageSector n < allSectors
@@ -39,7 +64,16 @@ pub image-running : (m : ℕ) → m < allSectors → toImageSector (toRunningSec
 unfolding toImageSector toRunningSector sidePlace backward all
 image-running = all-eq (λ (m : ℕ). toImageSector (toRunningSector m)) (λ (m : ℕ). m) allSectors refl
 
+-- a sector stays on its track
+pub image-track : (n : ℕ) → n < allSectors → toImageSector n / trackSectors ≡ n / trackSectors
+unfolding toImageSector sidePlace all
+image-track = all-eq (λ (n : ℕ). toImageSector n / trackSectors) (λ (n : ℕ). n / trackSectors) allSectors refl
+
 -- the first running sector, which has the header, is the first image sector
 pub image-first : toImageSector 0 ≡ 0
 unfolding toImageSector sidePlace
 image-first = refl
+
+-- and back
+pub running-first : toRunningSector 0 ≡ 0
+running-first = ap toRunningSector (sym image-first) ∙ running-image 0 (lit< tt)

@@ -1,5 +1,5 @@
 -- `Geometry::place` meets its contract: the table is the definition's, and its entries are small.
--- Rests on: the laws in Reading/Tables.
+-- Rests on: the laws in sector_rules::Base/Geometry.
 -- Assumes nothing.
 use Prim.Native.Nat.{_%_}
 use native.Mathlib.Omega.{arith}
@@ -7,7 +7,7 @@ use native.Mathlib.Nat.{mod-lt}
 use lib.Dec.{lit<}
 use borrow.Author.Needs.{needs}
 use Rattle.sector_rules.specs.Geometry.{toImageSector, sidePlace}
-use Rattle.sectors.specs.Laws.Reading.Tables.{side-place-bound}
+use Rattle.sector_rules.specs.Laws.Base.Geometry.{side-place-lt}
 use Rattle.sectors.proofs.Geometry.place.Statement.{statement}
 use Rattle.sectors.proofs.Geometry.place.Tie as tie
 
@@ -16,7 +16,7 @@ array-read-value c = search needs
 
 cast-value : tie.Need-cast-value
 unfolding sidePlace
-cast-value c = omega (arith, side-place-bound (c .before .before .args .n .0 % 18) (mod-lt _ (lit< tt)))
+cast-value c = omega (arith, side-place-lt (c .before .before .args .n .0 % 18) (mod-lt _ (lit< tt)))
 
 mul-place : tie.Need-mul-place
 mul-place c = search needs
@@ -29,15 +29,15 @@ mul-t11 c = search needs
 
 mul-t13 : tie.Need-mul-t13
 unfolding sidePlace
-mul-t13 c = omega (arith, side-place-bound (c .before .before .args .n .0 % 18) (mod-lt _ (lit< tt)))
+mul-t13 c = omega (arith, side-place-lt (c .before .before .args .n .0 % 18) (mod-lt _ (lit< tt)))
 
 add-t12 : tie.Need-add-t12
 unfolding sidePlace
-add-t12 c = omega (arith, side-place-bound (c .before .before .args .n .0 % 18) (mod-lt _ (lit< tt)))
+add-t12 c = omega (arith, side-place-lt (c .before .before .args .n .0 % 18) (mod-lt _ (lit< tt)))
 
 add-t14 : tie.Need-add-t14
 unfolding sidePlace
-add-t14 c = omega (arith, side-place-bound (c .before .before .args .n .0 % 18) (mod-lt _ (lit< tt)))
+add-t14 c = omega (arith, side-place-lt (c .before .before .args .n .0 % 18) (mod-lt _ (lit< tt)))
 
 returns : tie.Need-returns
 unfolding toImageSector sidePlace

@@ -1,11 +1,11 @@
 -- `Geometry::running_of` meets its contract: the table is the definition's, and its entries are small.
--- Rests on: the laws in Reading/Tables.
+-- Rests on: the laws in sector_rules::Base/Geometry.
 -- Assumes nothing.
 use Prim.Native.Nat.{_+_, _-_, _*_, _/_, _%_}
 use native.Mathlib.Omega.{arith}
 use borrow.Author.Needs.{needs}
 use Rattle.sector_rules.specs.Geometry.{sectors, trackSectors, trackOffset, toRunningSector, backward}
-use Rattle.sectors.specs.Laws.Reading.Tables.{backward-bound}
+use Rattle.sector_rules.specs.Laws.Base.Geometry.{backward-lt}
 use Rattle.sectors.proofs.Geometry.running_of.Statement.{statement}
 use Rattle.sectors.proofs.Geometry.running_of.Tie as tie
 
@@ -32,7 +32,7 @@ unfolding backward
 cast-left c =
     omega (
       arith,
-      backward-bound (sectors * (c .before .before .before .args .m .0 % trackSectors / sectors) +
+      backward-lt (sectors * (c .before .before .before .args .m .0 % trackSectors / sectors) +
           (c .before .before .before .args .m .0 % sectors + (sectors - trackOffset) *
           (c .before .before .before .args .m .0 / trackSectors))
           % sectors)
@@ -47,7 +47,7 @@ unfolding backward
 add-t7 c =
     omega (
       arith,
-      backward-bound (sectors * (c .before .before .before .args .m .0 % trackSectors / sectors) +
+      backward-lt (sectors * (c .before .before .before .args .m .0 % trackSectors / sectors) +
           (c .before .before .before .args .m .0 % sectors + (sectors - trackOffset) *
           (c .before .before .before .args .m .0 / trackSectors))
           % sectors)

@@ -1,5 +1,5 @@
 -- `table_fault` meets its contract: the entries of the tracks below t are good.
--- Rests on: the laws in Reading/Tables and sector_rules::Base/Faults; the contract of track_good.
+-- Rests on: the laws in Reading/Faults and sector_rules::Base/Faults; the contract of track_good.
 -- Assumes nothing.
 use mathlib.Core.Path.{_≡_, sym, ap, _∙_}
 use mathlib.Core.Bool.{false, not}
@@ -9,7 +9,7 @@ use borrow.Author.Needs.{needs}
 use borrow.Author.Count.{below-more}
 use Rattle.sector_rules.specs.Hfe.{trackGood, tableFault}
 use Rattle.sector_rules.specs.Laws.Base.Faults.{fault-none}
-use Rattle.sectors.specs.Laws.Reading.Tables.{fault-some}
+use Rattle.sectors.specs.Laws.Reading.Faults.{fault-some}
 use Rattle.sectors.proofs.hfe.table_fault.Statement.{statement}
 use Rattle.sectors.proofs.hfe.table_fault.Tie as tie
 
