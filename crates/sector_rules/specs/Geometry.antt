@@ -1,10 +1,11 @@
 -- The disk kind and the place of a block (docs/RULES.md, section 1).
 -- Assumes nothing: these are definitions.
 use mathlib.Core.Bool.{cond, _&&_}
-use mathlib.Core.List.{List, [], _∷_}
+use mathlib.Core.List.{List}
 use Prim.Native.Nat.{ℕ, _+_, _-_, _*_, _/_, _%_}
 use lib.Dec.{ltb}
 use lib.ListN.{getD}
+use Rattle.laws.specs.Lists.{tab}
 use Rattle.sector_rules.specs.declared.Reply.{Reply}
 use Rattle.sector_rules.specs.Replies.{replyWith, refusal}
 
@@ -48,23 +49,59 @@ blocks = allSectors / blockSectors
 abbrev pub imageBytes : ℕ
 imageBytes = allSectors * sectorBytes
 
--- side and place by the remainder of a running sector by 18; 80 (hex) is added on side 1 (§1.4)
-unfoldable pub sidePlace : List ℕ
-sidePlace =
-    0x00 ∷ 0x03 ∷ 0x06 ∷ 0x80 ∷ 0x83 ∷ 0x86 ∷ 0x01 ∷ 0x04 ∷ 0x07 ∷ 0x81 ∷ 0x84 ∷ 0x87 ∷ 0x02 ∷ 0x05 ∷ 0x08 ∷ 0x82 ∷ 0x85 ∷ 0x88 ∷ []
+-- ---- the rule of a track, of which each side has three blocks
 
--- the backward table: by side and place on track 0 the running sector (§1.6)
+-- blocks on a side of a track, which are its block pairs: 3 (§1.4)
+abbrev pub sideBlocks : ℕ
+sideBlocks = sectors / blockSectors
+
+-- the block pair of block b of a track: an even block and the odd one after it (§1.4)
+abbrev pub blockPair : ℕ → ℕ
+blockPair b = b / sides
+
+-- the side of block b of a track: its parity (§1.4)
+abbrev pub blockSide : ℕ → ℕ
+blockSide b = b % sides
+
+-- the place, on its side, of sector s of a block of this pair: first come the first sectors of all pairs, then the second ones, then the third (§1.4)
+abbrev pub sectorPlace : ℕ → ℕ → ℕ
+sectorPlace s pair = sideBlocks * s + pair
+
+-- back: the block of a track that is on this side and of this pair (§1.6)
+abbrev pub pairBlock : ℕ → ℕ → ℕ
+pairBlock side pair = sides * pair + side
+
+-- what is added to a place on side 1: 80 (hex) (§1.4)
+abbrev pub sideBit : ℕ
+sideBit = 0x80
+
+-- side and place of sector s of block b of a track, as a byte (§1.4)
+abbrev pub sidePlaceByte : ℕ → ℕ → ℕ
+sidePlaceByte b s = sideBit * blockSide b + sectorPlace s (blockPair b)
+
+-- the remainder at this side and place: there stands sector place / 3 of a block of pair place mod 3 (§1.6)
+abbrev pub remainderAt : ℕ → ℕ → ℕ
+remainderAt side place = blockSectors * pairBlock side (place % sideBlocks) + place / sideBlocks
+
+-- ---- the two tables that the disk header has
+
+-- side and place by the remainder l of a running sector by 18, which is sector l mod 3 of the track's block l / 3 (§1.4)
+unfoldable pub sidePlace : List ℕ
+sidePlace = tab (λ (l : ℕ). sidePlaceByte (l / blockSectors) (l % blockSectors)) trackSectors
+
+-- the backward table: the remainder by 9 x side + place (§1.6)
 unfoldable pub backward : List ℕ
-backward =
-    0x00 ∷ 0x06 ∷ 0x0C ∷ 0x01 ∷ 0x07 ∷ 0x0D ∷ 0x02 ∷ 0x08 ∷ 0x0E ∷ 0x03 ∷ 0x09 ∷ 0x0F ∷ 0x04 ∷ 0x0A ∷ 0x10 ∷ 0x05 ∷ 0x0B ∷ 0x11 ∷ []
+backward = tab (λ (i : ℕ). remainderAt (i / sectors) (i % sectors)) trackSectors
+
+-- ---- the placement
 
 -- the running sector of sector s of block b (§1.3)
 abbrev pub running : ℕ → ℕ → ℕ
 running b s = blockSectors * b + s
 
--- the image sector, on track t, of an entry of that table: side 1 comes after side 0, and places are moved by the track offset (§1.5)
+-- the image sector, on track t, of an entry of the first table: side 1 comes after side 0, and places are moved by the track offset (§1.5)
 abbrev pub onTrack : ℕ → ℕ → ℕ
-onTrack t value = trackSectors * t + sectors * (value / 128) + (value % 128 + trackOffset * t) % sectors
+onTrack t value = trackSectors * t + sectors * (value / sideBit) + (value % sideBit + trackOffset * t) % sectors
 
 -- the image sector of a running sector (§1.5)
 unfoldable pub toImageSector : ℕ → ℕ

@@ -1,8 +1,9 @@
 -- The promises of this crate. Passed on from the files where they are proved: all but two. Stated here, below: placement-bijective and tables-inverse.
 -- Rests on the laws of the placement (Laws.Base.Geometry).
 
--- placement-values: eleven sectors by block and sector, and the image sector of each
-pub use Rattle.sector_rules.specs.Values.{placement-values}
+-- rule-is-table: the rule gives the 18 bytes of the table of sides and places and, back, the 18 of the other; placement-values: eleven sectors by block and
+-- sector, and the image sector of each
+pub use Rattle.sector_rules.specs.Values.{rule-is-table, placement-values}
 -- ---- packing and unpacking
 
 -- round-trip: for every block image of 737,280 bytes, what pack gives is accepted by unpack, which gives the same bytes back (RoundTrip.antt)

@@ -1,9 +1,30 @@
--- placement-values: the image sectors of eleven sectors, by value (the table of docs/RULES.md, §1.5), are those that the definition gives.
+-- The placement by value (docs/RULES.md, §1.4 to §1.6): rule-is-table, the two tables that the rule gives; placement-values, the image sectors of eleven
+-- sectors.
 -- Assumes nothing.
 use mathlib.Core.Path.{_≡_, refl}
 use mathlib.Core.List.{List, [], _∷_, map}
 use Prim.Native.Nat.{ℕ}
-use Rattle.sector_rules.specs.Geometry.{running, toImageSector, sidePlace}
+use Rattle.laws.specs.Lists.{tab}
+use Rattle.sector_rules.specs.Geometry.{running, toImageSector, sidePlace, backward}
+
+-- ---- the two tables
+
+-- the bytes 40 to 57 of a disk header: side and place by remainder, 80 (hex) added on side 1 (§1.4)
+unfoldable pub sidePlaceBytes : List ℕ
+sidePlaceBytes =
+    0x00 ∷ 0x03 ∷ 0x06 ∷ 0x80 ∷ 0x83 ∷ 0x86 ∷ 0x01 ∷ 0x04 ∷ 0x07 ∷ 0x81 ∷ 0x84 ∷ 0x87 ∷ 0x02 ∷ 0x05 ∷ 0x08 ∷ 0x82 ∷ 0x85 ∷ 0x88 ∷ []
+
+-- its bytes 58 to 75: the remainder by side and place (§1.6)
+unfoldable pub backwardBytes : List ℕ
+backwardBytes =
+    0x00 ∷ 0x06 ∷ 0x0C ∷ 0x01 ∷ 0x07 ∷ 0x0D ∷ 0x02 ∷ 0x08 ∷ 0x0E ∷ 0x03 ∷ 0x09 ∷ 0x0F ∷ 0x04 ∷ 0x0A ∷ 0x10 ∷ 0x05 ∷ 0x0B ∷ 0x11 ∷ []
+
+-- rule-is-table: the rule gives these 18 bytes, and back these 18 (§1.4 §1.6)
+pub rule-is-table : (sidePlace ≡ sidePlaceBytes) × (backward ≡ backwardBytes)
+unfolding sidePlace backward tab sidePlaceBytes backwardBytes
+rule-is-table = (refl, refl)
+
+-- ---- eleven sectors
 
 -- a block, a sector of it, and the image sector that it has (§1.5)
 pub record Placement : Type 0 where
@@ -41,5 +62,5 @@ tableSectors ps = map (λ (p : Placement). p .image) ps
 
 -- placement-values: the definition gives the image sector of each row
 pub placement-values : definedSectors placements ≡ tableSectors placements
-unfolding definedSectors tableSectors placements placedAt toImageSector sidePlace
+unfolding definedSectors tableSectors placements placedAt toImageSector sidePlace tab
 placement-values = refl

@@ -28,6 +28,12 @@ pub use unpacking::unpack;
 // The disk kind (§1.1).
 pub struct Geometry {}
 
+// Where a sector stands on a track: its side, and its place there before the track offset moves it (§1.4).
+pub struct SidePlace {
+    pub side: usize,
+    pub place: usize,
+}
+
 // Some bytes of one side of a track, as they lie in an HFE image (§2.6): the track begins at `start` in the image, `side`
 // is 0 or 1, and the bytes are `count` of that side, the first of them its byte `first`.
 pub struct SideBytes {

@@ -1,8 +1,10 @@
 // The numbers of the disk kind, each once, and the place of a block's sector in the block image.
 ghost use mathlib.Core.Path.{_≡_};
-ghost use Prim.Native.Nat.{_<_};
-ghost use Rattle.sector_rules.specs.Geometry.{sidePlace, backward, running, toImageSector, toRunningSector, placeReply};
+ghost use Prim.Native.Nat.{_<_, _/_, _%_};
+ghost use Rattle.sector_rules.specs.Geometry.{sides, sectors, blockSectors, blockPair, blockSide, sectorPlace, remainderAt, sidePlace, backward};
+ghost use Rattle.sector_rules.specs.Geometry.{running, toImageSector, toRunningSector, placeReply};
 use crate::Geometry;
+use crate::SidePlace;
 use crate::replies::done_with;
 use crate::replies::refused;
 use sector_rules::BlockNumber;
@@ -10,49 +12,8 @@ use sector_rules::ImageSector;
 use sector_rules::Reply;
 use sector_rules::RunningSector;
 
-// Side and place by the remainder of a running sector by 18; 0x80 is added on side 1 (§1.4).
-const SIDE_PLACE: [u8; Geometry::TRACK_SECTORS] = [
-    0x00,
-    0x03,
-    0x06,
-    0x80,
-    0x83,
-    0x86,
-    0x01,
-    0x04,
-    0x07,
-    0x81,
-    0x84,
-    0x87,
-    0x02,
-    0x05,
-    0x08,
-    0x82,
-    0x85,
-    0x88,
-];
-
-// The backward table: by side and place on track 0 the running sector (§1.6).
-const BACKWARD: [u8; Geometry::TRACK_SECTORS] = [
-    0x00,
-    0x06,
-    0x0C,
-    0x01,
-    0x07,
-    0x0D,
-    0x02,
-    0x08,
-    0x0E,
-    0x03,
-    0x09,
-    0x0F,
-    0x04,
-    0x0A,
-    0x10,
-    0x05,
-    0x0B,
-    0x11,
-];
+// What is added to a place on side 1 in the table of sides and places (§1.4).
+const SIDE_BIT: usize = 0x80;
 
 // The numbers of the disk kind (§1.1).
 impl Geometry {
@@ -77,18 +38,60 @@ impl Geometry {
 
     pub const IMAGE_BYTES: usize = Geometry::ALL_SECTORS * Geometry::SECTOR_BYTES;
 
+    // Blocks on a side of a track, and so block pairs of a track (§1.4).
+    const SIDE_BLOCKS: usize = Geometry::SECTORS / Geometry::BLOCK_SECTORS;
+
+    // Side and place of a remainder by 18 (§1.4): the side is the block's parity, the place is that of sector and block
+    // pair.
+    fn side_place(left: usize) -> SidePlace
+        requires { do ⌜ left < (← ⟦Geometry::TRACK_SECTORS⟧) ⌝ }
+        ensures { λ r. ⌜ (r .side ≡ blockSide (left / blockSectors)) × (r .place ≡ sectorPlace (left % blockSectors) (blockPair (left / blockSectors))) ⌝ }
+    {
+        let block = left / Geometry::BLOCK_SECTORS;
+        let sector = left % Geometry::BLOCK_SECTORS;
+        let pair = block / Geometry::SIDES;
+        SidePlace {
+            side: block % Geometry::SIDES,
+            place: Geometry::SIDE_BLOCKS * sector + pair,
+        }
+    }
+
+    // The remainder by 18 that stands at a side and place (§1.6).
+    fn remainder_at(at: SidePlace) -> usize
+        requires { ⌜ (at .side < sides) × (at .place < sectors) ⌝ }
+        ensures { λ r. ⌜ r ≡ remainderAt (at .side) (at .place) ⌝ }
+    {
+        let pair = at.place % Geometry::SIDE_BLOCKS;
+        let sector = at.place / Geometry::SIDE_BLOCKS;
+        let block = Geometry::SIDES * pair + at.side;
+        Geometry::BLOCK_SECTORS * block + sector
+    }
+
     // The table of sides and places (§1.4), as the disk header has it (§6.7).
     pub fn side_place_table() -> [u8; Geometry::TRACK_SECTORS]
         ensures { λ r. ⌜ r ≡ sidePlace ⌝ }
     {
-        SIDE_PLACE
+        let mut table = [0u8; Geometry::TRACK_SECTORS];
+        for left in 0..Geometry::TRACK_SECTORS {
+            let at = Geometry::side_place(left);
+            table[left] = (SIDE_BIT * at.side + at.place) as u8;
+        }
+        table
     }
 
     // The backward table (§1.6), as the disk header has it (§6.7).
     pub fn backward_table() -> [u8; Geometry::TRACK_SECTORS]
         ensures { λ r. ⌜ r ≡ backward ⌝ }
     {
-        BACKWARD
+        let mut table = [0u8; Geometry::TRACK_SECTORS];
+        for i in 0..Geometry::TRACK_SECTORS {
+            let at = SidePlace {
+                side: i / Geometry::SECTORS,
+                place: i % Geometry::SECTORS,
+            };
+            table[i] = Geometry::remainder_at(at) as u8;
+        }
+        table
     }
 
     // The running sector of sector s of a block (§1.3).
@@ -105,11 +108,9 @@ impl Geometry {
         ensures { λ r. ⌜ r .0 ≡ toImageSector (n .0) ⌝ }
     {
         let track = n.0 / Geometry::TRACK_SECTORS;
-        let left = n.0 % Geometry::TRACK_SECTORS;
-        let value = SIDE_PLACE[left] as usize;
-        let side = value / 128;
-        let place = (value % 128 + Geometry::TRACK_OFFSET * track) % Geometry::SECTORS;
-        ImageSector(Geometry::TRACK_SECTORS * track + Geometry::SECTORS * side + place)
+        let at = Geometry::side_place(n.0 % Geometry::TRACK_SECTORS);
+        let place = (at.place + Geometry::TRACK_OFFSET * track) % Geometry::SECTORS;
+        ImageSector(Geometry::TRACK_SECTORS * track + Geometry::SECTORS * at.side + place)
     }
 
     // The running sector of an image sector (§1.6).
@@ -121,7 +122,7 @@ impl Geometry {
         let side = m.0 % Geometry::TRACK_SECTORS / Geometry::SECTORS;
         let place = (m.0 % Geometry::SECTORS + (Geometry::SECTORS - Geometry::TRACK_OFFSET) * track)
             % Geometry::SECTORS;
-        let left = BACKWARD[Geometry::SECTORS * side + place] as usize;
+        let left = Geometry::remainder_at(SidePlace { side, place });
         RunningSector(Geometry::TRACK_SECTORS * track + left)
     }
 }

@@ -3,7 +3,7 @@
 use crate::geometry::BLOCK_LEN;
 use crate::layout::entry::SLOT_LEN;
 use crate::layout::header::{
-    DIRECTORY_LEN, FIXED_WORDS, OFFSET_FIELD, SIGNATURE, TABLES, TRACK_OFFSET_WORD,
+    tables, DIRECTORY_LEN, FIXED_WORDS, OFFSET_FIELD, SIGNATURE, TRACK_OFFSET_WORD,
 };
 use crate::layout::word_at;
 use crate::reply::Refusal;
@@ -29,7 +29,7 @@ pub fn judge_disk_header(block_0: &[u8]) -> Result<(), Refusal> {
         OFFSET_FIELD,
         word_at(block_0, OFFSET_FIELD) == TRACK_OFFSET_WORD,
     ));
-    for (offset, table) in TABLES {
+    for (offset, table) in tables() {
         fields.push((offset, block_0[offset..offset + table.len()] == table));
     }
     for (offset, good) in fields {

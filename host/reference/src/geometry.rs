@@ -40,20 +40,42 @@ pub const IMAGE_LEN: usize = SECTORS * SECTOR_LEN;
 /// before, within their side (§1.5).
 pub const TRACK_OFFSET: usize = 5;
 
-/// Marks side 1 in [`SIDE_AND_PLACE`] (§1.4).
-pub const SIDE_1: u8 = 0x80;
+/// Blocks on a side of a track, and so block pairs of a track (§1.4).
+const BLOCKS_PER_SIDE: usize = SECTORS_PER_SIDE / SECTORS_PER_BLOCK;
 
-/// Side and place for the remainder of a running sector by 18 (§1.4).
-pub const SIDE_AND_PLACE: [u8; SECTORS_PER_TRACK] = [
-    0x00, 0x03, 0x06, 0x80, 0x83, 0x86, 0x01, 0x04, 0x07, 0x81, 0x84, 0x87, 0x02, 0x05, 0x08, 0x82,
-    0x85, 0x88,
-];
+/// Added on side 1 in the header's table of sides and places (§1.4).
+const SIDE_1: usize = 0x80;
 
-/// The backward table: the remainder for each image sector of track 0 (§1.6).
-pub const REMAINDER: [u8; SECTORS_PER_TRACK] = [
-    0x00, 0x06, 0x0C, 0x01, 0x07, 0x0D, 0x02, 0x08, 0x0E, 0x03, 0x09, 0x0F, 0x04, 0x0A, 0x10, 0x05,
-    0x0B, 0x11,
-];
+/// Side and place of a remainder by 18, which is a sector of one of the
+/// track's six blocks (§1.4). A pair is an even block, on side 0, and the odd
+/// one after it, on side 1, at the same places.
+fn side_and_place(remainder: usize) -> (usize, usize) {
+    let block = remainder / SECTORS_PER_BLOCK;
+    let sector = remainder % SECTORS_PER_BLOCK;
+    let pair = block / SIDES;
+    (block % SIDES, BLOCKS_PER_SIDE * sector + pair)
+}
+
+/// The remainder by 18 that stands at a place of a side (§1.6).
+fn remainder_at(side: usize, place: usize) -> usize {
+    let pair = place % BLOCKS_PER_SIDE;
+    let sector = place / BLOCKS_PER_SIDE;
+    let block = SIDES * pair + side;
+    SECTORS_PER_BLOCK * block + sector
+}
+
+/// The header's table of sides and places, by remainder (§1.4 §6.7).
+pub fn side_place_table() -> [u8; SECTORS_PER_TRACK] {
+    std::array::from_fn(|remainder| {
+        let (side, place) = side_and_place(remainder);
+        (SIDE_1 * side + place) as u8
+    })
+}
+
+/// The header's backward table, by side and place (§1.6 §6.7).
+pub fn backward_table() -> [u8; SECTORS_PER_TRACK] {
+    std::array::from_fn(|at| remainder_at(at / SECTORS_PER_SIDE, at % SECTORS_PER_SIDE) as u8)
+}
 
 /// The running sector of a sector of a block (§1.3).
 pub fn running_sector(block: usize, sector: usize) -> usize {
@@ -63,9 +85,7 @@ pub fn running_sector(block: usize, sector: usize) -> usize {
 /// The image sector of a running sector, which is below 1,440 (§1.5).
 pub fn image_sector(running: usize) -> usize {
     let track = running / SECTORS_PER_TRACK;
-    let entry = SIDE_AND_PLACE[running % SECTORS_PER_TRACK];
-    let side = usize::from(entry & SIDE_1 != 0);
-    let place = usize::from(entry & !SIDE_1);
+    let (side, place) = side_and_place(running % SECTORS_PER_TRACK);
     let moved = (place + TRACK_OFFSET * track) % SECTORS_PER_SIDE;
     SECTORS_PER_TRACK * track + SECTORS_PER_SIDE * side + moved
 }
@@ -79,8 +99,7 @@ pub fn running_at(image_sector: usize) -> usize {
     // Adding nine first keeps the difference from falling below 0.
     let offset = TRACK_OFFSET * track % SECTORS_PER_SIDE;
     let place = (moved + SECTORS_PER_SIDE - offset) % SECTORS_PER_SIDE;
-    let remainder = REMAINDER[SECTORS_PER_SIDE * side + place];
-    SECTORS_PER_TRACK * track + usize::from(remainder)
+    SECTORS_PER_TRACK * track + remainder_at(side, place)
 }
 
 /// The call place: the image sector of a sector of a block (§8.3), or refusal

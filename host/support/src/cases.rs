@@ -71,16 +71,36 @@ pub struct Requested {
 }
 
 impl Requested {
+    /// The cases, each with its answers.
+    fn parsed(&self) -> Vec<Value> {
+        let lines = parse_lines(self.lines);
+        assert_eq!(lines.len(), self.count);
+        lines
+    }
+
     /// Runs one case of `step`, from case `first` on, with the answer that
     /// holds at the project's level.
     pub fn run(&self, first: usize, step: usize, run: impl Fn(&Value, &Value)) {
-        let lines = parse_lines(self.lines);
-        assert_eq!(lines.len(), self.count);
-        run_share(&lines, first, step, |line| {
-            let (case, answer) = of_request(line, LEVEL);
-            run(case, answer);
-        });
+        run_requested(&self.parsed(), first, step, run);
     }
+
+    /// Runs all cases of a kind, and of the others none; there have to be
+    /// `count` of them.
+    pub fn run_kind(&self, kind: &str, count: usize, run: impl Fn(&Value, &Value)) {
+        let mut lines = self.parsed();
+        lines.retain(|line| line.get("case").get("kind").text() == kind);
+        assert_eq!(lines.len(), count, "cases of kind {kind}");
+        run_requested(&lines, 0, 1, run);
+    }
+}
+
+/// Runs one case of `step`, from case `first` on, with the answer that holds at
+/// the project's level.
+fn run_requested(lines: &[Value], first: usize, step: usize, run: impl Fn(&Value, &Value)) {
+    run_share(lines, first, step, |line| {
+        let (case, answer) = of_request(line, LEVEL);
+        run(case, answer);
+    });
 }
 
 /// Runs one case of `step`, from case `first` on.
@@ -166,6 +186,34 @@ mod tests {
             count: 1,
         };
         requested.run(0, 1, |_, _| panic!("run"));
+    }
+
+    /// Two cases of one kind and one of another.
+    const KINDS: Requested = Requested {
+        lines: "{\"level\": 1, \"holds_until\": null, \"case\": {\"kind\": \"disk\"}, \
+                \"answer\": 7, \"later\": []}\n\
+                {\"level\": 1, \"holds_until\": null, \"case\": {\"kind\": \"place\"}, \
+                \"answer\": 8, \"later\": []}\n\
+                {\"level\": 1, \"holds_until\": null, \"case\": {\"kind\": \"disk\"}, \
+                \"answer\": 9, \"later\": []}\n",
+        count: 3,
+    };
+
+    #[test]
+    fn cases_of_a_kind() {
+        for (kind, expected) in [("disk", vec![7, 9]), ("place", vec![8]), ("pair", vec![])] {
+            let answers = RefCell::new(Vec::new());
+            KINDS.run_kind(kind, expected.len(), |_, answer| {
+                answers.borrow_mut().push(answer.size());
+            });
+            assert_eq!(answers.into_inner(), expected);
+        }
+    }
+
+    #[test]
+    #[should_panic(expected = "cases of kind disk")]
+    fn another_count_of_a_kind_is_a_failure() {
+        KINDS.run_kind("disk", 3, |_, _| ());
     }
 
     /// From a level on a line of this file has other answers, and what it asks

@@ -2,8 +2,8 @@
 
 use super::set_word;
 use crate::geometry::{
-    BLOCK_LEN, REMAINDER, SECTORS, SECTORS_PER_BLOCK, SECTORS_PER_SIDE, SECTORS_PER_TRACK,
-    SIDE_AND_PLACE, TRACKS, TRACK_OFFSET,
+    backward_table, side_place_table, BLOCK_LEN, SECTORS, SECTORS_PER_BLOCK, SECTORS_PER_SIDE,
+    SECTORS_PER_TRACK, TRACKS, TRACK_OFFSET,
 };
 
 /// The first bytes of a disk (§6.1).
@@ -44,7 +44,9 @@ pub const OFFSET_FIELD: usize = 38;
 pub const TRACK_OFFSET_WORD: usize = TRACK_OFFSET;
 
 /// The header's two tables and their offsets (§6.7).
-pub const TABLES: [(usize, [u8; SECTORS_PER_TRACK]); 2] = [(40, SIDE_AND_PLACE), (58, REMAINDER)];
+pub fn tables() -> [(usize, [u8; SECTORS_PER_TRACK]); 2] {
+    [(40, side_place_table()), (58, backward_table())]
+}
 
 /// What differs from header to header.
 #[derive(Clone, Debug, PartialEq, Eq)]
@@ -82,7 +84,7 @@ impl Header {
             self.directory_len % BLOCK_LEN,
         );
         set_word(&mut header, OFFSET_FIELD, TRACK_OFFSET_WORD);
-        for (offset, table) in TABLES {
+        for (offset, table) in tables() {
             header[offset..offset + table.len()].copy_from_slice(&table);
         }
         header

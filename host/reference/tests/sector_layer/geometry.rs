@@ -1,7 +1,8 @@
 //! Placement and its tables (§1.3, §1.4, §1.5, §1.6).
 
+use super::shared::placement::{BACKWARD, SIDE_PLACE};
 use reference::geometry::{
-    image_sector, running_at, running_sector, REMAINDER, SECTORS, SIDE_AND_PLACE,
+    backward_table, image_sector, running_at, running_sector, side_place_table, SECTORS,
 };
 use reference::place;
 
@@ -30,13 +31,11 @@ fn placement_and_its_inverse() {
     }
 }
 
-/// The backward table undoes that of side and place (§1.4 §1.6).
+/// The rule gives the two tables (§1.4 §1.6).
 #[test]
-fn tables_are_inverse() {
-    for (remainder, entry) in SIDE_AND_PLACE.iter().enumerate() {
-        let on_track = 9 * (entry >> 7) + (entry & 0x7F);
-        assert_eq!(usize::from(REMAINDER[usize::from(on_track)]), remainder);
-    }
+fn rule_is_table() {
+    assert_eq!(side_place_table(), SIDE_PLACE);
+    assert_eq!(backward_table(), BACKWARD);
 }
 
 #[test]

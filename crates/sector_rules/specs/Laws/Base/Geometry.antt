@@ -1,44 +1,37 @@
--- The placement: what its tables hold, that they undo each other, that the placement is one-to-one, keeps each sector on its track and begins with 0.
--- Rests on computed tests. Only these laws open the tables, and the statements by value, which are computed.
+-- The placement: its tables' lengths, that they undo each other, that the placement is one-to-one, keeps each sector on its track and begins with 0.
+-- Rests on computed tests. Beside these only the laws of the placement's code (sectors, Laws.Reading.Placement) and the statements by value open the tables.
 use mathlib.Core.Path.{_≡_, refl, sym, ap, _∙_}
 use Prim.Native.Nat.{ℕ, _+_, _*_, _/_, _%_, _<_}
 use lib.Dec.{lit<}
 use lib.ListN.{length, getD}
 use Rattle.laws.specs.Below.{all}
+use Rattle.laws.specs.Lists.{tab}
 use Rattle.laws.specs.Laws.All.{all-eq, all-lt}
-use Rattle.sector_rules.specs.Geometry.{trackSectors, sectors, allSectors, sidePlace, backward, toImageSector, toRunningSector}
+use Rattle.laws.specs.Laws.Tab.{tab-length}
+use Rattle.sector_rules.specs.Geometry.{sectors, blockSectors, trackSectors, allSectors, sidePlaceByte, remainderAt, sidePlace, backward}
+use Rattle.sector_rules.specs.Geometry.{toImageSector, toRunningSector}
 
 -- ---- the tables
 
 -- the first table has an entry for each sector of a track
 pub side-place-length : length sidePlace ≡ trackSectors
 unfolding sidePlace
-side-place-length = refl
+side-place-length = tab-length (λ (l : ℕ). sidePlaceByte (l / blockSectors) (l % blockSectors)) trackSectors
 
 -- and so has the second
 pub backward-length : length backward ≡ trackSectors
 unfolding backward
-backward-length = refl
-
--- an entry of the first table is below 137: place 8 of side 1 is the highest
-pub side-place-lt : (k : ℕ) → k < trackSectors → getD sidePlace k 0 < 137
-unfolding sidePlace all
-side-place-lt = all-lt (λ (k : ℕ). getD sidePlace k 0) (λ (k : ℕ). 137) trackSectors refl
-
--- an entry of the second table is a sector of a track
-pub backward-lt : (k : ℕ) → k < trackSectors → getD backward k 0 < trackSectors
-unfolding backward all
-backward-lt = all-lt (λ (k : ℕ). getD backward k 0) (λ (k : ℕ). trackSectors) trackSectors refl
+backward-length = tab-length (λ (i : ℕ). remainderAt (i / sectors) (i % sectors)) trackSectors
 
 -- an entry of the first table as a sector of track 0, and back by the second
 pub forth-back : (k : ℕ) → k < trackSectors → getD backward (sectors * (getD sidePlace k 0 / 128) + getD sidePlace k 0 % 128) 0 ≡ k
-unfolding sidePlace backward all
+unfolding sidePlace backward tab all
 forth-back = all-eq (λ (k : ℕ). getD backward (sectors * (getD sidePlace k 0 / 128) + getD sidePlace k 0 % 128) 0) (λ (k : ℕ). k) trackSectors refl
 
 -- an entry of the second table, and back by the first
 pub back-forth : (k : ℕ) → k < trackSectors
     → sectors * (getD sidePlace (getD backward k 0) 0 / 128) + getD sidePlace (getD backward k 0) 0 % 128 ≡ k
-unfolding sidePlace backward all
+unfolding sidePlace backward tab all
 back-forth =
     all-eq (λ (k : ℕ). sectors * (getD sidePlace (getD backward k 0) 0 / 128) + getD sidePlace (getD backward k 0) 0 % 128) (λ (k : ℕ). k) trackSectors refl
 
@@ -46,32 +39,32 @@ back-forth =
 
 -- the image sector of a running sector is on the disk
 pub image-lt : (n : ℕ) → n < allSectors → toImageSector n < allSectors
-unfolding toImageSector sidePlace all
+unfolding toImageSector sidePlace tab all
 image-lt = all-lt toImageSector (λ (n : ℕ). allSectors) allSectors refl
 
 -- the running sector of an image sector is on the disk
 pub running-lt : (m : ℕ) → m < allSectors → toRunningSector m < allSectors
-unfolding toRunningSector backward all
+unfolding toRunningSector backward tab all
 running-lt = all-lt toRunningSector (λ (n : ℕ). allSectors) allSectors refl
 
 -- the running sector of the image sector of a running sector is that sector
 pub running-image : (n : ℕ) → n < allSectors → toRunningSector (toImageSector n) ≡ n
-unfolding toImageSector toRunningSector sidePlace backward all
+unfolding toImageSector toRunningSector sidePlace backward tab all
 running-image = all-eq (λ (n : ℕ). toRunningSector (toImageSector n)) (λ (n : ℕ). n) allSectors refl
 
 -- the image sector of the running sector of an image sector is that sector
 pub image-running : (m : ℕ) → m < allSectors → toImageSector (toRunningSector m) ≡ m
-unfolding toImageSector toRunningSector sidePlace backward all
+unfolding toImageSector toRunningSector sidePlace backward tab all
 image-running = all-eq (λ (m : ℕ). toImageSector (toRunningSector m)) (λ (m : ℕ). m) allSectors refl
 
 -- a sector stays on its track
 pub image-track : (n : ℕ) → n < allSectors → toImageSector n / trackSectors ≡ n / trackSectors
-unfolding toImageSector sidePlace all
+unfolding toImageSector sidePlace tab all
 image-track = all-eq (λ (n : ℕ). toImageSector n / trackSectors) (λ (n : ℕ). n / trackSectors) allSectors refl
 
 -- the first running sector, which has the header, is the first image sector
 pub image-first : toImageSector 0 ≡ 0
-unfolding toImageSector sidePlace
+unfolding toImageSector sidePlace tab
 image-first = refl
 
 -- and back

@@ -1,11 +1,11 @@
--- `Geometry::running_of` meets its contract: the table is the definition's, and its entries are small.
--- Rests on: the laws in sector_rules::Base/Geometry.
+-- `Geometry::running_of` meets its contract.
+-- Rests on: the laws in Reading/Placement; the contract of Geometry::remainder_at.
 -- Assumes nothing.
-use Prim.Native.Nat.{_+_, _-_, _*_, _/_, _%_}
+use Prim.Native.Nat.{_<_}
 use native.Mathlib.Omega.{arith}
 use borrow.Author.Needs.{needs}
-use Rattle.sector_rules.specs.Geometry.{sectors, trackSectors, trackOffset, toRunningSector, backward}
-use Rattle.sector_rules.specs.Laws.Base.Geometry.{backward-lt}
+use Rattle.sector_rules.specs.Geometry.{trackSectors}
+use Rattle.sectors.specs.Laws.Reading.Placement.{remainder-lt, running-by-rule}
 use Rattle.sectors.proofs.Geometry.running_of.Statement.{statement}
 use Rattle.sectors.proofs.Geometry.running_of.Tie as tie
 
@@ -18,57 +18,21 @@ mul-place c = search needs
 add-place : tie.Need-add-place
 add-place c = search needs
 
-mul-left : tie.Need-mul-left
-mul-left c = search needs
+remainder-at-requires : tie.Need-remainder-at-requires
+remainder-at-requires c κs = search needs
 
-add-left : tie.Need-add-left
-add-left c = search needs
+-- what stands there is a sector of the track
+left-lt : (c : tie.After-remainder-at) → c .remainder-at .result < trackSectors
+left-lt c = rw (c .remainder-at .ensures) (remainder-lt _ _ (omega arith) (omega arith))
 
-array-read-left : tie.Need-array-read-left
-array-read-left c = search needs
-
-cast-left : tie.Need-cast-left
-unfolding backward
-cast-left c =
-    omega (
-      arith,
-      backward-lt (sectors * (c .before .before .before .args .m .0 % trackSectors / sectors) +
-          (c .before .before .before .args .m .0 % sectors + (sectors - trackOffset) *
-          (c .before .before .before .args .m .0 / trackSectors))
-          % sectors)
-          (omega arith),
-    )
-
-mul-t8 : tie.Need-mul-t8
-mul-t8 c = search needs
+mul-t6 : tie.Need-mul-t6
+mul-t6 c = let start = c .before .before .before .before in omega (arith, start .pre)
 
 add-t7 : tie.Need-add-t7
-unfolding backward
-add-t7 c =
-    omega (
-      arith,
-      backward-lt (sectors * (c .before .before .before .args .m .0 % trackSectors / sectors) +
-          (c .before .before .before .args .m .0 % sectors + (sectors - trackOffset) *
-          (c .before .before .before .args .m .0 / trackSectors))
-          % sectors)
-          (omega arith),
-    )
+add-t7 c = let start = c .before .before .before .before in omega (arith, start .pre, left-lt c)
 
 returns : tie.Need-returns
-unfolding toRunningSector backward
-returns c = search needs
+returns c = running-by-rule _ _ (c .remainder-at .ensures)
 
 pub running-of-spec : {M : Type 1} → statement M
-running-of-spec =
-    tie.close
-    (tie.spec
-    sub-place
-    mul-place
-    add-place
-    mul-left
-    add-left
-    array-read-left
-    cast-left
-    mul-t8
-    add-t7
-    returns)
+running-of-spec = tie.close (tie.spec sub-place mul-place add-place remainder-at-requires mul-t6 add-t7 returns)

@@ -16,6 +16,11 @@ const ONE: Requested = Requested {
     count: 70,
 };
 
+const FOUR: Requested = Requested {
+    lines: include_str!("../../data/requests/four.jsonl"),
+    count: 60,
+};
+
 /// A history, then what check and the program say of its last image.
 fn history<'a>(case: &'a Value, answer: &'a Value) -> (History<'a>, [&'a Value; 2]) {
     let [_, arguments, calls] = case.members(["kind", "format", "calls"]);
@@ -109,4 +114,24 @@ fn odd_cases_of_one() {
 #[test]
 fn one_in_the_model() {
     ONE.run(0, 1, run_in_model);
+}
+
+/// The header's tables as format writes them (§6.7), in histories of empty and
+/// of full disks (§9.1).
+#[test]
+fn histories_of_four() {
+    FOUR.run_kind("history", 17, run_history);
+}
+
+/// The tables as the check reads them (§6.7), right and wrong ones, on disks of
+/// other makers (§7.8).
+#[test]
+fn disks_of_four() {
+    FOUR.run_kind("disk", 37, run_disk);
+}
+
+/// The model writes them too (§9.5).
+#[test]
+fn four_in_the_model() {
+    FOUR.run_kind("history", 17, run_in_model);
 }

@@ -9,7 +9,7 @@ mod damaged;
 mod mame;
 mod moved_tracks;
 mod new_runs;
-mod placement;
+pub mod placement;
 mod recipe;
 mod recipe_answers;
 mod refusals;
