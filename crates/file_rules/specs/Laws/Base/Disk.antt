@@ -84,6 +84,13 @@ first-place o h =
     let e : running 0 (o / sectorBytes) ≡ 0 = omega arith in
     ap (λ (n : ℕ). toImageSector n * sectorBytes + o % sectorBytes) e ∙ ap (λ (n : ℕ). n * sectorBytes + o % sectorBytes) image-first ∙ omega arith
 
+-- its bytes are the image's first
+pub first-byte : (l : List ℕ) (o : ℕ) → o < sectorBytes → diskOf l 0 o ≡ getD l o 0
+unfolding diskOf
+first-byte l o h =
+    cond-true (getD l (imagePlace 0 o) 0) 0 (and-true (lt-true {a = 0} {b = blocks} (omega arith)) (lt-true {a = o} {b = blockBytes} (omega arith)))
+    ∙ ap (λ (i : ℕ). getD l i 0) (first-place o h)
+
 -- and back: the first bytes of the image are those of block 0
 pub first-block : (i : ℕ) → i < sectorBytes → blockOf i ≡ 0
 unfolding blockOf

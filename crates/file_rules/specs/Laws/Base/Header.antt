@@ -3,6 +3,7 @@
 use mathlib.Core.Path.{_≡_, refl, sym, ap, ap₂, _∙_}
 use mathlib.Core.Bool.{true}
 use mathlib.Core.List.{List}
+use mathlib.Core.Option.{none}
 use Prim.Native.Nat.{ℕ, _+_, _*_, _%_, _≤_, _<_}
 use native.Mathlib.Omega.{arith}
 use lib.Dec.{lit<, lit≤}
@@ -15,14 +16,20 @@ use Rattle.laws.specs.Laws.Same.{eq-same}
 use Rattle.laws.specs.Laws.Tab.{tab-ext, tab-self}
 use Rattle.laws.specs.Laws.Tests.{lt-true, le-true, eq-true, and-true}
 use Rattle.sector_rules.specs.declared.Fault.the-variants.{Sound}
+use Rattle.sector_rules.specs.Faults.{refusalAt}
 use Rattle.sector_rules.specs.Geometry.{trackOffset, trackSectors, sidePlace, backward}
 use Rattle.sector_rules.specs.Laws.Base.Geometry.{side-place-length, backward-length}
 use Rattle.file_rules.specs.Arguments.{FormatArguments}
-use Rattle.file_rules.specs.Check.{diskSignature, lengthRight, dimensionsFault, diskHeaderFault}
+use Rattle.file_rules.specs.Check.{diskSignature, lengthRight, dimensionsFault, diskHeaderFault, refusal8}
 use Rattle.file_rules.specs.Directory.{dirBytes}
 use Rattle.file_rules.specs.Disk.{Disk}
 use Rattle.file_rules.specs.Sizes.{blockBytes, slotBytes, wholeBlocks, bytesOver}
 use Rattle.file_rules.specs.Written.{fixedByte, diskHeaderByte}
+
+-- a header without fault is not refused
+pub header-none : (d : Disk) → diskHeaderFault d ≡ Sound → refusal8 d ≡ none
+unfolding refusal8
+header-none d e = ap (refusalAt 8) e
 
 -- ---- disks that agree in the bytes that are judged
 
@@ -97,8 +104,8 @@ module _ (args : FormatArguments) (updates word end : ℕ) where
   dimensions-at = refl
 
   offset-at : at16 written 38 ≡ trackOffset
-  unfolding at16 bigEndian diskHeaderByte fixedByte patch highByte
-  offset-at = refl
+  unfolding at16 bigEndian diskHeaderByte fixedByte patch
+  offset-at = high2-at trackOffset (lit< tt)
 
   first-at : bytesAre written 40 sidePlace ≡ true
   unfolding tab diskHeaderByte fixedByte patch

@@ -29,7 +29,7 @@ use Rattle.file_rules.specs.Directory.{nameEq, slotEntry, slotName, held
 use Rattle.file_rules.specs.Disk.{Disk}
 use Rattle.file_rules.specs.Laws.InnerModel.Inner.{Inner, header, render}
 use Rattle.file_rules.specs.Laws.InnerModel.Invariant.{partsOf, Inv}
-use Rattle.file_rules.specs.Laws.Base.Header.{header-passes}
+use Rattle.file_rules.specs.Laws.Base.Header.{header-none, header-passes}
 use Rattle.file_rules.specs.Laws.Base.Whole.{Valid}
 use Rattle.file_rules.specs.Map.{recordAt, isSystem, isOther, bears, isPart, within, freeCount}
 use Rattle.file_rules.specs.Model.{NamedFile, HeldFile, freeWord, content}
@@ -156,8 +156,7 @@ module _ (m : Inner) (v : Inv m) where
   -- ---- the check passes
 
   eight-right : refusal8 d ≡ none
-  unfolding refusal8
-  eight-right = ap (refusalAt 8) header-right
+  eight-right = header-none d header-right
 
   nine-right : refusal9 d ≡ none
   unfolding refusal9 faultBelow

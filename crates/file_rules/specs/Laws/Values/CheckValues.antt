@@ -26,11 +26,11 @@ use Rattle.file_rules.specs.Arguments.{FormatArguments}
 use Rattle.file_rules.specs.Calls.{ImageChanged, unless, imageRight, onSound, freshOwner, freshHeader, formatDisk, check}
 use Rattle.file_rules.specs.Check.{diskHeaderFault, recordFault, mapFault}
 use Rattle.file_rules.specs.Check.{partsRight, noRecordBears, newName, entryRight, fileRight, fileFault}
-use Rattle.file_rules.specs.Check.{refusal8, refusal9, refusal10, refusal11, diskRefusal}
+use Rattle.file_rules.specs.Check.{refusal9, refusal10, refusal11, diskRefusal}
 use Rattle.file_rules.specs.Directory.{lowered, nameEq, entryOf, entryByte, nameOf, entryFor, slotByte, slotEntry, slotName, held, dirBytes, dirEnd}
 use Rattle.file_rules.specs.Disk.{Disk, imagePlace, imageOf, setByte}
 use Rattle.file_rules.specs.Laws.Base.Disk.{first-place, length-image, disk-image, image-set}
-use Rattle.file_rules.specs.Laws.Base.Header.{header-passes}
+use Rattle.file_rules.specs.Laws.Base.Header.{header-none, header-passes}
 use Rattle.file_rules.specs.Laws.Base.Whole.{with-is}
 use Rattle.file_rules.specs.Laws.OnImages.Run.{format-done}
 use Rattle.file_rules.specs.Map.{decode, encode, numberOf, numberAt, recordAt, isSystem, isOther, bears, isPart, within, partBlock}
@@ -71,7 +71,7 @@ set-nothing-outside d o v l w =
     }
 
 -- what check says of the image of a disk (§8.5)
-unfoldable pub judgedReply : Disk → Reply
+unfoldable judgedReply : Disk → Reply
 judgedReply d = unless (diskRefusal d) (λ (r : Reply). r) done
 
 check-is : (d : Disk) → NothingOutside d → check (imageOf d) ≡ judgedReply d
@@ -83,17 +83,17 @@ pub set-is : (d : Disk) (o v : ℕ) → imagePlace 0 o ≡ o → o < blockBytes 
 set-is d o v e l = ap (λ (i : ℕ). set (imageOf d) i v) (sym e) ∙ image-set d 0 o v (lit< tt) l
 
 -- what check says of an image of which such a byte is another
-pub changed-is : (d : Disk) → NothingOutside d → (o v : ℕ) → imagePlace 0 o ≡ o → o < blockBytes → check (set (imageOf d) o v) ≡ judgedReply (setByte d 0 o v)
+changed-is : (d : Disk) → NothingOutside d → (o v : ℕ) → imagePlace 0 o ≡ o → o < blockBytes → check (set (imageOf d) o v) ≡ judgedReply (setByte d 0 o v)
 changed-is d w o v e l = ap check (set-is d o v e l) ∙ check-is (setByte d 0 o v) (set-nothing-outside d o v l w)
 
 -- what 9 to 11 say of a disk
-unfoldable afterHeader : Disk → Reply
-afterHeader d = unless (orElse (refusal9 d) (orElse (refusal10 d) (refusal11 d))) (λ (r : Reply). r) done
+unfoldable replyAfterHeader : Disk → Reply
+replyAfterHeader d = unless (orElse (refusal9 d) (orElse (refusal10 d) (refusal11 d))) (λ (r : Reply). r) done
 
 -- where the header is right, they decide
-past-header : (d : Disk) → diskHeaderFault d ≡ Sound → judgedReply d ≡ afterHeader d
-unfolding judgedReply afterHeader diskRefusal refusal8 orElse
-past-header d e = rw e refl
+past-header : (d : Disk) → diskHeaderFault d ≡ Sound → judgedReply d ≡ replyAfterHeader d
+unfolding judgedReply replyAfterHeader diskRefusal orElse
+past-header d e = rw (header-none d e) refl
 
 -- a disk has the header of a fresh one
 abbrev pub HasFreshHeader : FormatArguments → Disk → Type 0
@@ -104,6 +104,11 @@ pub fresh-header : (args : FormatArguments) → HasFreshHeader args (formatDisk 
 unfolding formatDisk
 fresh-header args = with-is (freshHeader args) freshOwner (λ (r : Record) (o : ℕ). 0) .head
 
+-- a disk with letters and fields of a fresh header passes 8
+pub fresh-passes : (args : FormatArguments) (d : Disk) → ((o : ℕ) → o < 4 → d 0 o ≡ freshHeader args o)
+    → ((o : ℕ) → 22 ≤ o → o < 76 → d 0 o ≡ freshHeader args o) → diskHeaderFault d ≡ Sound
+fresh-passes args = header-passes args 0 (freeSectors (blocks - 2)) 1 (lit≤ tt) (lit< tt)
+
 -- a byte of the map that is another leaves the header
 map-header : (args : FormatArguments) (d : Disk) (p v : ℕ) → mapStart ≤ p → HasFreshHeader args d → HasFreshHeader args (setByte d 0 p v)
 unfolding setByte
@@ -111,15 +116,15 @@ map-header args d p v k w o h = upd₂-same d 0 (upd (d 0) p v) 0 o refl ∙ upd
 
 -- what check says of an image of which a byte of the map is another
 map-changed : (args : FormatArguments) (d : Disk) → NothingOutside d → HasFreshHeader args d → (p v : ℕ) → mapStart ≤ p → p < sectorBytes
-    → check (set (imageOf d) p v) ≡ afterHeader (setByte d 0 p v)
+    → check (set (imageOf d) p v) ≡ replyAfterHeader (setByte d 0 p v)
 map-changed args d out head p v k l =
     changed-is d out p v (first-place p l) (omega arith)
     ∙ past-header (setByte d 0 p v)
-    (header-passes args 0 (freeSectors (blocks - 2)) 1 (lit≤ tt) (lit< tt) (setByte d 0 p v)
+    (fresh-passes args (setByte d 0 p v)
     (λ o h. map-header args d p v k head o (omega arith)) (λ o g h. map-header args d p v k head o (omega arith)))
 
 judged-is : (args : FormatArguments) → RecordsJudged (imageOf (formatDisk args))
-unfolding afterHeader refusal9 refusal10 refusal11 dirBytes mapFault recordAt numberAt
+unfolding replyAfterHeader refusal9 refusal10 refusal11 dirBytes mapFault recordAt numberAt
     formatDisk diskWith diskHeaderByte fixedByte patch highByte tab at16 bigEndian lowest count
     decode encode numberOf freshOwner recordFault isSystem isOther faultBelow unless orElse setByte upd
     fileFault fileRight partsRight dirEnd all within isPart bears noRecordBears quotientUp held
@@ -154,8 +159,8 @@ model-header m h =
     let head = with-is (modelHeader m) _ _ .head in
     header-passes _ _ _ (suc (m .peak)) (omega arith) (omega arith) (modelDisk m) (λ o g. head o (omega arith)) (λ o k g. head o (omega arith))
 
-spellings-found : (args : FormatArguments) → afterHeader (modelDisk (twoFiles args reelOne reelCapitals)) ≡ replyWith 10 2 0 0
-unfolding afterHeader refusal9 refusal10 refusal11 dirBytes mapFault recordAt numberAt
+spellings-found : (args : FormatArguments) → replyAfterHeader (modelDisk (twoFiles args reelOne reelCapitals)) ≡ replyWith 10 2 0 0
+unfolding replyAfterHeader refusal9 refusal10 refusal11 dirBytes mapFault recordAt numberAt
     modelDisk modelHeader modelRecord content dirByte slotOf position orRecord slotRecord twoFiles emptyFile reelOne reelCapitals fileOf takenBy
     diskWith diskHeaderByte fixedByte patch highByte same tab at16 at32 bigEndian lowest count
     decode encode numberOf recordFault isSystem isOther faultBelow unless orElse upd

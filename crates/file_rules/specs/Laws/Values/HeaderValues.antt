@@ -6,9 +6,9 @@ use mathlib.Core.Option.{none, some}
 use mathlib.Core.Path.{_≡_, refl, ap, ap₂, _∙_}
 use Prim.Native.Nat.{ℕ, _+_, _-_, _≤_, _<_}
 use native.Mathlib.Omega.{arith}
-use lib.Dec.{lit<, lit≤}
+use lib.Dec.{lit≤}
 use lib.ListN.{length, getD, take, length-append, List·getD-append}
-use Rattle.laws.specs.Laws.Tests.{eq-true, le-false, lt-true, cond-true, cond-false, and-true}
+use Rattle.laws.specs.Laws.Tests.{eq-true, le-false, cond-true, cond-false}
 use Rattle.laws.specs.Laws.Tab.{tab-ext, take-tab}
 use Rattle.laws.specs.Lists.{same, bytesAre, tab}
 use Rattle.laws.specs.Numbers.{at16, bigEndian, highByte}
@@ -28,11 +28,11 @@ use Rattle.file_rules.specs.Check.{diskSignature, lengthRight, dimension
 use Rattle.file_rules.specs.Check.{mapFault, fileFault, freeRight, refusal8, refusal9, refusal10, refusal11, diskRefusal}
 use Rattle.file_rules.specs.Directory.{dirBytes}
 use Rattle.file_rules.specs.Disk.{Disk, blockOf, offsetOf, diskOf, imageOf}
-use Rattle.file_rules.specs.Laws.Base.Disk.{first-place, first-block, first-offset}
+use Rattle.file_rules.specs.Laws.Base.Disk.{first-byte, first-block, first-offset}
 use Rattle.file_rules.specs.Laws.Base.Header.{judged-alike}
 use Rattle.file_rules.specs.Laws.OnImages.Run.{format-done}
 use Rattle.file_rules.specs.Map.{numberOf, encode}
-use Rattle.file_rules.specs.Sizes.{blockBytes, slotCount}
+use Rattle.file_rules.specs.Sizes.{slotCount}
 use Rattle.file_rules.specs.Written.{fixedByte, diskHeaderByte, diskWith}
 use Rattle.file_rules.specs.HeaderValues.{title, diskHeader, diskFieldNamed, DiskHeaderValues}
 
@@ -57,12 +57,6 @@ named-is image long =
     ∙ by-fault (diskHeaderFault (diskOf image)) (faultBelow blocks (mapFault (diskOf image))) (faultBelow slotCount (fileFault (diskOf image)))
     (freeRight (diskOf image))
 
-first-byte : (image : List ℕ) (o : ℕ) → o < 96 → diskOf image 0 o ≡ getD image o 0
-unfolding diskOf
-first-byte image o l =
-    cond-true _ _ (and-true (lt-true {a = 0} {b = blocks} (lit< tt)) (lt-true {a = o} {b = blockBytes} (omega arith)))
-    ∙ ap (λ (i : ℕ). getD image i 0) (first-place o (omega arith))
-
 -- a disk that has these bytes in each block
 abbrev alone : List ℕ → Disk
 alone start b o = getD start o 0
@@ -75,7 +69,7 @@ module _ (rest : List ℕ) (long : 96 + length rest ≡ imageBytes) where
       ∙ ap faultPlace (judged-alike (diskOf (start ++ rest)) (alone start) (λ o l. same-byte o (omega arith)) (λ o k l. same-byte o (omega arith)))
     where
       same-byte : (o : ℕ) → o < 96 → diskOf (start ++ rest) 0 o ≡ alone start 0 o
-      same-byte o l = first-byte (start ++ rest) o l ∙ List·getD-append start rest 0 o (omega arith)
+      same-byte o l = first-byte (start ++ rest) o (omega arith) ∙ List·getD-append start rest 0 o (omega arith)
 
   rows : (start : ℕ → List ℕ) → ((o : ℕ) → o < 96 → length (start o) ≡ 96)
       → tab (λ (o : ℕ). diskFieldNamed (start o) rest) 96 ≡ tab (λ (o : ℕ). faultPlace (diskHeaderFault (alone (start o)))) 96

@@ -4,9 +4,9 @@ use mathlib.Core.Bool.{cond, _&&_}
 use mathlib.Core.List.{List}
 use mathlib.Core.Logic.{_≢_}
 use mathlib.Core.Path.{_≡_, refl, sym, ap, _∙_, fun-ext}
-use Prim.Native.Nat.{ℕ, _-_, _≤_, _<_}
+use Prim.Native.Nat.{ℕ, _-_, _<_}
 use native.Mathlib.Omega.{arith}
-use lib.Dec.{ltb, lit<, lit≤}
+use lib.Dec.{ltb, lit<}
 use lib.ListN.{length, set, take, length-take}
 use lib.Seq.{getD-take}
 use Rattle.laws.specs.Below.{lowest, count}
@@ -25,15 +25,16 @@ use Rattle.file_rules.specs.Arguments.{FormatArguments}
 use Rattle.file_rules.specs.Calls.{ImageChanged, unless, freshOwner, formatDisk}
 use Rattle.file_rules.specs.Check.{lengthRight, dimensionsFault, diskHeaderFault, recordFault, mapFault, freeRight}
 use Rattle.file_rules.specs.Check.{refusal8, refusal9, refusal11}
-use Rattle.file_rules.specs.Laws.Values.CheckValues.{NothingOutside, HasFreshHeader, fresh-nothing-outside, fresh-header, set-nothing-outside, set-is}
+use Rattle.file_rules.specs.Laws.Values.CheckValues.{NothingOutside, fresh-nothing-outside, set-nothing-outside, set-is}
+use Rattle.file_rules.specs.Laws.Values.CheckValues.{HasFreshHeader, fresh-header, fresh-passes}
 use Rattle.file_rules.specs.Directory.{dirBytes}
 use Rattle.file_rules.specs.Disk.{Disk, imagePlace, diskOf, imageOf, setByte}
 use Rattle.file_rules.specs.FirstTrack.{refusedTrack, counted, firstTrackResult}
 use Rattle.file_rules.specs.Laws.Base.Disk.{first-place, zero-on-track, length-image, disk-image}
-use Rattle.file_rules.specs.Laws.Base.Header.{header-passes}
+use Rattle.file_rules.specs.Laws.Base.Header.{header-none}
 use Rattle.file_rules.specs.Laws.OnImages.Run.{format-done}
 use Rattle.file_rules.specs.Map.{decode, encode, numberOf, numberAt, recordAt, isFree, isSystem, isOther, freeAt, freeCount}
-use Rattle.file_rules.specs.Sizes.{blockBytes, freeSectors}
+use Rattle.file_rules.specs.Sizes.{blockBytes}
 use Rattle.file_rules.specs.Written.{fixedByte, diskHeaderByte, diskWith}
 use Rattle.file_rules.specs.TrackValues.{judgedFirst, FirstTrackValues}
 
@@ -72,13 +73,13 @@ image-is : (d : Disk) → NothingOutside d → firstTrackResult (take 9216 (imag
 image-is d w = whole-is (imageOf d) (length-image d) ∙ ap judgedFirst (disk-image d (λ b o h. w .far b o h) (λ b o h. w .out b o h))
 
 -- what 9 and 11 say of a disk, and its counts
-unfoldable afterHeader : Disk → FirstTrack
-afterHeader d = unless (orElse (refusal9 d) (refusal11 d)) refusedTrack (counted d)
+unfoldable trackAfterHeader : Disk → FirstTrack
+trackAfterHeader d = unless (orElse (refusal9 d) (refusal11 d)) refusedTrack (counted d)
 
 -- where the header is right, they decide
-past-header : (d : Disk) → diskHeaderFault d ≡ Sound → judgedFirst d ≡ afterHeader d
-unfolding judgedFirst afterHeader refusal8 orElse
-past-header d e = rw e refl
+past-header : (d : Disk) → diskHeaderFault d ≡ Sound → judgedFirst d ≡ trackAfterHeader d
+unfolding judgedFirst trackAfterHeader orElse
+past-header d e = rw (header-none d e) refl
 
 -- a fresh disk passes 8, and so does one with another free word
 formatted-passes : (args : FormatArguments) → (diskHeaderFault (formatDisk args) ≡ Sound) × (diskHeaderFault (setByte (formatDisk args) 0 21 0x9B) ≡ Sound)
@@ -88,15 +89,15 @@ formatted-passes args =
     let head : HasFreshHeader args (formatDisk args) = fresh-header args in
     let other : (o : ℕ) → o ≢ 21 → setByte d 0 21 0x9B 0 o ≡ d 0 o =
     λ o k. upd₂-same d 0 (upd (d 0) 21 0x9B) 0 o refl ∙ upd-other (d 0) 21 0x9B o k in (
-      header-passes args 0 (freeSectors (blocks - 2)) 1 (lit≤ tt) (lit< tt) d (λ o h. head o (omega arith)) (λ o k h. head o (omega arith)),
-      header-passes args 0 (freeSectors (blocks - 2)) 1 (lit≤ tt) (lit< tt) (setByte d 0 21 0x9B)
+      fresh-passes args d (λ o h. head o (omega arith)) (λ o k h. head o (omega arith)),
+      fresh-passes args (setByte d 0 21 0x9B)
           (λ o h. other o (omega arith) ∙ head o (omega arith)) (λ o k h. other o (omega arith) ∙ head o (omega arith)),
     )
 
 formatted-is : (args : FormatArguments)
-    → (afterHeader (formatDisk args) ≡ record { reply = replyWith 0 0 0 0; free = 1434; good = 1440; held = 2 })
-    × (afterHeader (setByte (formatDisk args) 0 21 0x9B) ≡ record { reply = replyWith 11 0 0 0; free = 0; good = 0; held = 0 })
-unfolding afterHeader refusal9 refusal11 mapFault recordAt numberAt freeRight freeCount freeAt
+    → (trackAfterHeader (formatDisk args) ≡ record { reply = replyWith 0 0 0 0; free = 1434; good = 1440; held = 2 })
+    × (trackAfterHeader (setByte (formatDisk args) 0 21 0x9B) ≡ record { reply = replyWith 11 0 0 0; free = 0; good = 0; held = 0 })
+unfolding trackAfterHeader refusal9 refusal11 mapFault recordAt numberAt freeRight freeCount freeAt
     counted formatDisk diskWith diskHeaderByte fixedByte patch highByte at16 bigEndian lowest count
     decode encode numberOf freshOwner recordFault isSystem isOther isFree faultBelow unless orElse setByte upd
 formatted-is args = (refl, refl)

@@ -1,10 +1,10 @@
 -- The verdict of a judgement as the code has it, against the definitions' options; and the header's fields.
--- Rests on the disk's bytes (Loading.Blocks) and on the first sector's place (file_rules, Laws.Base.Disk).
+-- Rests on the first bytes of block 0 (file_rules, Laws.Base.Disk).
 use mathlib.Core.Path.{_≡_, refl, sym, ap, ap₂, _∙_}
 use mathlib.Core.Bool.{Bool, _&&_}
 use mathlib.Core.List.{List}
 use mathlib.Core.Option.{Option, none, some}
-use Prim.Native.Nat.{ℕ, _+_, _≤_, _<_}
+use Prim.Native.Nat.{ℕ, _+_, _≤_}
 use native.Mathlib.Omega.{arith}
 use lib.ListN.{length, getD}
 use Rattle.laws.specs.Lists.{same, bytesAre, standsAt}
@@ -20,9 +20,8 @@ use Rattle.sector_rules.specs.Geometry.{sectorBytes}
 use Rattle.files.specs.declared.Verdict.{Verdict}
 use Rattle.files.specs.declared.Verdict.the-variants.{Passed, Refused}
 use Rattle.file_rules.specs.Disk.{Disk, diskOf}
-use Rattle.file_rules.specs.Laws.Base.Disk.{first-place}
+use Rattle.file_rules.specs.Laws.Base.Disk.{first-byte}
 use Rattle.file_rules.specs.Check.{diskHeaderFault, refusal8}
-use Rattle.files.specs.Laws.Loading.Blocks.{disk-in}
 
 -- ---- a verdict
 
@@ -56,10 +55,6 @@ verdict-some none r e = let z : _≡_ {A = ℕ} 0 1 = cc in absurd (omega arith)
 verdict-some (some x) r e = ap some (let z : x ≡ r = cc in z)
 
 -- ---- the header
-
--- the first sector of block 0 is the image's first
-pub first-byte : (l : List ℕ) (o : ℕ) → o < sectorBytes → diskOf l 0 o ≡ getD l o 0
-first-byte l o h = disk-in l 0 o (omega arith) (omega arith) ∙ ap (λ (i : ℕ). getD l i 0) (first-place o h)
 
 bytes-stand : (l : List ℕ) (o : ℕ) (xs : List ℕ) → sectorBytes ≤ length l → o + length xs ≤ sectorBytes → standsAt l o xs ≡ bytesAre (diskOf l 0) o xs
 unfolding standsAt bytesAre
