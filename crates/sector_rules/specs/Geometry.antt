@@ -49,21 +49,21 @@ blocks = allSectors / blockSectors
 abbrev pub imageBytes : ℕ
 imageBytes = allSectors * sectorBytes
 
--- ---- the rule of a track, of which each side has three blocks
+-- ---- the rule of a track, by its six blocks j, three on each side
 
 -- blocks on a side of a track, which are its block pairs: 3 (§1.4)
 abbrev pub sideBlocks : ℕ
 sideBlocks = sectors / blockSectors
 
--- the block pair of block b of a track: an even block and the odd one after it (§1.4)
+-- the block pair of block j of a track: an even block and the odd one after it (§1.4)
 abbrev pub blockPair : ℕ → ℕ
-blockPair b = b / sides
+blockPair j = j / sides
 
--- the side of block b of a track: its parity (§1.4)
+-- the side of block j of a track: its parity (§1.4)
 abbrev pub blockSide : ℕ → ℕ
-blockSide b = b % sides
+blockSide j = j % sides
 
--- the place, on its side, of sector s of a block of this pair: first come the first sectors of all pairs, then the second ones, then the third (§1.4)
+-- the place, on its side, of sector s of a block of this pair: first sector 0 of the side's three blocks, then sector 1 of each, then sector 2 (§1.4)
 abbrev pub sectorPlace : ℕ → ℕ → ℕ
 sectorPlace s pair = sideBlocks * s + pair
 
@@ -75,11 +75,11 @@ pairBlock side pair = sides * pair + side
 abbrev pub sideBit : ℕ
 sideBit = 0x80
 
--- side and place of sector s of block b of a track, as a byte (§1.4)
+-- side and place of sector s of block j of a track, as a byte (§1.4)
 abbrev pub sidePlaceByte : ℕ → ℕ → ℕ
-sidePlaceByte b s = sideBit * blockSide b + sectorPlace s (blockPair b)
+sidePlaceByte j s = sideBit * blockSide j + sectorPlace s (blockPair j)
 
--- the remainder at this side and place: there stands sector place / 3 of a block of pair place mod 3 (§1.6)
+-- the remainder at this side and place: there stands sector place / 3 of this side's block of pair place mod 3 (§1.6)
 abbrev pub remainderAt : ℕ → ℕ → ℕ
 remainderAt side place = blockSectors * pairBlock side (place % sideBlocks) + place / sideBlocks
 

@@ -2,8 +2,8 @@
 -- Rests on the laws of the placement (Laws.Base.Geometry).
 
 -- rule-is-table: the rule gives the 18 bytes of the table of sides and places and, back, the 18 of the other; placement-values: eleven sectors by block and
--- sector, and the image sector of each
-pub use Rattle.sector_rules.specs.Values.{rule-is-table, placement-values}
+-- sector, and the image sector of each; placement-rule: the image sector of every sector of every block, in numbers
+pub use Rattle.sector_rules.specs.Values.{rule-is-table, placement-values, placement-rule}
 -- ---- packing and unpacking
 
 -- round-trip: for every block image of 737,280 bytes, what pack gives is accepted by unpack, which gives the same bytes back (RoundTrip.antt)

@@ -1,10 +1,13 @@
 -- The placement by value (docs/RULES.md, §1.4 to §1.6): rule-is-table, the two tables that the rule gives; placement-values, the image sectors of eleven
--- sectors.
+-- sectors; placement-rule, those of all blocks in one line of numbers.
 -- Assumes nothing.
-use mathlib.Core.Path.{_≡_, refl}
+use mathlib.Core.Path.{_≡_, refl, ap₂, _∙_}
 use mathlib.Core.List.{List, [], _∷_, map}
-use Prim.Native.Nat.{ℕ}
+use Prim.Native.Nat.{ℕ, _+_, _*_, _/_, _%_, _<_}
+use native.Mathlib.Omega.{arith}
+use Rattle.laws.specs.Below.{all}
 use Rattle.laws.specs.Lists.{tab}
+use Rattle.laws.specs.Laws.All.{all-eq}
 use Rattle.sector_rules.specs.Geometry.{running, toImageSector, sidePlace, backward}
 
 -- ---- the two tables
@@ -64,3 +67,20 @@ tableSectors ps = map (λ (p : Placement). p .image) ps
 pub placement-values : definedSectors placements ≡ tableSectors placements
 unfolding definedSectors tableSectors placements placedAt toImageSector sidePlace tab
 placement-values = refl
+
+-- ---- all blocks
+
+-- the image sector of sector s of block b: track b / 6, side b mod 2, place 3s + pair with the block pair b / 2 mod 3, moved by 5 a track (§1.4 §1.5)
+unfoldable pub sectorByBlock : ℕ → ℕ → ℕ
+sectorByBlock b s = 18 * (b / 6) + 9 * (b % 2) + (3 * s + b / 2 % 3 + 5 * (b / 6)) % 9
+
+every-sector : (n : ℕ) → n < 1440 → toImageSector n ≡ sectorByBlock (n / 3) (n % 3)
+unfolding toImageSector sidePlace tab sectorByBlock all
+every-sector = all-eq toImageSector (λ (n : ℕ). sectorByBlock (n / 3) (n % 3)) 1440 refl
+
+-- placement-rule: each sector of each block is there
+pub placement-rule : (b s : ℕ) → b < 480 → s < 3 → toImageSector (running b s) ≡ sectorByBlock b s
+placement-rule b s h k =
+    let q : running b s / 3 ≡ b = omega arith in
+    let r : running b s % 3 ≡ s = omega arith in
+    every-sector (running b s) (omega arith) ∙ ap₂ sectorByBlock q r

@@ -29,7 +29,7 @@ pub use unpacking::unpack;
 pub struct Geometry {}
 
 // Where a sector stands on a track: its side, and its place there before the track offset moves it (§1.4).
-pub struct SidePlace {
+pub struct TrackPlace {
     pub side: usize,
     pub place: usize,
 }

@@ -1,10 +1,10 @@
 // The numbers of the disk kind, each once, and the place of a block's sector in the block image.
 ghost use mathlib.Core.Path.{_≡_};
 ghost use Prim.Native.Nat.{_<_, _/_, _%_};
-ghost use Rattle.sector_rules.specs.Geometry.{sides, sectors, blockSectors, blockPair, blockSide, sectorPlace, remainderAt, sidePlace, backward};
+ghost use Rattle.sector_rules.specs.Geometry.{blockSectors, blockPair, blockSide, sectorPlace, remainderAt, sidePlace, backward};
 ghost use Rattle.sector_rules.specs.Geometry.{running, toImageSector, toRunningSector, placeReply};
 use crate::Geometry;
-use crate::SidePlace;
+use crate::TrackPlace;
 use crate::replies::done_with;
 use crate::replies::refused;
 use sector_rules::BlockNumber;
@@ -43,22 +43,22 @@ impl Geometry {
 
     // Side and place of a remainder by 18 (§1.4): the side is the block's parity, the place is that of sector and block
     // pair.
-    fn side_place(left: usize) -> SidePlace
-        requires { do ⌜ left < (← ⟦Geometry::TRACK_SECTORS⟧) ⌝ }
-        ensures { λ r. ⌜ (r .side ≡ blockSide (left / blockSectors)) × (r .place ≡ sectorPlace (left % blockSectors) (blockPair (left / blockSectors))) ⌝ }
+    fn track_place(remainder: usize) -> TrackPlace
+        requires { do ⌜ remainder < (← ⟦Geometry::TRACK_SECTORS⟧) ⌝ }
+        ensures { λ r. ⌜ (r .side ≡ blockSide (remainder / blockSectors)) × (r .place ≡ sectorPlace (remainder % blockSectors) (blockPair (remainder / blockSectors))) ⌝ }
     {
-        let block = left / Geometry::BLOCK_SECTORS;
-        let sector = left % Geometry::BLOCK_SECTORS;
+        let block = remainder / Geometry::BLOCK_SECTORS;
+        let sector = remainder % Geometry::BLOCK_SECTORS;
         let pair = block / Geometry::SIDES;
-        SidePlace {
+        TrackPlace {
             side: block % Geometry::SIDES,
             place: Geometry::SIDE_BLOCKS * sector + pair,
         }
     }
 
     // The remainder by 18 that stands at a side and place (§1.6).
-    fn remainder_at(at: SidePlace) -> usize
-        requires { ⌜ (at .side < sides) × (at .place < sectors) ⌝ }
+    fn remainder_at(at: TrackPlace) -> usize
+        requires { do ⌜ (at .side < (← ⟦Geometry::SIDES⟧)) × (at .place < (← ⟦Geometry::SECTORS⟧)) ⌝ }
         ensures { λ r. ⌜ r ≡ remainderAt (at .side) (at .place) ⌝ }
     {
         let pair = at.place % Geometry::SIDE_BLOCKS;
@@ -72,9 +72,9 @@ impl Geometry {
         ensures { λ r. ⌜ r ≡ sidePlace ⌝ }
     {
         let mut table = [0u8; Geometry::TRACK_SECTORS];
-        for left in 0..Geometry::TRACK_SECTORS {
-            let at = Geometry::side_place(left);
-            table[left] = (SIDE_BIT * at.side + at.place) as u8;
+        for remainder in 0..Geometry::TRACK_SECTORS {
+            let at = Geometry::track_place(remainder);
+            table[remainder] = (SIDE_BIT * at.side + at.place) as u8;
         }
         table
     }
@@ -85,7 +85,7 @@ impl Geometry {
     {
         let mut table = [0u8; Geometry::TRACK_SECTORS];
         for i in 0..Geometry::TRACK_SECTORS {
-            let at = SidePlace {
+            let at = TrackPlace {
                 side: i / Geometry::SECTORS,
                 place: i % Geometry::SECTORS,
             };
@@ -108,7 +108,7 @@ impl Geometry {
         ensures { λ r. ⌜ r .0 ≡ toImageSector (n .0) ⌝ }
     {
         let track = n.0 / Geometry::TRACK_SECTORS;
-        let at = Geometry::side_place(n.0 % Geometry::TRACK_SECTORS);
+        let at = Geometry::track_place(n.0 % Geometry::TRACK_SECTORS);
         let place = (at.place + Geometry::TRACK_OFFSET * track) % Geometry::SECTORS;
         ImageSector(Geometry::TRACK_SECTORS * track + Geometry::SECTORS * at.side + place)
     }
@@ -122,8 +122,8 @@ impl Geometry {
         let side = m.0 % Geometry::TRACK_SECTORS / Geometry::SECTORS;
         let place = (m.0 % Geometry::SECTORS + (Geometry::SECTORS - Geometry::TRACK_OFFSET) * track)
             % Geometry::SECTORS;
-        let left = Geometry::remainder_at(SidePlace { side, place });
-        RunningSector(Geometry::TRACK_SECTORS * track + left)
+        let remainder = Geometry::remainder_at(TrackPlace { side, place });
+        RunningSector(Geometry::TRACK_SECTORS * track + remainder)
     }
 }
 

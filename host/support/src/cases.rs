@@ -3,6 +3,7 @@
 use crate::hex::from_hex;
 use crate::json::{parse_lines, Value};
 use crate::levels::{later_answer, of_request, LEVEL};
+use std::cell::Cell;
 use std::collections::BTreeMap;
 
 /// How many cases a random test runs: the usual number, or that of the
@@ -81,26 +82,24 @@ impl Requested {
     /// Runs one case of `step`, from case `first` on, with the answer that
     /// holds at the project's level.
     pub fn run(&self, first: usize, step: usize, run: impl Fn(&Value, &Value)) {
-        run_requested(&self.parsed(), first, step, run);
+        run_share(&self.parsed(), first, step, |line| {
+            let (case, answer) = of_request(line, LEVEL);
+            run(case, answer);
+        });
     }
 
     /// Runs all cases of a kind, and of the others none; there have to be
     /// `count` of them.
     pub fn run_kind(&self, kind: &str, count: usize, run: impl Fn(&Value, &Value)) {
-        let mut lines = self.parsed();
-        lines.retain(|line| line.get("case").get("kind").text() == kind);
-        assert_eq!(lines.len(), count, "cases of kind {kind}");
-        run_requested(&lines, 0, 1, run);
+        let found = Cell::new(0);
+        self.run(0, 1, |case, answer| {
+            if case.get("kind").text() == kind {
+                found.set(found.get() + 1);
+                run(case, answer);
+            }
+        });
+        assert_eq!(found.get(), count, "cases of kind {kind}");
     }
-}
-
-/// Runs one case of `step`, from case `first` on, with the answer that holds at
-/// the project's level.
-fn run_requested(lines: &[Value], first: usize, step: usize, run: impl Fn(&Value, &Value)) {
-    run_share(lines, first, step, |line| {
-        let (case, answer) = of_request(line, LEVEL);
-        run(case, answer);
-    });
 }
 
 /// Runs one case of `step`, from case `first` on.

@@ -1,13 +1,13 @@
 -- `Geometry::place` meets its contract.
--- Rests on: the laws in Reading/Placement; the contract of Geometry::side_place.
+-- Rests on: the laws in Reading/Placement; the contract of Geometry::track_place.
 -- Assumes nothing.
 use borrow.Author.Needs.{needs}
 use Rattle.sectors.specs.Laws.Reading.Placement.{image-by-rule}
 use Rattle.sectors.proofs.Geometry.place.Statement.{statement}
 use Rattle.sectors.proofs.Geometry.place.Tie as tie
 
-side-place-requires : tie.Need-side-place-requires
-side-place-requires c κs = search needs
+track-place-requires : tie.Need-track-place-requires
+track-place-requires c κs = search needs
 
 mul-place : tie.Need-mul-place
 mul-place c = search needs
@@ -29,9 +29,9 @@ add-t8 c = search needs
 
 returns : tie.Need-returns
 returns c =
-    let after-side-place = c .before .before in
-    image-by-rule _ _ _ (after-side-place .side-place .ensures .0) (after-side-place .side-place .ensures .1)
+    let after-track-place = c .before .before in
+    image-by-rule _ _ _ (after-track-place .track-place .ensures .0) (after-track-place .track-place .ensures .1)
 
 pub place-spec : {M : Type 1} → statement M
 place-spec =
-    tie.close (tie.spec side-place-requires mul-place add-place mul-t5 mul-t6 add-t7 add-t8 returns)
+    tie.close (tie.spec track-place-requires mul-place add-place mul-t5 mul-t6 add-t7 add-t8 returns)

@@ -22,14 +22,14 @@ remainder-at-requires : tie.Need-remainder-at-requires
 remainder-at-requires c κs = search needs
 
 -- what stands there is a sector of the track
-left-lt : (c : tie.After-remainder-at) → c .remainder-at .result < trackSectors
-left-lt c = rw (c .remainder-at .ensures) (remainder-lt _ _ (omega arith) (omega arith))
+remainder-bound : (c : tie.After-remainder-at) → c .remainder-at .result < trackSectors
+remainder-bound c = rw (c .remainder-at .ensures) (remainder-lt _ _ (omega arith) (omega arith))
 
 mul-t6 : tie.Need-mul-t6
 mul-t6 c = let start = c .before .before .before .before in omega (arith, start .pre)
 
 add-t7 : tie.Need-add-t7
-add-t7 c = let start = c .before .before .before .before in omega (arith, start .pre, left-lt c)
+add-t7 c = let start = c .before .before .before .before in omega (arith, start .pre, remainder-bound c)
 
 returns : tie.Need-returns
 returns c = running-by-rule _ _ (c .remainder-at .ensures)

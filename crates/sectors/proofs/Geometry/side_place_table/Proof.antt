@@ -1,5 +1,5 @@
--- `Geometry::side_place_table` meets its contract: the bytes below `left` are those of the rule.
--- Rests on: the laws of lists and in Reading/Placement; the contract of Geometry::side_place.
+-- `Geometry::side_place_table` meets its contract: the bytes below `remainder` are those of the rule.
+-- Rests on: the laws of lists and in Reading/Placement; the contract of Geometry::track_place.
 -- Assumes nothing.
 use mathlib.Core.Path.{_≡_, refl, ap₂}
 use native.Mathlib.Omega.{arith}
@@ -13,17 +13,17 @@ use Rattle.sectors.proofs.Geometry.side_place_table.Statement.{statemen
 use Rattle.sectors.proofs.Geometry.side_place_table.Tie as tie
 
 abbrev Inv-loop : tie.InvT-loop
-Inv-loop table₀ left₀ table left = (left ≤ trackSectors) × (length table ≡ trackSectors) ×
-    ((l : ℕ) → l < left → getD table l 0 ≡ sidePlaceByte (l / blockSectors) (l % blockSectors))
+Inv-loop table₀ remainder₀ table remainder = (remainder ≤ trackSectors) × (length table ≡ trackSectors) ×
+    ((l : ℕ) → l < remainder → getD table l 0 ≡ sidePlaceByte (l / blockSectors) (l % blockSectors))
 
 abbrev μ-loop : tie.MeasureT-loop
-μ-loop table₀ left₀ table left = trackSectors - left
+μ-loop table₀ remainder₀ table remainder = trackSectors - remainder
 
 loop-holds : tie.Need-loop-holds Inv-loop μ-loop
 loop-holds c = (omega arith, refl, λ l h. absurd (omega arith))
 
-side-place-requires : tie.Need-side-place-requires Inv-loop μ-loop
-side-place-requires c κs = search needs
+track-place-requires : tie.Need-track-place-requires Inv-loop μ-loop
+track-place-requires c κs = search needs
 
 mul-table : tie.Need-mul-table Inv-loop μ-loop
 mul-table c = search needs
@@ -37,21 +37,21 @@ cast-table c = search needs
 array-write-table : tie.Need-array-write-table Inv-loop μ-loop
 array-write-table c = search needs
 
-add-left : tie.Need-add-left Inv-loop μ-loop
-add-left c = search needs
+add-remainder : tie.Need-add-remainder Inv-loop μ-loop
+add-remainder c = search needs
 
 loop-less : tie.Need-loop-less Inv-loop μ-loop
 loop-less c = search needs
 
 loop-again : tie.Need-loop-again Inv-loop μ-loop
 loop-again c =
-    let after-side-place = c .before .before in
-    let at-loop = after-side-place .before .before in (
+    let after-track-place = c .before .before in
+    let at-loop = after-track-place .before .before in (
       omega arith,
       simp length-set (at-loop .loop .inv .1),
-      element-more (at-loop .loop .table) 0 (λ (l : ℕ). sidePlaceByte (l / blockSectors) (l % blockSectors)) (at-loop .loop .left) _ (omega arith)
+      element-more (at-loop .loop .table) 0 (λ (l : ℕ). sidePlaceByte (l / blockSectors) (l % blockSectors)) (at-loop .loop .remainder) _ (omega arith)
           (at-loop .loop .inv .2)
-          (ap₂ (λ (x y : ℕ). sideBit * x + y) (after-side-place .side-place .ensures .0) (after-side-place .side-place .ensures .1)),
+          (ap₂ (λ (x y : ℕ). sideBit * x + y) (after-track-place .track-place .ensures .0) (after-track-place .track-place .ensures .1)),
     )
 
 returns : tie.Need-returns Inv-loop μ-loop
@@ -66,12 +66,12 @@ side-place-table-spec =
     Inv-loop
     μ-loop
     loop-holds
-    side-place-requires
+    track-place-requires
     mul-table
     add-table
     cast-table
     array-write-table
-    add-left
+    add-remainder
     loop-less
     loop-again
     returns)

@@ -26,22 +26,22 @@ unfolding backward
 backward-is t = eq-tab t (λ (i : ℕ). remainderAt (i / sectors) (i % sectors)) trackSectors
 
 -- the entry of the second table for a side and place
-pub backward-at : (side place : ℕ) → side < sides → place < sectors → getD backward (sectors * side + place) 0 ≡ remainderAt side place
+backward-at : (side place : ℕ) → side < sides → place < sectors → getD backward (sectors * side + place) 0 ≡ remainderAt side place
 unfolding backward
 backward-at side place h k =
     let a : (sectors * side + place) / sectors ≡ side = omega arith in
     let b : (sectors * side + place) % sectors ≡ place = omega arith in
     tab-in (λ (i : ℕ). remainderAt (i / sectors) (i % sectors)) trackSectors (sectors * side + place) (omega arith) ∙ ap₂ remainderAt a b
 
--- the side in an entry of the first table is the block's
-pub entry-side : (l : ℕ) → l < trackSectors → getD sidePlace l 0 / sideBit ≡ blockSide (l / blockSectors)
+-- the side in a byte of the first table is the block's
+byte-side : (l : ℕ) → l < trackSectors → getD sidePlace l 0 / sideBit ≡ blockSide (l / blockSectors)
 unfolding sidePlace tab all
-entry-side = all-eq (λ (l : ℕ). getD sidePlace l 0 / sideBit) (λ (l : ℕ). blockSide (l / blockSectors)) trackSectors refl
+byte-side = all-eq (λ (l : ℕ). getD sidePlace l 0 / sideBit) (λ (l : ℕ). blockSide (l / blockSectors)) trackSectors refl
 
 -- the place in it is that of sector and block pair
-pub entry-place : (l : ℕ) → l < trackSectors → getD sidePlace l 0 % sideBit ≡ sectorPlace (l % blockSectors) (blockPair (l / blockSectors))
+byte-place : (l : ℕ) → l < trackSectors → getD sidePlace l 0 % sideBit ≡ sectorPlace (l % blockSectors) (blockPair (l / blockSectors))
 unfolding sidePlace tab all
-entry-place =
+byte-place =
     all-eq (λ (l : ℕ). getD sidePlace l 0 % sideBit) (λ (l : ℕ). sectorPlace (l % blockSectors) (blockPair (l / blockSectors))) trackSectors refl
 
 -- what stands at a side and place is a sector of a track
@@ -57,12 +57,12 @@ pub image-by-rule : (n side place : ℕ) → side ≡ blockSide (n % trackSector
 unfolding toImageSector
 image-by-rule n side place e f =
     ap₂ (λ (x y : ℕ). trackSectors * (n / trackSectors) + sectors * x + (y + trackOffset * (n / trackSectors)) % sectors)
-    (e ∙ sym (entry-side (n % trackSectors) (omega arith))) (f ∙ sym (entry-place (n % trackSectors) (omega arith)))
+    (e ∙ sym (byte-side (n % trackSectors) (omega arith))) (f ∙ sym (byte-place (n % trackSectors) (omega arith)))
 
 -- the running sector by the remainder at side and place
-pub running-by-rule : (m left : ℕ)
-    → left ≡ remainderAt (m % trackSectors / sectors) ((m % sectors + (sectors - trackOffset) * (m / trackSectors)) % sectors)
-    → trackSectors * (m / trackSectors) + left ≡ toRunningSector m
+pub running-by-rule : (m remainder : ℕ)
+    → remainder ≡ remainderAt (m % trackSectors / sectors) ((m % sectors + (sectors - trackOffset) * (m / trackSectors)) % sectors)
+    → trackSectors * (m / trackSectors) + remainder ≡ toRunningSector m
 unfolding toRunningSector
-running-by-rule m left e =
+running-by-rule m remainder e =
     ap (λ (x : ℕ). trackSectors * (m / trackSectors) + x) (e ∙ sym (backward-at (m % trackSectors / sectors) _ (omega arith) (omega arith)))

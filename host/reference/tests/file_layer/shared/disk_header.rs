@@ -42,6 +42,20 @@ fn every_byte_alone() {
     }
 }
 
+/// Of a table every bit counts (§6.7 §7.8).
+#[test]
+fn every_bit_of_the_tables() {
+    let image = fresh();
+    for offset in 40..76 {
+        let field = if offset < 58 { 40 } else { 58 };
+        for bit in 0..8 {
+            let mut image = image.clone();
+            image[offset] ^= 1 << bit;
+            assert_eq!(judged(&image), [8, field, 0, 0], "{offset}, bit {bit}");
+        }
+    }
+}
+
 /// Which lengths a directory can have (§6.6).
 #[test]
 fn directory_lengths() {

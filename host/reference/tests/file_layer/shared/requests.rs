@@ -123,8 +123,8 @@ fn histories_of_four() {
     FOUR.run_kind("history", 17, run_history);
 }
 
-/// The tables as the check reads them (§6.7), right and wrong ones, on disks of
-/// other makers (§7.8).
+/// The tables as the check reads them (§6.7), on disks of other makers, two of
+/// which have another first table (§7.8).
 #[test]
 fn disks_of_four() {
     FOUR.run_kind("disk", 37, run_disk);
