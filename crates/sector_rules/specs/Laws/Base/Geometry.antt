@@ -8,20 +8,19 @@ use Rattle.laws.specs.Below.{all}
 use Rattle.laws.specs.Lists.{tab}
 use Rattle.laws.specs.Laws.All.{all-eq, all-lt}
 use Rattle.laws.specs.Laws.Tab.{tab-length}
-use Rattle.sector_rules.specs.Geometry.{sectors, blockSectors, trackSectors, allSectors, sidePlaceByte, remainderAt, sidePlace, backward}
-use Rattle.sector_rules.specs.Geometry.{toImageSector, toRunningSector}
+use Rattle.sector_rules.specs.Geometry.{sectors, trackSectors, allSectors, sidePlace, backward, toImageSector, toRunningSector}
 
 -- ---- the tables
 
 -- the first table has an entry for each sector of a track
 pub side-place-length : length sidePlace ≡ trackSectors
 unfolding sidePlace
-side-place-length = tab-length (λ (l : ℕ). sidePlaceByte (l / blockSectors) (l % blockSectors)) trackSectors
+side-place-length = tab-length _ trackSectors
 
 -- and so has the second
 pub backward-length : length backward ≡ trackSectors
 unfolding backward
-backward-length = tab-length (λ (i : ℕ). remainderAt (i / sectors) (i % sectors)) trackSectors
+backward-length = tab-length _ trackSectors
 
 -- an entry of the first table as a sector of track 0, and back by the second
 pub forth-back : (k : ℕ) → k < trackSectors → getD backward (sectors * (getD sidePlace k 0 / 128) + getD sidePlace k 0 % 128) 0 ≡ k
