@@ -47,9 +47,13 @@ numberOf Other = 0xFFFFFF
 unfoldable pub encode : Record → ℕ → ℕ
 encode r = highByte recordBytes (numberOf r)
 
+-- byte i of block b's record (§6.8)
+abbrev pub recordByte : Disk → ℕ → ℕ → ℕ
+recordByte d b i = d 0 (mapStart + recordBytes * b + i)
+
 -- the number of block b's record (§6.8)
 unfoldable pub numberAt : Disk → ℕ → ℕ
-numberAt d b = bigEndian (λ (i : ℕ). d 0 (mapStart + recordBytes * b + i)) recordBytes
+numberAt d b = bigEndian (recordByte d b) recordBytes
 
 -- the record of block b (§6.8)
 unfoldable pub recordAt : Disk → ℕ → Record

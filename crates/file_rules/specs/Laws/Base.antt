@@ -1,8 +1,12 @@
--- Stage 1: the definitions by themselves. The disk in block order and its image, its header, disks given by header, records and contents, names, result
--- buffers, and calls that judge a disk first.
+-- Stage 1: the definitions by themselves. The disk in block order and its image, its header, its records in their bytes, disks given by header, records
+-- and contents, names, result buffers, what a sound disk has, what its first track says, and calls that judge a disk
+-- first.
 pub mod Disk
 pub mod Header
+pub mod Records
 pub mod Whole
 pub mod Names
 pub mod Results
+pub mod Sound
+pub mod Track
 pub mod OnSound

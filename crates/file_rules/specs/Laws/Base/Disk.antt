@@ -118,19 +118,32 @@ pub length-image : (d : Disk) → length (imageOf d) ≡ imageBytes
 unfolding imageOf
 length-image d = tab-length (λ (i : ℕ). d (blockOf i) (offsetOf i)) imageBytes
 
+-- inside the blocks the disk of a disk's image has the disk's bytes
+pub inside-disk : (d : Disk) (b o : ℕ) → b < blocks → o < blockBytes → diskOf (imageOf d) b o ≡ d b o
+unfolding diskOf imageOf
+inside-disk d b o hb ho =
+    cond-true _ _ (and-true (lt-true hb) (lt-true ho))
+    ∙ tab-in (λ (i : ℕ). d (blockOf i) (offsetOf i)) imageBytes (imagePlace b o) (image-place-lt b o hb ho)
+    ∙ ap₂ d (block-byte b o hb ho) (offset-byte b o hb ho)
+
+-- past the end of a block the disk of an image is zero
+pub outside-disk : (l : List ℕ) (b o : ℕ) → blockBytes ≤ o → diskOf l b o ≡ 0
+unfolding diskOf
+outside-disk l b o h = cond-false _ _ (and-false-right (ltb b blocks) (lt-false h))
+
+-- so it is past the last block
+pub far-disk : (l : List ℕ) (b o : ℕ) → blocks ≤ b → diskOf l b o ≡ 0
+unfolding diskOf
+far-disk l b o h = cond-false _ _ (and-false-left (ltb o blockBytes) (lt-false h))
+
 -- a disk that is zero outside its blocks is the disk of its image
 pub disk-image : (d : Disk) → ((b o : ℕ) → blocks ≤ b → d b o ≡ 0) → ((b o : ℕ) → blockBytes ≤ o → d b o ≡ 0) → diskOf (imageOf d) ≡ d
 unfolding diskOf imageOf
 disk-image d far out =
     fun-ext (λ (b : ℕ). fun-ext (λ (o : ℕ).
     by-order b blocks
-    (λ hb. by-order o blockBytes
-    (λ ho.
-    cond-true _ _ (and-true (lt-true hb) (lt-true ho))
-    ∙ tab-in (λ (i : ℕ). d (blockOf i) (offsetOf i)) imageBytes (imagePlace b o) (image-place-lt b o hb ho)
-    ∙ ap₂ d (block-byte b o hb ho) (offset-byte b o hb ho))
-    (λ k. cond-false _ _ (and-false-right (ltb b blocks) (lt-false k)) ∙ sym (out b o k)))
-    (λ k. cond-false _ _ (and-false-left (ltb o blockBytes) (lt-false k)) ∙ sym (far b o k))))
+    (λ hb. by-order o blockBytes (inside-disk d b o hb) (λ k. outside-disk (imageOf d) b o k ∙ sym (out b o k)))
+    (λ k. far-disk (imageOf d) b o k ∙ sym (far b o k))))
 
 -- an image of the right length is the image of its disk
 pub image-disk : (l : List ℕ) → length l ≡ imageBytes → imageOf (diskOf l) ≡ l

@@ -1,5 +1,5 @@
 -- What is read of a disk that is given by its header, records and contents (`diskWith`), and which such disk the single steps leave.
--- Rests on the laws of numbers in bytes and of changed rows (laws, Numbers and Changes).
+-- Rests on a record's three bytes (Records) and on the laws of changed rows (laws, Changes).
 use mathlib.Core.Path.{_≡_, refl, sym, ap, ap₂, _∙_, subst, fun-ext}
 use mathlib.Core.Logic.{_≢_}
 use mathlib.Core.Bool.{Bool, true, cond}
@@ -8,62 +8,26 @@ use native.Mathlib.Omega.{arith}
 use lib.Dec.{ltb}
 use Rattle.laws.specs.Changes.{upd, patch}
 use Rattle.laws.specs.Below.{count, lowest}
-use Rattle.laws.specs.Numbers.{bigEndian}
 use Rattle.laws.specs.Laws.Cases.{by-order, by-equal, by-test}
 use Rattle.laws.specs.Laws.Tests.{lt-true, lt-false, eq-false, true≢false, cond-true, cond-false, and-true, and-false-left, and-false-right}
 use Rattle.laws.specs.Laws.Lowest.{lowest-cong}
 use Rattle.laws.specs.Laws.Changes.{upd-same, upd-other, upd₂-same, upd₂-other, patch-in, patch-below, patch-above, by-place}
 use Rattle.laws.specs.Laws.Count.{count-cong}
-use Rattle.laws.specs.Laws.Numbers.{high-is}
 use Rattle.sector_rules.specs.Geometry.{blocks}
 use Rattle.file_rules.specs.declared.Record.{Record}
-use Rattle.file_rules.specs.declared.Record.the-variants.{Free, System, File, Other}
+use Rattle.file_rules.specs.declared.Record.the-variants.{Free, System}
 use Rattle.file_rules.specs.Disk.{Disk}
-use Rattle.file_rules.specs.Map.{fileBound, sequences, decode, numberOf, encode, numberAt, recordAt, isFree, bears, isPart, freeAt, freeCount, partBlock}
+use Rattle.file_rules.specs.Map.{encode, recordByte, numberAt, recordAt, isFree, bears, isPart, freeAt, freeCount, partBlock}
+use Rattle.file_rules.specs.Laws.Base.Records.{Valid, decode-bytes, record-set, record-beside}
 use Rattle.file_rules.specs.Sizes.{blockBytes, mapStart, recordBytes}
 use Rattle.file_rules.specs.Written.{diskWith, part, zeros, setBlock, setRecord, freeBlock, freeBlocks}
-
--- ---- a record's three bytes say the record
-
--- a record that a step can write: of a kind, with file number and sequence that fit its 24 bits (§6.8, §6.9)
-abbrev pub Valid : Record → Type 0
-Valid Free = Unit {0}
-Valid System = Unit {0}
-Valid (File f s) = (f < fileBound / sequences) × (s < sequences)
-Valid Other = ⊥
-
--- a record's number says the record
-pub decode-number : (r : Record) → Valid r → decode (numberOf r) ≡ r
-unfolding decode numberOf
-decode-number Free v = refl
-decode-number System v = refl
-decode-number (File f s) v =
-    let a : (f * sequences + s) / sequences ≡ f = omega (arith, v .0, v .1) in
-    let b : (f * sequences + s) % sequences ≡ s = omega (arith, v .0, v .1) in
-    let c : f * sequences + s < fileBound = omega (arith, v .0, v .1) in
-    cond-true _ _ (lt-true c) ∙ ap₂ File a b
-decode-number Other v = absurd v
-
-number-most : (r : Record) → Valid r → numberOf r < 0x1000000
-unfolding numberOf
-number-most Free v = omega arith
-number-most System v = omega arith
-number-most (File f s) v = omega (arith, v .0, v .1)
-number-most Other v = absurd v
-
--- three bytes that are those of a record say the record
-pub decode-bytes : (f : ℕ → ℕ) (r : Record) → Valid r → ((i : ℕ) → i < recordBytes → f i ≡ encode r i) → decode (bigEndian f recordBytes) ≡ r
-unfolding encode
-decode-bytes f r v e =
-    let q : numberOf r % 0x1000000 ≡ numberOf r = omega (arith, number-most r v) in
-    ap decode (high-is f recordBytes (numberOf r) e ∙ q) ∙ decode-number r v
 
 -- ---- a disk by its places
 
 -- disk d has the header h, the records `owner` in its map and `content` of each record in its block, and is zero outside its blocks
 pub record With (d : Disk) (h : ℕ → ℕ) (owner : ℕ → Record) (content : Record → ℕ → ℕ) : Type 0 where
   pub head : (o : ℕ) → o < mapStart → d 0 o ≡ h o
-  pub map : (b i : ℕ) → b < blocks → i < recordBytes → d 0 (mapStart + recordBytes * b + i) ≡ encode (owner b) i
+  pub map : (b i : ℕ) → b < blocks → i < recordBytes → recordByte d b i ≡ encode (owner b) i
   pub block : (b o : ℕ) → 0 < b → b < blocks → o < blockBytes → d b o ≡ content (owner b) o
   pub far : (b o : ℕ) → blocks ≤ b → d b o ≡ 0
   pub out : (b o : ℕ) → blockBytes ≤ o → d b o ≡ 0
@@ -117,7 +81,7 @@ module _ (d : Disk) (h : ℕ → ℕ) (owner : ℕ → Record) (content : Record
   -- the record that is read of a block is the one given
   pub record-is : (b : ℕ) → b < blocks → Valid (owner b) → recordAt d b ≡ owner b
   unfolding recordAt numberAt
-  record-is b k v = decode-bytes (λ (i : ℕ). d 0 (mapStart + recordBytes * b + i)) (owner b) v (λ i l. p .map b i k l)
+  record-is b k v = decode-bytes (recordByte d b) (owner b) v (λ i l. p .map b i k l)
 
   module _ (v : (b : ℕ) → b < blocks → Valid (owner b)) where
     -- a block is read as free if its record is the free one
@@ -151,14 +115,9 @@ module _ (d : Disk) (h : ℕ → ℕ) (owner : ℕ → Record) (content : Record
         head = λ o k.
             upd₂-same d₁ 0 F 0 o refl ∙ patch-below (d₁ 0) (mapStart + recordBytes * b) recordBytes (encode r) o (omega arith) ∙ zero-row o ∙ p .head o k;
         map = λ b′ i k l.
-            upd₂-same d₁ 0 F 0 (mapStart + recordBytes * b′ + i) refl
-            ∙ by-equal b′ b
-            (λ e. patch-in (d₁ 0) (mapStart + recordBytes * b) recordBytes (encode r) (mapStart + recordBytes * b′ + i) (omega arith) (omega arith)
-            ∙ ap₂ encode (sym (upd-same owner b r b′ e)) (omega arith))
-            (λ e. by-order b′ b
-            (λ q. patch-below (d₁ 0) (mapStart + recordBytes * b) recordBytes (encode r) (mapStart + recordBytes * b′ + i) (omega arith))
-            (λ q. patch-above (d₁ 0) (mapStart + recordBytes * b) recordBytes (encode r) (mapStart + recordBytes * b′ + i) (omega arith))
-            ∙ zero-row (mapStart + recordBytes * b′ + i) ∙ p .map b′ i k l
+            by-equal b′ b
+            (λ e. ap (λ (x : ℕ). recordByte (setRecord d₁ b r) x i) e ∙ record-set d₁ b r i l ∙ ap (λ (x : Record). encode x i) (sym (upd-same owner b r b′ e)))
+            (λ e. record-beside d₁ b r b′ i e l ∙ zero-row (mapStart + recordBytes * b′ + i) ∙ p .map b′ i k l
             ∙ ap (λ (x : Record). encode x i) (sym (upd-other owner b r b′ e)));
         block = λ b′ o j k l.
             upd₂-other d₁ 0 F b′ o (omega arith)

@@ -20,7 +20,8 @@ use Rattle.file_rules.specs.Laws.InnerModel.Reads.{dirEnd-is, rec, entry
 use Rattle.file_rules.specs.Laws.InnerModel.Inner.{Inner, header, render}
 use Rattle.file_rules.specs.Laws.InnerModel.Invariant.{Inv}
 use Rattle.file_rules.specs.Laws.FilesLeft.Present.{Fills, fills-present}
-use Rattle.file_rules.specs.Laws.Base.Whole.{Valid, with-is}
+use Rattle.file_rules.specs.Laws.Base.Records.{Valid}
+use Rattle.file_rules.specs.Laws.Base.Whole.{with-is}
 use Rattle.file_rules.specs.Model.{NamedFile, HeldFile, slotOf, heldBytes, dirByte, content}
 use Rattle.file_rules.specs.Sizes.{blockBytes, slotBytes, blockSlots}
 use Rattle.file_rules.specs.Written.{storedByte, part}

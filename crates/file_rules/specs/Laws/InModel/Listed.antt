@@ -22,7 +22,8 @@ use Rattle.file_rules.specs.declared.Record.the-variants.{Free, System, 
 use Rattle.file_rules.specs.Laws.InnerModel.Inner.{Inner, give, freeOf}
 use Rattle.file_rules.specs.Laws.InnerModel.Invariant.{Owned}
 use Rattle.file_rules.specs.Laws.InnerModel.Owners.{keeps, still-free}
-use Rattle.file_rules.specs.Laws.Base.Whole.{Valid, unowned}
+use Rattle.file_rules.specs.Laws.Base.Records.{Valid}
+use Rattle.file_rules.specs.Laws.Base.Whole.{unowned}
 use Rattle.file_rules.specs.Map.{isFree}
 use Rattle.file_rules.specs.Model.{FilledSlot, Model, fileOf, takenBy, position, orRecord, slotRecord, modelRecord}
 

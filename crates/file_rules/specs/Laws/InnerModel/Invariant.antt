@@ -11,7 +11,7 @@ use Rattle.file_rules.specs.declared.Record.{Record}
 use Rattle.file_rules.specs.declared.Record.the-variants.{System, File}
 use Rattle.file_rules.specs.Directory.{nameEq}
 use Rattle.file_rules.specs.Laws.InnerModel.Inner.{Inner, fileBlocks, freeOf}
-use Rattle.file_rules.specs.Laws.Base.Whole.{Valid}
+use Rattle.file_rules.specs.Laws.Base.Records.{Valid}
 use Rattle.file_rules.specs.Model.{NamedFile, heldBlocks, dirBlocks, usable}
 use Rattle.file_rules.specs.Sizes.{nameMost}
 

@@ -30,7 +30,7 @@ use Rattle.file_rules.specs.Disk.{Disk}
 use Rattle.file_rules.specs.Laws.InnerModel.Inner.{Inner, header, render}
 use Rattle.file_rules.specs.Laws.InnerModel.Invariant.{partsOf, Inv}
 use Rattle.file_rules.specs.Laws.Base.Header.{header-none, header-passes}
-use Rattle.file_rules.specs.Laws.Base.Whole.{Valid}
+use Rattle.file_rules.specs.Laws.Base.Records.{Valid}
 use Rattle.file_rules.specs.Map.{recordAt, isSystem, isOther, bears, isPart, within, freeCount}
 use Rattle.file_rules.specs.Model.{NamedFile, HeldFile, freeWord, content}
 use Rattle.file_rules.specs.Sizes.{slotBytes, slotCount, nameMost, freeSectors, blocksOf}

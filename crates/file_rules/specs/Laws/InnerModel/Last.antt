@@ -19,7 +19,8 @@ use Rattle.file_rules.specs.Disk.{Disk}
 use Rattle.file_rules.specs.Laws.InnerModel.Fields.{isPart-true, true-isPart}
 use Rattle.file_rules.specs.Laws.InnerModel.Inner.{freeOf}
 use Rattle.file_rules.specs.Laws.InnerModel.Invariant.{Owned}
-use Rattle.file_rules.specs.Laws.Base.Whole.{Valid, With, freeCount-is, partBlock-is, write-head, write-block, with-same}
+use Rattle.file_rules.specs.Laws.Base.Records.{Valid}
+use Rattle.file_rules.specs.Laws.Base.Whole.{With, freeCount-is, partBlock-is, write-head, write-block, with-same}
 use Rattle.file_rules.specs.Map.{isSystem, isPart, freeCount, partBlock}
 use Rattle.file_rules.specs.Model.{HeldFile, slotOf, dirByte, content, wrap}
 use Rattle.file_rules.specs.Sizes.{blockBytes, slotBytes, blockSlots, freeSectors, wholeBlocks, bytesOver}

@@ -22,7 +22,8 @@ use Rattle.file_rules.specs.declared.Record.the-variants.{Free, System, 
 use Rattle.file_rules.specs.Laws.InnerModel.Fields.{isPart-true, true-isPart}
 use Rattle.file_rules.specs.Laws.InnerModel.Inner.{give, freeOf}
 use Rattle.file_rules.specs.Laws.InnerModel.Invariant.{Owned}
-use Rattle.file_rules.specs.Laws.Base.Whole.{Valid, unowned}
+use Rattle.file_rules.specs.Laws.Base.Records.{Valid}
+use Rattle.file_rules.specs.Laws.Base.Whole.{unowned}
 use Rattle.file_rules.specs.Map.{fileBound, sequences, isFree, isSystem, bears, isPart}
 
 -- ---- one record freed

@@ -37,7 +37,8 @@ use Rattle.file_rules.specs.Laws.InnerModel.Inner.{roomFor, innerAdd, in
 use Rattle.file_rules.specs.Laws.InnerModel.Invariant.{partsOf, Inv}
 use Rattle.file_rules.specs.Laws.Base.Names.{name-bounds}
 use Rattle.file_rules.specs.Laws.OnImages.Remove.{remove-inv, remove-image}
-use Rattle.file_rules.specs.Laws.Base.Whole.{Valid, with-is, with-only, with-same}
+use Rattle.file_rules.specs.Laws.Base.Records.{Valid}
+use Rattle.file_rules.specs.Laws.Base.Whole.{with-is, with-only, with-same}
 use Rattle.file_rules.specs.Map.{isFree, isSystem}
 use Rattle.file_rules.specs.Model.{NamedFile, heldBlocks, dirBlocks, freeWord, slotOf, heldBytes, dirByte, content}
 use Rattle.file_rules.specs.Sizes.{blockBytes, nameMost, titleMost}

@@ -14,6 +14,7 @@ use Rattle.laws.specs.Options.{isSome}
 use Rattle.laws.specs.Laws.Cases.{by-order, by-test}
 use Rattle.laws.specs.Laws.Tests.{lt-true, lt-false, true≢false, cond-true, cond-false, and-true}
 use Rattle.laws.specs.Laws.Lowest.{lowest-low}
+use Rattle.sector_rules.specs.Geometry.{imageBytes}
 use Rattle.sector_rules.specs.Replies.{done, refusal}
 use Rattle.file_rules.specs.Calls.{Outcome, ImageChanged, bufferKept, freshOwner, formatDisk, format, check, deliver, read, add}
 use Rattle.file_rules.specs.Directory.{nameEq, nameRight, held, dirEnd}
@@ -36,7 +37,7 @@ use Rattle.file_rules.specs.Laws.Base.Results.{result-is}
 use Rattle.file_rules.specs.Laws.OnImages.Run.{format-done, format-is, format-inv, img-disk, img-sound, out-is, runs, end-inv}
 use Rattle.file_rules.specs.Laws.FilesLeft.Zero.{by-slot, filled-below, slot-entry, zero-outside}
 use Rattle.file_rules.specs.Model.{NamedFile, HeldFile, Model, dirBlocks, usable, freeWord, modelDisk, modelFormat, hasName, heldData}
-use Rattle.file_rules.specs.Sizes.{nameMost}
+use Rattle.file_rules.specs.Sizes.{nameMost, titleMost}
 use Rattle.file_rules.specs.Written.{blocksFor}
 
 -- ---- the accepted format
@@ -201,20 +202,23 @@ module _ (args : FormatArguments) (calls : List Call) where
       room-left : dirBlocks P + blocksOfFiles fs ≤ usable
       room-left = omega (arith, v .free-sum, ap dirBlocks peak-most-is, present-blocks m v fs (both .0))
 
+formatted-is : (old : List ℕ) (args : FormatArguments) → length old ≡ imageBytes → length (args .title) ≤ titleMost
+    → formatted old args ≡ imageOf (render (innerFormat args))
+formatted-is old args long short = ap (λ (w : ImageChanged). w .image) (format-done old args long short) ∙ ap imageOf (format-is args)
+
+-- the image at the end of a history is the inner model's
+pub end-is : (old : List ℕ) (args : FormatArguments) (calls : List Call) → length old ≡ imageBytes → length (args .title) ≤ titleMost
+    → imageEnd (formatted old args) calls ≡ imageOf (render (innerEnd (innerFormat args) calls))
+end-is old args calls long short =
+    ap (λ (l : List ℕ). imageEnd l calls) (formatted-is old args long short) ∙ runs calls (innerFormat args) (format-inv args) .1
+
 -- for every history each reply, each result buffer and the whole image are the model's, and what the model says of them holds
 pub history : EveryHistory
 history old args calls long short =
-    let f : format old args ≡ record { answer = done; image = imageOf (formatDisk args) } = format-done old args long short in
-    let start : formatted old args ≡ imageOf (render (innerFormat args)) =
-    ap (λ (w : ImageChanged). w .image) f ∙ ap imageOf (format-is args) in
-    let run : (imageOuts (imageOf (render (innerFormat args))) calls ≡ innerOuts (innerFormat args) calls)
-    × (imageEnd (imageOf (render (innerFormat args))) calls ≡ imageOf (render (innerEnd (innerFormat args) calls))) =
-    runs calls (innerFormat args) (format-inv args) in
-    let e : imageEnd (formatted old args) calls ≡ imageOf (render (innerEnd (innerFormat args) calls)) =
-    ap (λ (l : List ℕ). imageEnd l calls) start ∙ run .1 in
+    let e : imageEnd (formatted old args) calls ≡ imageOf (render (innerEnd (innerFormat args) calls)) = end-is old args calls long short in
     let o : imageOuts (formatted old args) calls ≡ innerOuts (innerFormat args) calls =
-    ap (λ (l : List ℕ). imageOuts l calls) start ∙ run .0 in (
-      ap (λ (w : ImageChanged). w .answer) f,
+    ap (λ (l : List ℕ). imageOuts l calls) (formatted-is old args long short) ∙ runs calls (innerFormat args) (format-inv args) .0 in (
+      ap (λ (w : ImageChanged). w .answer) (format-done old args long short),
       subst (λ (im : List ℕ). Holds args calls im (imageOuts (formatted old args) calls)
           (filesLeft [] calls (imageOuts (formatted old args) calls)) (mostPresent [] calls (imageOuts (formatted old args) calls))) (sym e)
           (subst (λ (xs : List Outcome).
@@ -228,11 +232,7 @@ unfolding check
 history-check old args calls long short =
     let n : Inner = innerEnd (innerFormat args) calls in
     let w : Inv n = end-inv calls (innerFormat args) (format-inv args) in
-    let f : format old args ≡ record { answer = done; image = imageOf (formatDisk args) } = format-done old args long short in
-    let e : imageEnd (formatted old args) calls ≡ imageOf (render n) =
-    ap (λ (l : List ℕ). imageEnd l calls) (ap (λ (x : ImageChanged). x .image) f ∙ ap imageOf (format-is args))
-    ∙ runs calls (innerFormat args) (format-inv args) .1 in
-    ap check e ∙ img-sound n w _ _
+    ap check (end-is old args calls long short) ∙ img-sound n w _ _
 
 -- each byte of an image is a byte of its disk
 pub every-byte : EveryByte

@@ -7,6 +7,7 @@ use mathlib.Core.List.{List}
 use Prim.Native.Nat.{ℕ}
 use lib.Dec.{leb, ltb}
 use lib.ListN.{length}
+use Rattle.laws.specs.Laws.Cases.{by-cond}
 use Rattle.laws.specs.Laws.Tests.{eq-false, cond-false}
 use Rattle.sector_rules.specs.Geometry.{imageBytes}
 use Rattle.sector_rules.specs.Replies.{done, refusal}
@@ -37,24 +38,20 @@ diskKept-keeps d r n = refl
 done-keeps : (d d′ : Disk) → KeepsDisk d (record { answer = done; diskAfter = d′ })
 done-keeps d d′ n = absurd (n refl)
 
-by-cond : (d : Disk) (b : Bool) (x y : DiskChanged) → KeepsDisk d x → KeepsDisk d y → KeepsDisk d (cond b x y)
-by-cond d true x y p q = p
-by-cond d false x y p q = q
-
 addSound-keeps : (d : Disk) (name : List ℕ) (date : ℕ) (content : List ℕ) → KeepsDisk d (addSound d name date content)
 unfolding addSound
 addSound-keeps d name date content =
-    by-cond d (nameRight name) _ _
-    (by-cond d (ltb (findName d name) (dirEnd d)) _ _ (diskKept-keeps d _)
-    (by-cond d (leb (needed d (vacantSlot d) (length content)) (freeCount d)) _ _ (done-keeps d _) (diskKept-keeps d _)))
-    (diskKept-keeps d _)
+    by-cond (KeepsDisk d) (nameRight name) _ _
+    (λ t. by-cond (KeepsDisk d) (ltb (findName d name) (dirEnd d)) _ _ (λ u. diskKept-keeps d _)
+    (λ u. by-cond (KeepsDisk d) (leb (needed d (vacantSlot d) (length content)) (freeCount d)) _ _ (λ r. done-keeps d _) (λ r. diskKept-keeps d _)))
+    (λ t. diskKept-keeps d _)
 
 removeSound-keeps : (d : Disk) (name : List ℕ) → KeepsDisk d (removeSound d name)
 unfolding removeSound
 removeSound-keeps d name =
-    by-cond d (nameRight name) _ _
-    (by-cond d (ltb (findName d name) (dirEnd d)) _ _ (done-keeps d _) (diskKept-keeps d _))
-    (diskKept-keeps d _)
+    by-cond (KeepsDisk d) (nameRight name) _ _
+    (λ t. by-cond (KeepsDisk d) (ltb (findName d name) (dirEnd d)) _ _ (λ u. done-keeps d _) (λ u. diskKept-keeps d _))
+    (λ t. diskKept-keeps d _)
 
 -- ---- on an image
 

@@ -1,5 +1,5 @@
 -- The first track by value: the proof of first-track-values (TrackValues.antt).
--- Rests on: block 0 lies within the first 9,216 bytes; CheckValues beside it; the laws of the disk in block order (Base/Disk).
+-- Rests on: what the first track is enough for (Base/Track); CheckValues beside it; the laws of the disk in block order (Base/Disk).
 use mathlib.Core.Bool.{cond, _&&_}
 use mathlib.Core.List.{List}
 use mathlib.Core.Logic.{_≢_}
@@ -32,6 +32,7 @@ use Rattle.file_rules.specs.Disk.{Disk, imagePlace, diskOf, imageOf, set
 use Rattle.file_rules.specs.FirstTrack.{refusedTrack, counted, firstTrackResult}
 use Rattle.file_rules.specs.Laws.Base.Disk.{first-place, zero-on-track, length-image, disk-image}
 use Rattle.file_rules.specs.Laws.Base.Header.{header-none}
+use Rattle.file_rules.specs.Laws.Base.Track.{track-is}
 use Rattle.file_rules.specs.Laws.OnImages.Run.{format-done}
 use Rattle.file_rules.specs.Map.{decode, encode, numberOf, numberAt, recordAt, isFree, isSystem, isOther, freeAt, freeCount}
 use Rattle.file_rules.specs.Sizes.{blockBytes}
@@ -42,35 +43,9 @@ length-is : (track : List ℕ) → length track ≢ 9216 → firstTrackResult tr
 unfolding firstTrackResult
 length-is track h = cond-false _ _ (eq-false h)
 
--- only block 0 is judged
-block-alone : (d : Disk) → judgedFirst d ≡ judgedFirst (λ (b : ℕ). d 0)
-unfolding judgedFirst refusal8 refusal9 refusal11 diskHeaderFault dimensionsFault lengthRight dirBytes mapFault recordAt numberAt freeRight freeCount freeAt
-    counted
-block-alone d = refl
-
-zero-alike : (image : List ℕ) → diskOf (take 9216 image) 0 ≡ diskOf image 0
-unfolding diskOf
-zero-alike image =
-    fun-ext (λ (o : ℕ). by-order o blockBytes
-    (λ l. ap (λ (v : ℕ). cond (ltb 0 blocks && ltb o blockBytes) v 0) (getD-take 9216 image (imagePlace 0 o) 0 (zero-on-track o l)))
-    (λ g. cond-false _ _ (and-false-right (ltb 0 blocks) (lt-false g)) ∙ sym (cond-false _ _ (and-false-right (ltb 0 blocks) (lt-false g)))))
-
-whole-is : (image : List ℕ) → length image ≡ imageBytes → firstTrackResult (take 9216 image) ≡ judgedFirst (diskOf image)
-whole-is image long =
-    right
-    ∙ block-alone (diskOf (take 9216 image))
-    ∙ ap (λ (f : ℕ → ℕ). judgedFirst (λ (b : ℕ). f)) (zero-alike image)
-    ∙ sym (block-alone (diskOf image))
-  where
-    long-is : length (take 9216 image) ≡ 9216
-    long-is = rw length-take (omega arith)
-
-    right : firstTrackResult (take 9216 image) ≡ judgedFirst (diskOf (take 9216 image))
-    right = unfold firstTrackResult judgedFirst in cond-true _ _ (eq-true long-is)
-
 -- the track that an image of a disk begins with
 image-is : (d : Disk) → NothingOutside d → firstTrackResult (take 9216 (imageOf d)) ≡ judgedFirst d
-image-is d w = whole-is (imageOf d) (length-image d) ∙ ap judgedFirst (disk-image d (λ b o h. w .far b o h) (λ b o h. w .out b o h))
+image-is d w = track-is (imageOf d) (length-image d) ∙ ap judgedFirst (disk-image d (λ b o h. w .far b o h) (λ b o h. w .out b o h))
 
 -- what 9 and 11 say of a disk, and its counts
 unfoldable trackAfterHeader : Disk → FirstTrack
@@ -106,7 +81,7 @@ formatted-is args = (refl, refl)
 pub first-track-values : FirstTrackValues
 first-track-values =
     record {
-      whole-image = whole-is;
+      whole-image = track-is;
       track-length = length-is;
       formatted-track = λ old args long short.
           ap (λ (w : ImageChanged). firstTrackResult (take 9216 (w .image))) (format-done old args long short)

@@ -32,7 +32,8 @@ use Rattle.file_rules.specs.Directory.{nameRight, entryFor, slotEntry, held, di
 use Rattle.file_rules.specs.Disk.{Disk, diskOf, imageOf}
 use Rattle.file_rules.specs.Laws.Base.Disk.{image-disk}
 use Rattle.files.specs.Laws.Loading.Records.{decode-none}
-use Rattle.files.specs.Laws.Judging.Ends.{or-none-left, or-none-right, files-right, end-within}
+use Rattle.file_rules.specs.Laws.Base.Sound.{or-none-left, or-none-right}
+use Rattle.files.specs.Laws.Judging.Ends.{files-right, end-within}
 use Rattle.files.specs.Laws.Writing.Steps.{overlay-tab, put-row}
 use Rattle.file_rules.specs.Map.{decode, recordAt, isPart, within, freeAt, freeCount, fileBound, sequences}
 use Rattle.file_rules.specs.Sizes.{slotBytes, blockSlots, slotCount, nameMost, blocksOf}

@@ -16,7 +16,7 @@ use Rattle.sector_rules.specs.declared.BlockNumber.{BlockNumber}
 use Rattle.file_rules.specs.declared.Record.{Record}
 use Rattle.file_rules.specs.declared.MapRecord.{MapRecord}
 use Rattle.file_rules.specs.Disk.{Disk}
-use Rattle.file_rules.specs.Map.{decode, numberAt, recordAt, isFree, isPart, freeAt, freeCount, partBlock}
+use Rattle.file_rules.specs.Map.{decode, recordByte, numberAt, recordAt, isFree, isPart, freeAt, freeCount, partBlock}
 use Rattle.file_rules.specs.Check.{recordFault, mapFault}
 use Rattle.file_rules.specs.Sizes.{blockBytes, mapStart, recordBytes}
 
@@ -37,7 +37,7 @@ pub record MapLoaded (map : List ℕ) (d : Disk) : Type 0 where
 pub number-cong : (d e : Disk) (b : ℕ) → b < blocks → ((o : ℕ) → mapStart ≤ o → o < blockBytes → d 0 o ≡ e 0 o) → numberAt d b ≡ numberAt e b
 unfolding numberAt
 number-cong d e b k h =
-    big-ext (λ (i : ℕ). d 0 (mapStart + recordBytes * b + i)) (λ (i : ℕ). e 0 (mapStart + recordBytes * b + i)) recordBytes
+    big-ext (recordByte d b) (recordByte e b) recordBytes
     (λ i l. h (mapStart + recordBytes * b + i) (omega arith) (omega arith))
 
 -- ---- the map is loaded

@@ -1,5 +1,6 @@
 -- A loaded map that is kept in step with its image while the image is written.
--- Rests on the loaded map (Loading.Loaded), on steps and rows (Steps, Stored) and on a sound disk's record 0 (Judging.Ends).
+-- Rests on the loaded map (Loading.Loaded), on steps and rows (Steps, Stored), on records in their bytes and on a sound disk's record 0
+-- (file_rules, Base.Records and Base.Sound).
 use mathlib.Core.Path.{_≡_, refl, sym, ap, _∙_}
 use mathlib.Core.Logic.{_≢_}
 use mathlib.Core.Bool.{Bool, true, false}
@@ -13,8 +14,7 @@ use Rattle.laws.specs.Changes.{upd, patch}
 use Rattle.laws.specs.Numbers.{highByte}
 use Rattle.laws.specs.Laws.Cases.{by-order, by-equal}
 use Rattle.laws.specs.Laws.Tests.{eq-true, eq-false, true≢false, cond-true, cond-false}
-use Rattle.laws.specs.Laws.Lowest.{lowest-hit}
-use Rattle.laws.specs.Laws.Changes.{upd₂-same, upd₂-other, patch-in, patch-below, patch-above}
+use Rattle.laws.specs.Laws.Changes.{upd₂-same, upd₂-other, patch-above}
 use Rattle.laws.specs.Laws.Numbers.{big-ext, high-is}
 use Rattle.sector_rules.specs.Geometry.{blocks, imageBytes}
 use Rattle.file_rules.specs.declared.Record.{Record}
@@ -23,11 +23,12 @@ use Rattle.file_rules.specs.Calls.{endAfter}
 use Rattle.file_rules.specs.Check.{diskRefusal}
 use Rattle.file_rules.specs.Disk.{Disk, diskOf, imageOf}
 use Rattle.file_rules.specs.Laws.Base.Disk.{length-image}
-use Rattle.file_rules.specs.Map.{decode, numberOf, encode, numberAt, recordAt, isPart, partBlock}
+use Rattle.file_rules.specs.Laws.Base.Records.{record-set, record-beside}
+use Rattle.file_rules.specs.Laws.Base.Sound.{first-system, part-not-first}
+use Rattle.file_rules.specs.Map.{decode, numberOf, encode, recordByte, numberAt, recordAt, partBlock}
 use Rattle.file_rules.specs.Sizes.{blockBytes, slotBytes, blockSlots, mapStart, recordBytes, wholeBlocks, bytesOver}
 use Rattle.file_rules.specs.Written.{setBlock, setRecord, setSlot, setWord, setEnd}
 use Rattle.files.specs.Laws.Loading.Loaded.{loadedRecord, MapLoaded, number-cong, record-loaded}
-use Rattle.files.specs.Laws.Judging.Ends.{first-system}
 use Rattle.files.specs.Laws.Writing.Steps.{FitsRecord}
 use Rattle.files.specs.Laws.Writing.Stored.{inside-image, patched}
 
@@ -52,29 +53,13 @@ number-fits Other v = refl
 -- ---- a record's number after it is written, and after another one is
 
 module _ (d : Disk) (b : ℕ) (r : Record) where
-  abbrev row : ℕ → ℕ
-  row = patch (d 0) (mapStart + recordBytes * b) recordBytes (encode r)
-
   number-set : FitsRecord r → numberAt (setRecord d b r) b ≡ numberOf r
-  unfolding numberAt setRecord encode
-  number-set v =
-      high-is (λ (i : ℕ). upd d 0 row 0 (mapStart + recordBytes * b + i)) recordBytes (numberOf r)
-      (λ i l.
-      let e : mapStart + recordBytes * b + i - (mapStart + recordBytes * b) ≡ i = omega arith in
-      upd₂-same d 0 row 0 (mapStart + recordBytes * b + i) refl
-      ∙ patch-in (d 0) (mapStart + recordBytes * b) recordBytes (encode r) (mapStart + recordBytes * b + i) (omega arith) (omega arith)
-      ∙ ap (encode r) e)
-      ∙ number-fits r v
+  unfolding numberAt encode
+  number-set v = high-is (recordByte (setRecord d b r) b) recordBytes (numberOf r) (λ i l. record-set d b r i l) ∙ number-fits r v
 
   number-other : (j : ℕ) → j ≢ b → numberAt (setRecord d b r) j ≡ numberAt d j
-  unfolding numberAt setRecord
-  number-other j h =
-      big-ext (λ (i : ℕ). upd d 0 row 0 (mapStart + recordBytes * j + i)) (λ (i : ℕ). d 0 (mapStart + recordBytes * j + i)) recordBytes
-      (λ i l.
-      upd₂-same d 0 row 0 (mapStart + recordBytes * j + i) refl
-      ∙ by-order j b
-      (λ q. patch-below (d 0) (mapStart + recordBytes * b) recordBytes (encode r) (mapStart + recordBytes * j + i) (omega arith))
-      (λ q. patch-above (d 0) (mapStart + recordBytes * b) recordBytes (encode r) (mapStart + recordBytes * j + i) (omega arith)))
+  unfolding numberAt
+  number-other j h = big-ext (recordByte (setRecord d b r) j) (recordByte d j) recordBytes (λ i l. record-beside d b r j i h l)
 
 -- ---- the steps
 
@@ -152,23 +137,14 @@ module _ (map l : List ℕ) (s : InStep map l) where
         system = rw (getD-set-other map b 0 (numberOf r) 0 (λ z. omega arith)) (s .system);
       }
 
--- a slot lies in a block of the directory, which is not block 0
-system-part : (t : ℕ) → isPart 0 t System ≡ false
-unfolding isPart
-system-part t = refl
-
 module _ (map l : List ℕ) (s : InStep map l) where
   -- writing a slot keeps the map in step
   pub step-slot : (m : List ℕ) (k : ℕ) (g : ℕ → ℕ) → m ≡ imageOf (setSlot (diskOf l) k g) → InStep map m
-  unfolding setSlot partBlock
+  unfolding setSlot
   step-slot m k g q =
-      let part : ℕ → Bool = λ (b : ℕ). isPart 0 (k / blockSlots) (recordAt (diskOf l) b) in
-      step-row map l s m (partBlock (diskOf l) 0 (k / blockSlots)) (k % blockSlots * slotBytes) slotBytes g q
-      (λ z.
-      let t : part 0 ≡ true = ap part (sym z) ∙ lowest-hit part blocks (omega arith) in
       let first : recordAt (diskOf l) 0 ≡ System = sym (record-loaded map (diskOf l) (s .loadedMap) 0 (omega arith)) ∙ s .system in
-      let u : part 0 ≡ false = ap (isPart 0 (k / blockSlots)) first ∙ system-part (k / blockSlots) in
-      true≢false (part 0) t u)
+      step-row map l s m (partBlock (diskOf l) 0 (k / blockSlots)) (k % blockSlots * slotBytes) slotBytes g q
+      (λ z. absurd (part-not-first (diskOf l) first 0 (k / blockSlots) z))
 
   -- writing the directory's end, if it grows, keeps the map in step
   pub step-after : (m : List ℕ) (k end : ℕ) → m ≡ imageOf (endAfter k end (diskOf l)) → InStep map m

@@ -1,6 +1,6 @@
 -- Bytes stored into an image, one by one: what is written is a row of bytes of a block. Disks that agree inside their blocks.
 -- Rests on the disk and its image (file_rules, Laws.Base.Disk).
-use mathlib.Core.Path.{_≡_, refl, sym, ap, ap₂, _∙_}
+use mathlib.Core.Path.{_≡_, refl, sym, ap, _∙_}
 use mathlib.Core.Logic.{_≢_}
 use mathlib.Core.List.{List}
 use Prim.Native.Nat.{ℕ, _+_, _-_, _≤_, _<_}
@@ -9,12 +9,11 @@ use lib.ListN.{length, getD, set}
 use Rattle.laws.specs.Lists.{tab}
 use Rattle.laws.specs.Changes.{upd, patch}
 use Rattle.laws.specs.Laws.Cases.{by-equal}
-use Rattle.laws.specs.Laws.Tests.{lt-true, cond-true, and-true}
 use Rattle.laws.specs.Laws.Tab.{tab-length, tab-in}
 use Rattle.laws.specs.Laws.Changes.{upd-same, upd-other, upd₂-same, upd₂-other, patch-in, patch-below, patch-above, by-place}
 use Rattle.sector_rules.specs.Geometry.{blocks, imageBytes}
-use Rattle.file_rules.specs.Disk.{Disk, imagePlace, blockOf, offsetOf, diskOf, imageOf, setByte}
-use Rattle.file_rules.specs.Laws.Base.Disk.{image-place-lt, block-byte, offset-byte, image-disk, image-cong, image-set}
+use Rattle.file_rules.specs.Disk.{Disk, imagePlace, diskOf, imageOf, setByte}
+use Rattle.file_rules.specs.Laws.Base.Disk.{inside-disk, image-disk, image-cong, image-set}
 use Rattle.file_rules.specs.Sizes.{blockBytes}
 
 -- ---- disks that agree inside their blocks
@@ -23,15 +22,7 @@ use Rattle.file_rules.specs.Sizes.{blockBytes}
 abbrev pub EqualInside : Disk → Disk → Type 0
 EqualInside d e = (b o : ℕ) → b < blocks → o < blockBytes → d b o ≡ e b o
 
--- the disk of a disk's image agrees with it inside the blocks
-pub inside-disk : (d : Disk) → EqualInside (diskOf (imageOf d)) d
-unfolding diskOf imageOf
-inside-disk d b o hb ho =
-    cond-true _ _ (and-true (lt-true hb) (lt-true ho))
-    ∙ tab-in (λ (i : ℕ). d (blockOf i) (offsetOf i)) imageBytes (imagePlace b o) (image-place-lt b o hb ho)
-    ∙ ap₂ d (block-byte b o hb ho) (offset-byte b o hb ho)
-
--- the same for a list that is the image
+-- the disk of a list that is a disk's image agrees with the disk inside the blocks
 pub inside-image : (l : List ℕ) (d : Disk) → l ≡ imageOf d → EqualInside (diskOf l) d
 inside-image l d e b o hb ho = ap (λ (x : List ℕ). diskOf x b o) e ∙ inside-disk d b o hb ho
 

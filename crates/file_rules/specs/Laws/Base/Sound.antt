@@ -1,0 +1,96 @@
+-- What a sound disk has: no refusal, block 0 as the system's and so no file in it. A disk that is not sound gets a refusal's number.
+-- Rests on the definitions of 8 to 11 and on the lowest number that passes a test (laws, Lowest).
+use mathlib.Core.Path.{_≡_, refl, sym, ap, _∙_}
+use mathlib.Core.Logic.{_≢_}
+use mathlib.Core.Bool.{Bool, true, false}
+use mathlib.Core.Option.{Option, none, some}
+use Prim.Native.Nat.{ℕ}
+use native.Mathlib.Omega.{arith}
+use Rattle.laws.specs.Options.{orElse}
+use Rattle.laws.specs.Laws.Cases.{by-order, by-cond}
+use Rattle.laws.specs.Laws.Tests.{lt-true, true≢false, cond-true}
+use Rattle.laws.specs.Laws.Lowest.{lowest-all, lowest-hit}
+use Rattle.sector_rules.specs.Replies.{replyWith}
+use Rattle.sector_rules.specs.declared.Reply.{Reply}
+use Rattle.sector_rules.specs.declared.Fault.{Fault}
+use Rattle.sector_rules.specs.declared.Fault.the-variants.{At, Sound}
+use Rattle.sector_rules.specs.Faults.{faultBelow, refusalAt}
+use Rattle.sector_rules.specs.Geometry.{blocks}
+use Rattle.file_rules.specs.Disk.{Disk}
+use Rattle.file_rules.specs.declared.Record.{Record}
+use Rattle.file_rules.specs.declared.Record.the-variants.{Free, System, File, Other}
+use Rattle.file_rules.specs.Map.{recordAt, isSystem, isPart, partBlock}
+use Rattle.file_rules.specs.Sizes.{slotCount}
+use Rattle.file_rules.specs.Check.{diskHeaderFault, recordFault, mapFault, fileFault, freeRight, refusal8, refusal9, refusal10, refusal11, diskRefusal}
+
+-- ---- a disk without a refusal
+
+-- if neither refuses, the first does not
+pub or-none-left : {A : Type 0} (a b : Option A) → orElse a b ≡ none → a ≡ none
+unfolding orElse
+or-none-left none b e = refl
+or-none-left (some x) b e = e
+
+-- if neither refuses, the second does not
+pub or-none-right : {A : Type 0} (a b : Option A) → orElse a b ≡ none → b ≡ none
+unfolding orElse
+or-none-right none b e = e
+or-none-right (some x) b e = let z : _≡_ {A = ℕ} 0 1 = cc in absurd (omega arith)
+
+-- block 0 is the system's
+system-only : (r : Record) → recordFault 0 r ≡ false → r ≡ System
+unfolding recordFault isSystem
+system-only Free e = true≢false true refl e
+system-only System e = refl
+system-only (File f s) e = true≢false true refl e
+system-only Other e = true≢false true refl e
+
+-- record 0 of a disk that passes 9 is the system's
+pub first-passed : (d : Disk) → refusal9 d ≡ none → recordAt d 0 ≡ System
+unfolding refusal9 faultBelow mapFault
+first-passed d e =
+    by-order (mapFault d) blocks
+    (λ h.
+    let q : some (replyWith 9 (mapFault d) 0 0) ≡ none = sym (ap (refusalAt 9) (cond-true (At (mapFault d)) Sound (lt-true h))) ∙ e in
+    let z : _≡_ {A = ℕ} 0 1 = cc in absurd (omega arith))
+    (λ h. system-only (recordAt d 0) (lowest-all (λ (j : ℕ). recordFault j (recordAt d j)) blocks h 0 (omega arith)))
+
+-- so is that of a sound disk
+pub first-system : (d : Disk) → diskRefusal d ≡ none → recordAt d 0 ≡ System
+unfolding diskRefusal
+first-system d e =
+    let a : orElse (refusal9 d) (orElse (refusal10 d) (refusal11 d)) ≡ none = or-none-right (refusal8 d) _ e in
+    first-passed d (or-none-left (refusal9 d) (orElse (refusal10 d) (refusal11 d)) a)
+
+-- where block 0 is the system's, it is no part of a file
+pub part-not-first : (d : Disk) → recordAt d 0 ≡ System → (f s : ℕ) → partBlock d f s ≢ 0
+unfolding partBlock isPart
+part-not-first d first f s z =
+    let test : ℕ → Bool = λ (b : ℕ). isPart f s (recordAt d b) in
+    let t : test 0 ≡ true = ap test (sym z) ∙ lowest-hit test blocks (omega arith) in
+    true≢false (test 0) t (ap (isPart f s) first)
+
+-- ---- a disk with a refusal
+
+-- a refusal, where there is one, has another number than 0
+abbrev pub NotDone : Option Reply → Type 0
+NotDone none = Unit {0}
+NotDone (some r) = r .number ≢ 0
+
+not-done-or : (a b : Option Reply) → NotDone a → NotDone b → NotDone (orElse a b)
+unfolding orElse
+not-done-or none b p q = q
+not-done-or (some r) b p q = p
+
+not-done-at : (n : ℕ) → n ≢ 0 → (f : Fault) → NotDone (refusalAt n f)
+not-done-at n h (At o) = h
+not-done-at n h Sound = tt
+
+-- what 8 to 11 refuse gets another number than 0
+pub refused-number : (d : Disk) → NotDone (diskRefusal d)
+unfolding diskRefusal refusal8 refusal9 refusal10 refusal11
+refused-number d =
+    not-done-or _ _ (not-done-at 8 (λ e. omega arith) (diskHeaderFault d))
+    (not-done-or _ _ (not-done-at 9 (λ e. omega arith) (faultBelow blocks (mapFault d)))
+    (not-done-or _ _ (not-done-at 10 (λ e. omega arith) (faultBelow slotCount (fileFault d)))
+    (by-cond NotDone (freeRight d) _ _ (λ t. tt) (λ t e. omega arith))))
