@@ -90,7 +90,8 @@ enum dheg_number {
      * 30, 32, 34 (the directory's length), 38, 40 or 58. */
     DHEG_DISK_HEADER = 8,
     /* A map record is of no kind, or of a kind that its block cannot have. `first` is the lowest
-     * such block. */
+     * such block. A record is free if its first byte is FD (hex), whatever the two after it are; so
+     * FD is wrong at block 0 alone. */
     DHEG_MAP_RECORD = 9,
     /* The directory is not sound. `first` is the lowest file number at fault, 0 for the directory
      * itself. Of two files with equal names the one with the higher number is at fault. */
@@ -237,7 +238,8 @@ dheg_reply dheg_format(uint8_t *image, size_t image_len, const uint8_t *name, si
  *
  *   1      `first`: 2 `image` has not 737,280 bytes
  *   8      `first`: offset of the lowest wrong field of the disk header (34: directory's length)
- *   9      `first`: lowest block whose map record is wrong
+ *   9      `first`: lowest block whose map record is wrong; one that begins with FD (hex) is free,
+ *          whatever its other two bytes are, and wrong at block 0 alone
  *   10     `first`: lowest file number at fault, 0 for the directory itself; of two files with equal
  *          names, in whatever spelling, the one with the higher number is at fault
  *   11     the free word is not three times the free records; no place is named
@@ -289,7 +291,8 @@ dheg_reply dheg_read(const uint8_t *image, size_t image_len, const uint8_t *name
  * those of other files, A to Z in it count as a to z.
  *
  * Done: map records, the slot, the blocks taken, update count, free word and the directory's length
- * are written to `image`; the places are 0. Refused: nothing is changed, and
+ * are written to `image`; the places are 0. Free records whose blocks are not taken stay as they
+ * are, all three bytes. Refused: nothing is changed, and
  *
  *   1, 8 to 11   as dheg_check says
  *   12           the name has not 1 to 36 bytes; no place is named
@@ -304,10 +307,11 @@ dheg_reply dheg_add(uint8_t *image, size_t image_len, const uint8_t *name, size_
 
 /*
  * Removes a file from a disk. Its blocks and its slot are filled with zero bytes, and its records
- * are free. A to Z in the name count as a to z.
+ * are written FD FF FF (hex). A to Z in the name count as a to z.
  *
  * Done: map records, the slot, the file's blocks, update count and free word are written to `image`;
- * the places are 0. Refused: nothing is changed, and
+ * the places are 0. Records that were free before stay as they are, all three bytes. Refused:
+ * nothing is changed, and
  *
  *   1, 8 to 11   as dheg_check says
  *   12           the name has not 1 to 36 bytes; no place is named

@@ -17,7 +17,15 @@ use Rattle.file_rules.specs.Disk.{Disk}
 abbrev pub fileBound : ℕ
 fileBound = 0xF80000
 
--- the number of a free record: FD FF FF (§6.9)
+-- the first byte of a free record: FD (§6.9)
+abbrev pub freeByte : ℕ
+freeByte = 0xFD
+
+-- how many numbers begin with one byte: the other two, a record's tail, have 16 bits (§6.8)
+abbrev pub tailCount : ℕ
+tailCount = 65536
+
+-- the number of a free record as written: FD FF FF (§6.9)
 abbrev pub freeNumber : ℕ
 freeNumber = 0xFDFFFF
 
@@ -29,11 +37,11 @@ systemNumber = 0xF80000
 abbrev pub sequences : ℕ
 sequences = 4096
 
--- the record of a number: a file's with 12 bits of file number and 12 of sequence, free, the system's, or of no kind (§6.8 §6.9)
+-- the record of a number: a file's with 12 bits of file number and 12 of sequence, free by its first byte, the system's, or of no kind (§6.8 §6.9)
 unfoldable pub decode : ℕ → Record
 decode n =
     cond (ltb n fileBound) (File (n / sequences) (n % sequences))
-    (cond (eqb n freeNumber) Free
+    (cond (eqb (n / tailCount) freeByte) Free
     (cond (eqb n systemNumber) System Other))
 
 -- the number of a record as written; one of no kind never is (§6.8 §6.9)

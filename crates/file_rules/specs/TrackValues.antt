@@ -32,6 +32,9 @@ pub record FirstTrackValues : Type 0 where
   -- the free word, the good sectors, and the records of header and directory
   pub formatted-track : (old : List ℕ) (args : FormatArguments) → length old ≡ imageBytes → length (args .title) ≤ titleMost
       → firstTrackResult (take 9216 (format old args .image)) ≡ record { reply = replyWith 0 0 0 0; free = 1434; good = 1440; held = 2 }
+  -- the same where block 2 is free with the tail 50 FF (§6.9)
+  pub tail-track : (old : List ℕ) (args : FormatArguments) → length old ≡ imageBytes → length (args .title) ≤ titleMost
+      → firstTrackResult (take 9216 (set (format old args .image) 103 0x50)) ≡ record { reply = replyWith 0 0 0 0; free = 1434; good = 1440; held = 2 }
   -- 11: the free word is one more
   pub word-refused : (old : List ℕ) (args : FormatArguments) → length old ≡ imageBytes → length (args .title) ≤ titleMost
       → firstTrackResult (take 9216 (set (format old args .image) 21 0x9B)) ≡ record { reply = replyWith 11 0 0 0; free = 0; good = 0; held = 0 }

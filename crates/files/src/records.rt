@@ -17,7 +17,13 @@ use sectors::Geometry;
 // The numbers below this are files' records (§6.9).
 const FILE_BOUND: u32 = 0xF8_0000;
 
-// The number of a free record (§6.9).
+// The first byte of a free record (§6.9).
+const FREE_BYTE: u32 = 0xFD;
+
+// How many numbers begin with one byte: a record's tail has 16 bits (§6.8).
+const TAIL_COUNT: u32 = 65536;
+
+// The number of a free record as written (§6.9).
 const FREE: u32 = 0xFD_FFFF;
 
 // The number of the system's record (§6.9).
@@ -45,7 +51,7 @@ pub fn record_of(n: u32) -> Record
     if n < FILE_BOUND {
         return Record::File((n / SEQUENCES) as u16, (n % SEQUENCES) as u16);
     }
-    if n == FREE {
+    if n / TAIL_COUNT == FREE_BYTE {
         return Record::Free;
     }
     if n == SYSTEM {

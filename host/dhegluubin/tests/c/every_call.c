@@ -177,6 +177,14 @@ static void wrong_disks(void)
     slot[15] = 6;
     image[21] ^= 1;
     expect("all put right", checked(), DHEG_DONE, 0, 0, 0);
+    image[96 + 3 * 100 + 1] = 0x00;
+    image[96 + 3 * 100 + 2] = 0x10;
+    expect("a free record with another tail", checked(), DHEG_DONE, 0, 0, 0);
+    expect("another tail", first_track_reply(), DHEG_DONE, 0, 0, 0);
+    image[96] = 0xFD;
+    expect("free at block 0", checked(), DHEG_MAP_RECORD, 0, 0, 0);
+    image[96] = 0xF8;
+    expect("the system's at block 0", checked(), DHEG_DONE, 0, 0, 0);
 }
 
 static void first_track(void)

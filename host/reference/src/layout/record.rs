@@ -26,10 +26,11 @@ pub enum Record {
 }
 
 impl Record {
-    /// The record in these three bytes, if they are one (§6.9).
+    /// The record in these three bytes, if they are one. What follows FD is
+    /// not looked at (§6.9).
     pub fn read(bytes: [u8; RECORD_LEN]) -> Option<Record> {
         match bytes {
-            [0xFD, 0xFF, 0xFF] => Some(Record::Free),
+            [0xFD, _, _] => Some(Record::Free),
             [0xF8, 0x00, 0x00] => Some(Record::System),
             [FIRST_NO_FILE..=0xFF, _, _] => None,
             [first, second, third] => {

@@ -16,15 +16,13 @@ fn stated_record() {
 /// Kinds of record by their bytes (§6.9).
 #[test]
 fn kinds_of_record() {
-    assert_eq!(Record::read([0xFD, 0xFF, 0xFF]), Some(Record::Free));
     assert_eq!(Record::read([0xF8, 0, 0]), Some(Record::System));
     for none in [
         [0xF8, 0x00, 0x01],
         [0xF8, 0x01, 0x00],
         [0xF9, 0x00, 0x00],
-        [0xFD, 0xFF, 0xFE],
-        [0xFD, 0x00, 0x00],
         [0xFC, 0xFF, 0xFF],
+        [0xFE, 0x00, 0x00],
         [0xFE, 0xFF, 0xFF],
         [0xFF, 0xFF, 0xFF],
     ] {
@@ -35,6 +33,17 @@ fn kinds_of_record() {
         sequence: 0xFFF,
     };
     assert_eq!(Record::read([0xF7, 0xFF, 0xFF]), Some(highest));
+}
+
+/// FD is free with every tail, and is written with FF FF (§6.9).
+#[test]
+fn free_by_the_first_byte() {
+    for tail in 0..=0xFFFFu16 {
+        let [second, third] = tail.to_be_bytes();
+        let read = Record::read([0xFD, second, third]);
+        assert_eq!(read, Some(Record::Free), "tail {tail:04X}");
+    }
+    assert_eq!(Record::Free.bytes(), [0xFD, 0xFF, 0xFF]);
 }
 
 #[test]

@@ -1,19 +1,22 @@
 -- Map records in their three bytes: what the bytes say, and what a record that is written leaves of the others.
 -- Rests on the laws of numbers in bytes and of changed rows (laws, Numbers and Changes).
-use mathlib.Core.Path.{_≡_, refl, ap, ap₂, _∙_}
+use mathlib.Core.Path.{_≡_, refl, sym, ap, ap₂, _∙_}
 use mathlib.Core.Logic.{_≢_}
+use mathlib.Core.Bool.{true, false, false≢true}
 use Prim.Native.Nat.{ℕ, _+_, _-_, _*_, _/_, _%_, _<_}
 use native.Mathlib.Omega.{arith}
+use lib.Dec.{eqb}
 use Rattle.laws.specs.Changes.{patch}
 use Rattle.laws.specs.Numbers.{bigEndian}
-use Rattle.laws.specs.Laws.Cases.{by-order}
-use Rattle.laws.specs.Laws.Tests.{lt-true, cond-true}
+use Rattle.laws.specs.Laws.Cases.{by-order, by-test, by-cond}
+use Rattle.laws.specs.Laws.Tests.{lt-true, lt-false, eq-true, eq-false, true-eq, false-eq, cond-true, cond-false}
 use Rattle.laws.specs.Laws.Changes.{upd₂-same, patch-in, patch-below, patch-above}
 use Rattle.laws.specs.Laws.Numbers.{high-is}
 use Rattle.file_rules.specs.declared.Record.{Record}
 use Rattle.file_rules.specs.declared.Record.the-variants.{Free, System, File, Other}
 use Rattle.file_rules.specs.Disk.{Disk}
-use Rattle.file_rules.specs.Map.{fileBound, sequences, decode, numberOf, encode, recordByte}
+use Rattle.file_rules.specs.Map.{fileBound, freeByte, tailCount, systemNumber, sequences, decode, numberOf, encode}
+use Rattle.file_rules.specs.Map.{recordByte, numberAt, recordAt, isFree, freeAt}
 use Rattle.file_rules.specs.Sizes.{mapStart, recordBytes}
 use Rattle.file_rules.specs.Written.{setRecord}
 
@@ -51,6 +54,32 @@ unfolding encode
 decode-bytes f r v e =
     let q : numberOf r % 0x1000000 ≡ numberOf r = omega (arith, number-most r v) in
     ap decode (high-is f recordBytes (numberOf r) e ∙ q) ∙ decode-number r v
+
+-- a record that is free is the free one
+pub free-only : (r : Record) → isFree r ≡ true → r ≡ Free
+unfolding isFree
+free-only Free t = refl
+free-only System t = absurd (false≢true t)
+free-only (File f s) t = absurd (false≢true t)
+free-only Other t = absurd (false≢true t)
+
+-- the record of a disk's block is free by its first byte alone
+pub free-by-byte : (d : Disk) (b : ℕ) → ((i : ℕ) → i < recordBytes → recordByte d b i < 256) → freeAt d b ≡ eqb (recordByte d b 0) freeByte
+unfolding freeAt recordAt numberAt bigEndian decode isFree
+free-by-byte d b h =
+    let first : ℕ = recordByte d b 0 in
+    let n : ℕ = ((0 * 256 + first) * 256 + recordByte d b 1) * 256 + recordByte d b 2 in
+    let top : n / tailCount ≡ first = omega (arith, h 0 (omega arith), h 1 (omega arith), h 2 (omega arith)) in
+    by-order n fileBound
+    (λ l. ap isFree (cond-true _ _ (lt-true l)) ∙ sym (eq-false {a = first} {b = freeByte} (λ e. omega arith)))
+    (λ l.
+    ap isFree (cond-false _ _ (lt-false l))
+    ∙ by-test (eqb (n / tailCount) freeByte)
+    (λ t. ap isFree (cond-true _ _ t) ∙ sym (eq-true (sym top ∙ true-eq t)))
+    (λ t.
+    ap isFree (cond-false _ _ t)
+    ∙ by-cond (λ (r : Record). isFree r ≡ false) (eqb n systemNumber) System Other (λ u. refl) (λ u. refl)
+    ∙ sym (eq-false (λ e. false-eq t (top ∙ e)))))
 
 -- ---- a record that is written
 

@@ -138,6 +138,7 @@ judged-is args =
     let head₁ : HasFreshHeader args d₁ = map-header args fresh 102 0x00 (lit≤ tt) head in
     record {
       first-record = map-changed args fresh inside head 96 0xF9 (lit≤ tt) (lit< tt);
+      first-free = map-changed args fresh inside head 96 0xFD (lit≤ tt) (lit< tt);
       system-record = map-changed args fresh inside head 99 0xF8 (lit≤ tt) (lit< tt);
       other-record = map-changed args fresh inside head 396 0xFE (lit≤ tt) (lit< tt);
       directory-part = map-changed args fresh inside head 101 1 (lit≤ tt) (lit< tt);

@@ -2,7 +2,7 @@
 -- Rests on: the code alone.
 -- Assumes nothing.
 use borrow.Author.Needs.{needs}
-use borrow.Author.Tests.{lt-ltb, le-ltb, ne-eqb}
+use borrow.Author.Tests.{lt-ltb, le-ltb, eq-eqb, ne-eqb}
 use Rattle.file_rules.specs.Map.{decode}
 use Rattle.files.proofs.records.record_of.Statement.{statement}
 use Rattle.files.proofs.records.record_of.Tie as tie
@@ -19,7 +19,7 @@ returns c = simp (lt-ltb _ _ (c .if1 .taken))
 
 returns-2 : tie.Need-returns-2
 unfolding decode
-returns-2 c = simp (c .if2 .taken)
+returns-2 c = simp (le-ltb _ _ (c .before .if1 .left), eq-eqb _ _ (c .if2 .taken))
 
 returns-3 : tie.Need-returns-3
 unfolding decode

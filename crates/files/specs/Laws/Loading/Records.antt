@@ -1,9 +1,9 @@
 -- Map records: what their numbers say and what they are asked, by the kinds (§6.9).
 -- Rests on the definitions alone.
 use mathlib.Core.Path.{_≡_, ap, _∙_}
-use mathlib.Core.Bool.{Bool, true, false, not, _&&_}
+use mathlib.Core.Bool.{Bool, true, false, not}
 use mathlib.Core.List.{[], _∷_}
-use Prim.Native.Nat.{ℕ, _+_, _*_, _/_, _%_, _≤_, _<_}
+use Prim.Native.Nat.{ℕ, _/_, _%_, _<_}
 use native.Mathlib.Nat.{div-one}
 use native.Mathlib.Omega.{arith}
 use lib.Dec.{eqb}
@@ -14,7 +14,7 @@ use Rattle.laws.specs.Laws.Tests.{lt-true, lt-false, cond-true, cond-false}
 use Rattle.file_rules.specs.declared.Record.{Record}
 use Rattle.file_rules.specs.declared.Record.the-variants.{Free, System, File, Other}
 use Rattle.file_rules.specs.Check.{recordFault}
-use Rattle.file_rules.specs.Map.{fileBound, freeNumber, systemNumber, sequences, decode, numberOf, encode, isSystem, isOther}
+use Rattle.file_rules.specs.Map.{fileBound, freeByte, tailCount, systemNumber, sequences, decode, numberOf, encode, isSystem, isOther}
 use Rattle.file_rules.specs.Sizes.{recordBytes}
 
 -- ---- numbers
@@ -28,7 +28,7 @@ decode-none n p free system other file =
     (λ h. ap p (cond-true _ _ (lt-true h)) ∙ file (n / sequences) (n % sequences) (omega arith))
     (λ h.
     ap p (cond-false _ _ (lt-false h))
-    ∙ by-test (eqb n freeNumber)
+    ∙ by-test (eqb (n / tailCount) freeByte)
     (λ t. ap p (cond-true _ _ t) ∙ free)
     (λ t. ap p (cond-false _ _ t)
     ∙ by-test (eqb n systemNumber) (λ u. ap p (cond-true _ _ u) ∙ system) (λ u. ap p (cond-false _ _ u) ∙ other)))

@@ -148,8 +148,8 @@ fn each_header_field_is_refused_with_8() {
 /// A wrong record is 9, which the program prints without its place (§7.9).
 #[test]
 fn each_kind_of_wrong_record_is_refused_with_9() {
-    let of_no_kind = [[0xF8, 0, 1], [0xF9, 0, 0], [0xFD, 0, 0], [0xFF; 3]];
-    let not_block_0 = [FREE, record(0, 0), record(0xF7F, 0xFFF)];
+    let of_no_kind = [[0xF8, 0, 1], [0xF9, 0, 0], [0xFC, 0xFF, 0xFF], [0xFF; 3]];
+    let not_block_0 = [FREE, [0xFD, 0, 0], record(0, 0), record(0xF7F, 0xFFF)];
     let not_others = [[0xF8, 0, 0]];
     // The record of block 138 goes over the end of a sector.
     for block in [0, 1, 138, 309, 479] {

@@ -52,6 +52,7 @@ pub fn set_word(image: &mut [u8], offset: usize, word: usize) {
     patch(image, 0, offset, &(word as u16).to_be_bytes());
 }
 
+/// The record of a block that we free.
 pub const FREE: [u8; 3] = [0xFD, 0xFF, 0xFF];
 
 /// The bytes of a record of a file.
@@ -73,7 +74,7 @@ pub fn record_of(image: &[u8], block: usize) -> Vec<u8> {
 
 /// Sets the free word to what the map says.
 pub fn count_free(image: &mut [u8]) {
-    let free = (0..BLOCKS).filter(|&block| record_of(image, block) == FREE);
+    let free = (0..BLOCKS).filter(|&block| record_of(image, block)[0] == FREE[0]);
     let free = free.count();
     set_word(image, 20, 3 * free);
 }

@@ -38,11 +38,12 @@ fn random_disk(generator: &mut Generator) -> Vec<u8> {
 fn corrupt(generator: &mut Generator, image: &mut [u8]) {
     let block = generator.below(40) * (1 + 11 * generator.below(2));
     let slot = 64 * generator.below(24);
-    match generator.below(13) {
+    match generator.below(14) {
         0 => image[generator.below(96)] ^= 1 << generator.below(8),
         1 => set_word(image, 34, generator.below(4)),
         2 => set_word(image, 36, 64 * generator.below(26)),
         3 => set_record(image, block, [0xFD, 0xFF, 0xFF]),
+        13 => set_record(image, block, [0xFD, generator.byte(), generator.byte()]),
         4 => {
             let bytes = [generator.byte(), generator.byte(), generator.byte()];
             set_record(image, block, bytes);

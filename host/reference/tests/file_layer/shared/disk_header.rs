@@ -111,7 +111,7 @@ fn header_goes_before_map_directory_and_free_word() {
     assert_eq!(all_calls(&image, b"f2"), [11, 0, 0, 0]);
     patch(&mut image, 1, 64 + 14, &[0, 0]);
     assert_eq!(all_calls(&image, b"f2"), [10, 1, 0, 0]);
-    patch(&mut image, 0, 96 + 3 * 400, &[0xFD, 0xFF, 0xFE]);
+    patch(&mut image, 0, 96 + 3 * 400, &[0xFC, 0xFF, 0xFF]);
     assert_eq!(all_calls(&image, b"f2"), [9, 400, 0, 0]);
     set_word(&mut image, 32, 6);
     assert_eq!(all_calls(&image, b"f2"), [8, 32, 0, 0]);

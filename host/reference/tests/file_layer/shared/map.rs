@@ -6,7 +6,7 @@ use super::build::{count_free, fresh, set_record, set_word, three_files};
 use reference::geometry::TRACK_LEN;
 
 /// Records of none of the kinds.
-const NONE: [[u8; 3]; 12] = [
+const NONE: [[u8; 3]; 10] = [
     [0xF8, 0x00, 0x01],
     [0xF8, 0x01, 0x00],
     [0xF8, 0xFF, 0xFF],
@@ -14,9 +14,7 @@ const NONE: [[u8; 3]; 12] = [
     [0xFA, 0x00, 0x00],
     [0xFB, 0x00, 0x00],
     [0xFC, 0xFF, 0xFF],
-    [0xFD, 0x00, 0x00],
-    [0xFD, 0xFF, 0xFE],
-    [0xFD, 0xFE, 0xFF],
+    [0xFE, 0x00, 0x00],
     [0xFE, 0xFF, 0xFF],
     [0xFF, 0xFF, 0xFF],
 ];
@@ -70,6 +68,7 @@ fn every_first_byte() {
         set_record(&mut image, 77, [first, 0x20, 0x00]);
         count_free(&mut image);
         let expected = match first {
+            0xFD => [0; 4],
             0xF8.. => [9, 77, 0, 0],
             // The directory has no such slot.
             _ => [10, usize::from(first) * 16 + 2, 0, 0],

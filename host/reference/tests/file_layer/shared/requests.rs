@@ -21,6 +21,11 @@ const FOUR: Requested = Requested {
     count: 60,
 };
 
+const FIVE: Requested = Requested {
+    lines: include_str!("../../data/requests/five.jsonl"),
+    count: 70,
+};
+
 /// A history, then what check and the program say of its last image.
 fn history<'a>(case: &'a Value, answer: &'a Value) -> (History<'a>, [&'a Value; 2]) {
     let [_, arguments, calls] = case.members(["kind", "format", "calls"]);
@@ -134,4 +139,23 @@ fn disks_of_four() {
 #[test]
 fn four_in_the_model() {
     FOUR.run_kind("history", 17, run_in_model);
+}
+
+/// Free records with other tails (§6.9), on disks of other makers: what each
+/// call gives of them and leaves of them (§8.12 §8.13).
+#[test]
+fn disks_of_five() {
+    FIVE.run_kind("disk", 56, run_disk);
+}
+
+/// No history makes them (§6.9).
+#[test]
+fn histories_of_five() {
+    FIVE.run_kind("history", 14, run_history);
+}
+
+/// Nor does the model (§9.5).
+#[test]
+fn five_in_the_model() {
+    FIVE.run_kind("history", 14, run_in_model);
 }
