@@ -1,5 +1,6 @@
 -- Laws of the definitions that history rests on. No statement outside cites them.
 pub mod Base
+pub mod OnAnyDisk
 pub mod InnerModel
 pub mod OnImages
 pub mod InModel

@@ -13,6 +13,7 @@ pub mod NamesEqual
 pub mod Histories
 pub mod History
 pub mod Refusals
+pub mod FreeTails
 pub mod Values
 pub mod HeaderValues
 pub mod CheckValues

@@ -49,6 +49,24 @@ count-drop (suc n) i p q h a b e =
     (λ t. count-yes n p (same-n ∙ t) ∙ ap suc (ih ∙ sym (count-yes n q t)))
     (λ t. count-no n p (same-n ∙ t) ∙ ih ∙ ap suc (sym (count-no n q t))))
 
+-- where q passes as p does but for one number, p counts at most one more than q
+pub count-but-one : (n i : ℕ) (p q : ℕ → Bool) → ((j : ℕ) → j < n → j ≢ i → p j ≡ q j) → count n p ≤ count n q + 1
+unfolding count
+count-but-one zero i p q e = omega arith
+count-but-one (suc n) i p q e =
+    by-equal n i
+    (λ r.
+    let below : count n p ≡ count n q = count-cong n p q (λ j l. e j (omega arith) (omega arith)) in
+    by-test (p n)
+    (λ t. by-test (q n) (λ u. omega (arith, count-yes n p t, count-yes n q u)) (λ u. omega (arith, count-yes n p t, count-no n q u)))
+    (λ t. by-test (q n) (λ u. omega (arith, count-no n p t, count-yes n q u)) (λ u. omega (arith, count-no n p t, count-no n q u))))
+    (λ r.
+    let ih : count n p ≤ count n q + 1 = count-but-one n i p q (λ j l. e j (omega arith)) in
+    let same-n : p n ≡ q n = e n (omega arith) r in
+    by-test (q n)
+    (λ t. omega (arith, count-yes n p (same-n ∙ t), count-yes n q t))
+    (λ t. omega (arith, count-no n p (same-n ∙ t), count-no n q t)))
+
 -- where one number alone below n passes, the count is 1
 pub count-one : (n i : ℕ) (p : ℕ → Bool) → i < n → p i ≡ true → ((j : ℕ) → j < n → p j ≡ true → j ≡ i) → count n p ≡ 1
 count-one n i p h a u =

@@ -1,6 +1,7 @@
 -- The k lowest numbers below a bound that pass a test, upwards.
 -- Rests on the laws of counts.
 use mathlib.Core.Path.{_≡_, refl, sym, ap, _∙_, subst}
+use mathlib.Core.Logic.{_≢_}
 use mathlib.Core.Bool.{Bool, true, false}
 use mathlib.Core.List.{List, [], _∷_}
 use Prim.Native.Nat.{ℕ, zero, suc, _+_, _≤_, _<_}
@@ -8,6 +9,7 @@ use native.Mathlib.Omega.{arith}
 use lib.ListN.{length}
 use Rattle.laws.specs.Below.{count, firstsFrom, firsts}
 use Rattle.laws.specs.Laws.Cases.{by-test}
+use Rattle.laws.specs.Laws.Tests.{true≢false}
 use Rattle.laws.specs.Laws.Count.{count-cong, count-head-yes, count-head-no}
 
 -- an increasing list of numbers from i up to below n that pass
@@ -95,3 +97,68 @@ pub firsts-zero : (n i : ℕ) (p : ℕ → Bool) → firstsFrom n i 0 p ≡ []
 unfolding firstsFrom
 firsts-zero zero i p = refl
 firsts-zero (suc n) i p = refl
+
+from-most : (p : ℕ → Bool) (n i k : ℕ) → length (firstsFrom n i k p) ≤ k
+unfolding firstsFrom
+from-most p zero i k = omega arith
+from-most p (suc n) i zero = omega arith
+from-most p (suc n) i (suc k) =
+    by-test (p i)
+    (λ t. omega (arith, ap length (firsts-yes p n i k t), from-most p n (suc i) k))
+    (λ t. omega (arith, ap length (firsts-no p n i k t), from-most p n (suc i) (suc k)))
+
+-- there are never more than asked for
+pub firsts-most : (n k : ℕ) (p : ℕ → Bool) → length (firsts n k p) ≤ k
+unfolding firsts
+firsts-most n k p = from-most p n 0 k
+
+-- ---- which numbers are not among them
+
+-- number b does not stand in the list
+abbrev pub Avoids : ℕ → List ℕ → Type 0
+Avoids b [] = Unit {0}
+Avoids b (x ∷ xs) = (b ≢ x) × Avoids b xs
+
+module _ (p : ℕ → Bool) where
+  from-fails : (b : ℕ) → p b ≡ false → (n i k : ℕ) → Avoids b (firstsFrom n i k p)
+  unfolding firstsFrom
+  from-fails b e zero i k = tt
+  from-fails b e (suc n) i zero = tt
+  from-fails b e (suc n) i (suc k) =
+      by-test (p i)
+      (λ t. subst (Avoids b) (sym (firsts-yes p n i k t)) (λ z. true≢false (p i) t (ap p (sym z) ∙ e), from-fails b e n (suc i) k))
+      (λ t. subst (Avoids b) (sym (firsts-no p n i k t)) (from-fails b e n (suc i) (suc k)))
+
+  -- a number that fails is not among them
+  pub firsts-fails : (b : ℕ) → p b ≡ false → (n k : ℕ) → Avoids b (firsts n k p)
+  unfolding firsts
+  firsts-fails b e n k = from-fails b e n 0 k
+
+  -- from i on, the number m further
+  from-beyond : (n i k m : ℕ) → k ≤ count m (λ (j : ℕ). p (i + j)) → Avoids (i + m) (firstsFrom n i k p)
+  unfolding firstsFrom count
+  from-beyond zero i k m h = tt
+  from-beyond (suc n) i zero m h = tt
+  from-beyond (suc n) i (suc k) zero h = absurd (omega arith)
+  from-beyond (suc n) i (suc k) (suc m) h =
+      let here : p (i + 0) ≡ p i = ap p (omega arith) in
+      let next : suc i + m ≡ i + suc m = omega arith in
+      let shift : count m (λ (j : ℕ). p (i + suc j)) ≡ count m (λ (j : ℕ). p (suc i + j)) =
+      count-cong m (λ (j : ℕ). p (i + suc j)) (λ (j : ℕ). p (suc i + j)) (λ j l. ap p (omega arith)) in
+      by-test (p i)
+      (λ t.
+      let rest : Avoids (suc i + m) (firstsFrom n (suc i) k p) =
+      from-beyond n (suc i) k m (omega (arith, count-head-yes m (λ (j : ℕ). p (i + j)) (here ∙ t))) in
+      subst (Avoids (i + suc m)) (sym (firsts-yes p n i k t)) (λ z. omega arith, subst (λ (b : ℕ). Avoids b (firstsFrom n (suc i) k p)) next rest))
+      (λ t.
+      let rest : Avoids (suc i + m) (firstsFrom n (suc i) (suc k) p) =
+      from-beyond n (suc i) (suc k) m (omega (arith, count-head-no m (λ (j : ℕ). p (i + j)) (here ∙ t))) in
+      subst (Avoids (i + suc m)) (sym (firsts-no p n i k t)) (subst (λ (b : ℕ). Avoids b (firstsFrom n (suc i) (suc k) p)) next rest))
+
+  -- a number below which k pass is not among the first k
+  pub firsts-beyond : (b n k : ℕ) → k ≤ count b p → Avoids b (firsts n k p)
+  unfolding firsts
+  firsts-beyond b n k h =
+      let same : count b p ≡ count b (λ (j : ℕ). p (0 + j)) = count-cong b p (λ (j : ℕ). p (0 + j)) (λ j l. ap p (omega arith)) in
+      let zeroth : 0 + b ≡ b = omega arith in
+      subst (λ (x : ℕ). Avoids x (firstsFrom n 0 k p)) zeroth (from-beyond n 0 k b (omega arith))
