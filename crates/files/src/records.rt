@@ -20,7 +20,7 @@ const FILE_BOUND: u32 = 0xF8_0000;
 // The first byte of a free record (§6.9).
 const FREE_BYTE: u32 = 0xFD;
 
-// How many numbers begin with one byte: a record's tail has 16 bits (§6.8).
+// How many numbers have the same first byte: the tail of a free record has 16 bits (§6.9).
 const TAIL_COUNT: u32 = 65536;
 
 // The number of a free record as written (§6.9).

@@ -1,6 +1,5 @@
--- Stage 1: the definitions by themselves. The disk in block order and its image, its header, its records in their bytes, disks given by header, records
--- and contents, names, result buffers, what a sound disk has, what its first track says, and calls that judge a disk
--- first.
+-- Stage 1: the definitions by themselves. The disk in block order and its image, its header, its records in their bytes, disks given by header, records and
+-- contents, names, result buffers, what a sound disk has, what its first track says, calls that judge a disk first, and what a reply tells.
 pub mod Disk
 pub mod Header
 pub mod Records
@@ -8,5 +7,7 @@ pub mod Whole
 pub mod Names
 pub mod Results
 pub mod Sound
+pub mod Ends
 pub mod Track
 pub mod OnSound
+pub mod Judged

@@ -77,20 +77,27 @@ abbrev pub NotDone : Option Reply → Type 0
 NotDone none = Unit {0}
 NotDone (some r) = r .number ≢ 0
 
-not-done-or : (a b : Option Reply) → NotDone a → NotDone b → NotDone (orElse a b)
+-- so the first of two has
+pub not-done-or : (a b : Option Reply) → NotDone a → NotDone b → NotDone (orElse a b)
 unfolding orElse
 not-done-or none b p q = q
 not-done-or (some r) b p q = p
 
-not-done-at : (n : ℕ) → n ≢ 0 → (f : Fault) → NotDone (refusalAt n f)
+-- and one that names a place
+pub not-done-at : (n : ℕ) → n ≢ 0 → (f : Fault) → NotDone (refusalAt n f)
 not-done-at n h (At o) = h
 not-done-at n h Sound = tt
 
+-- and 11
+pub not-done-eleven : (d : Disk) → NotDone (refusal11 d)
+unfolding refusal11
+not-done-eleven d = by-cond NotDone (freeRight d) _ _ (λ t. tt) (λ t e. omega arith)
+
 -- what 8 to 11 refuse gets another number than 0
 pub refused-number : (d : Disk) → NotDone (diskRefusal d)
-unfolding diskRefusal refusal8 refusal9 refusal10 refusal11
+unfolding diskRefusal refusal8 refusal9 refusal10
 refused-number d =
     not-done-or _ _ (not-done-at 8 (λ e. omega arith) (diskHeaderFault d))
     (not-done-or _ _ (not-done-at 9 (λ e. omega arith) (faultBelow blocks (mapFault d)))
     (not-done-or _ _ (not-done-at 10 (λ e. omega arith) (faultBelow slotCount (fileFault d)))
-    (by-cond NotDone (freeRight d) _ _ (λ t. tt) (λ t e. omega arith))))
+    (not-done-eleven d)))

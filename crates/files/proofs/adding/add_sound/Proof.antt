@@ -1,5 +1,5 @@
 -- `add_sound` meets its contract, case by case.
--- Rests on: the laws in Loading/Parts, Loading/Slots, Judging/Ends, Calling/SoundDisk and laws::Tests; the
+-- Rests on: the laws in Loading/Parts, Loading/Slots, file_rules::Base/Ends, Calling/SoundDisk and laws::Tests; the
 -- contracts of name_right, sectors::refused, file_blocks, find_name, dir_end, vacant_slot, has_room, entry_for,
 -- add_at and sectors::done.
 -- Assumes nothing.
@@ -8,7 +8,7 @@ use borrow.Author.Tests.{not-false}
 use Rattle.laws.specs.Laws.Tests.{not-was}
 use Rattle.files.specs.Laws.Loading.Parts.{from-none}
 use Rattle.files.specs.Laws.Loading.Slots.{located-directory}
-use Rattle.files.specs.Laws.Judging.Ends.{end-within}
+use Rattle.file_rules.specs.Laws.Base.Ends.{end-within}
 use Rattle.files.specs.Laws.Calling.SoundDisk.{vacant-most, room-size, name-most, gave-refused, gave-done, add-name, add-present, add-full, add-done}
 use borrow.Author.Needs.{needs}
 use Rattle.files.proofs.adding.add_sound.Statement.{statement}

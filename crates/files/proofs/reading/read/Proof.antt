@@ -1,12 +1,12 @@
 -- `read` meets its contract.
--- Rests on: the laws in Judging/Verdict, Judging/Ends, Calling/Delivered and file_rules::Base/OnSound; the
+-- Rests on: the laws in Judging/Verdict, file_rules::Base/Ends, Calling/Delivered and file_rules::Base/OnSound; the
 -- contracts of sectors::refused, load_map, judge and read_sound.
 -- Assumes nothing.
 use mathlib.Core.Path.{refl, sym, _∙_}
 use Rattle.file_rules.specs.Calls.{read}
 use Rattle.file_rules.specs.Laws.Base.OnSound.{sound-length, sound-refused, sound-passed}
 use Rattle.files.specs.Laws.Judging.Verdict.{verdict-some, verdict-none}
-use Rattle.files.specs.Laws.Judging.Ends.{end-within}
+use Rattle.file_rules.specs.Laws.Base.Ends.{end-within}
 use Rattle.files.specs.Laws.Calling.Delivered.{gave-kept, gave-same}
 use borrow.Author.Needs.{needs}
 use Rattle.files.proofs.reading.read.Statement.{statement}

@@ -1,5 +1,5 @@
 -- `remove_sound` meets its contract, case by case.
--- Rests on: the laws in Loading/Parts, Loading/Slots, Judging/Ends, Calling/SoundDisk and laws::Tests; the
+-- Rests on: the laws in Loading/Parts, Loading/Slots, file_rules::Base/Ends, Calling/SoundDisk and laws::Tests; the
 -- contracts of name_right, sectors::refused, file_blocks, find_name, dir_end, remove_at and sectors::done.
 -- Assumes nothing.
 use mathlib.Core.Path.{sym, _∙_}
@@ -7,7 +7,7 @@ use borrow.Author.Tests.{not-false}
 use Rattle.laws.specs.Laws.Tests.{not-was}
 use Rattle.files.specs.Laws.Loading.Parts.{from-none}
 use Rattle.files.specs.Laws.Loading.Slots.{located-directory}
-use Rattle.files.specs.Laws.Judging.Ends.{end-within}
+use Rattle.file_rules.specs.Laws.Base.Ends.{end-within}
 use Rattle.files.specs.Laws.Calling.SoundDisk.{gave-refused, gave-done, remove-name, remove-none, remove-done}
 use borrow.Author.Needs.{needs}
 use Rattle.files.proofs.removing.remove_sound.Statement.{statement}

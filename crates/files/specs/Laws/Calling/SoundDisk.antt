@@ -1,5 +1,5 @@
 -- A sound disk has a vacant slot that fits a record. Whether there is room; add and remove case by case.
--- Rests on what a sound disk has (Judging.Ends), on what numbers say (Loading.Records) and on rows that are written (Writing.Steps).
+-- Rests on what a sound disk has (file_rules, Base.Ends), on what numbers say (Loading.Records) and on rows that are written (Writing.Steps).
 use mathlib.Core.Path.{_≡_, refl, sym, ap, ap₂, _∙_}
 use mathlib.Core.Bool.{Bool, true, false, not, _&&_}
 use mathlib.Core.List.{List}
@@ -33,7 +33,7 @@ use Rattle.file_rules.specs.Disk.{Disk, diskOf, imageOf}
 use Rattle.file_rules.specs.Laws.Base.Disk.{image-disk}
 use Rattle.files.specs.Laws.Loading.Records.{decode-none}
 use Rattle.file_rules.specs.Laws.Base.Sound.{or-none-left, or-none-right}
-use Rattle.files.specs.Laws.Judging.Ends.{files-right, end-within}
+use Rattle.file_rules.specs.Laws.Base.Ends.{files-right, end-within}
 use Rattle.files.specs.Laws.Writing.Steps.{overlay-tab, put-row}
 use Rattle.file_rules.specs.Map.{decode, recordAt, isPart, within, freeAt, freeCount, fileBound, sequences}
 use Rattle.file_rules.specs.Sizes.{slotBytes, blockSlots, slotCount, nameMost, blocksOf}

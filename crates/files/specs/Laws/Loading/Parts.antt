@@ -4,75 +4,25 @@ use mathlib.Core.Path.{_≡_, refl, sym, ap, _∙_}
 use mathlib.Core.Logic.{_≢_}
 use mathlib.Core.Bool.{Bool, true, false, not, cond, _&&_, false≢true}
 use mathlib.Core.List.{List}
-use Prim.Native.Nat.{ℕ, zero, suc, _+_, _≤_, _<_}
+use Prim.Native.Nat.{ℕ, suc, _+_, _≤_, _<_}
 use native.Mathlib.Omega.{arith}
 use lib.Dec.{ltb, eqb}
 use lib.ListN.{length, getD, set, replicate, length-set, length-replicate, getD-replicate}
 use lib.Seq.{getD-set-same, getD-set-other}
-use Rattle.laws.specs.Below.{all, count, sum, lowest}
+use Rattle.laws.specs.Below.{all, count, lowest}
 use Rattle.laws.specs.Laws.Cases.{by-order, by-equal, by-test}
-use Rattle.laws.specs.Laws.Tests.{lt-true, lt-false, eq-true, eq-false, true-eq, true-lt, false-lt, cond-true, cond-false, and-false-left}
+use Rattle.laws.specs.Laws.Tests.{lt-true, lt-false, eq-true, eq-false, true-lt, false-lt, cond-true, cond-false, and-false-left}
 use Rattle.laws.specs.Laws.Tests.{and-false-right}
-use Rattle.laws.specs.Laws.All.{all-at}
 use Rattle.laws.specs.Laws.Lowest.{lowest-some, lowest-none}
-use Rattle.laws.specs.Laws.Count.{count-cong, count-yes, count-no, sum-cong, sum-change, sum-none}
+use Rattle.laws.specs.Laws.Count.{count-cong}
 use Rattle.sector_rules.specs.Geometry.{blocks}
 use Rattle.file_rules.specs.declared.Record.{Record}
 use Rattle.file_rules.specs.declared.Record.the-variants.{Free, System, File, Other}
 use Rattle.file_rules.specs.Map.{isPart, within, bears}
+use Rattle.file_rules.specs.Laws.Base.Ends.{once-most}
 use Rattle.files.specs.Laws.Loading.Loaded.{loadedRecord}
 use Rattle.files.specs.Laws.Loading.Loops.{all-cong}
 use Rattle.files.specs.Laws.Loading.Tally.{Tallied, tally-one, tally-zero}
-
--- ---- at most as many parts as blocks
-
-seqOf : Record → ℕ
-seqOf Free = 0
-seqOf System = 0
-seqOf (File g t) = t
-seqOf Other = 0
-
--- a record is a part by one sequence alone
-other-seq : (f s : ℕ) (r : Record) → s ≢ seqOf r → isPart f s r ≡ false
-unfolding isPart seqOf
-other-seq f s Free h = refl
-other-seq f s System h = refl
-other-seq f s (File g t) h = and-false-right (eqb g f) (eq-false {a = t} {b = s} (λ e. h (sym e)))
-other-seq f s Other h = refl
-
-one-more : (n t : ℕ) (f g : ℕ → ℕ) → ((s : ℕ) → s ≢ t → f s ≡ g s) → f t ≤ g t + 1 → sum n f ≤ sum n g + 1
-one-more n t f g e h =
-    by-order t n
-    (λ l. omega (arith, sum-change n t f g l (λ j b q. e j q)))
-    (λ l. omega (arith, sum-cong n f g (λ j b. e j (omega arith))))
-
-ones : (n : ℕ) → sum n (λ (s : ℕ). 1) ≡ n
-unfolding sum
-ones zero = refl
-ones (suc n) = omega (arith, ones n)
-
-module _ (rec : ℕ → Record) (f n : ℕ) where
-  count-step : (m s : ℕ) → count (suc m) (λ (b : ℕ). isPart f s (rec b)) ≤ count m (λ (b : ℕ). isPart f s (rec b)) + 1
-  count-step m s =
-      by-test (isPart f s (rec m))
-      (λ t. omega (arith, count-yes m (λ (b : ℕ). isPart f s (rec b)) t))
-      (λ t. omega (arith, count-no m (λ (b : ℕ). isPart f s (rec b)) t))
-
-  parts-below : (m : ℕ) → sum n (λ (s : ℕ). count m (λ (b : ℕ). isPart f s (rec b))) ≤ m
-  unfolding count
-  parts-below zero = omega (arith, sum-none n (λ (s : ℕ). 0) (λ i h. refl))
-  parts-below (suc m) =
-      let F : ℕ → ℕ = λ (s : ℕ). count (suc m) (λ (b : ℕ). isPart f s (rec b)) in
-      let G : ℕ → ℕ = λ (s : ℕ). count m (λ (b : ℕ). isPart f s (rec b)) in
-      let others : (s : ℕ) → s ≢ seqOf (rec m) → F s ≡ G s = λ s q. count-no m (λ (b : ℕ). isPart f s (rec b)) (other-seq f s (rec m) q) in
-      omega (arith, one-more n (seqOf (rec m)) F G others (count-step m (seqOf (rec m))), parts-below m)
-
-  -- sequences that have one block each are no more than the blocks
-  pub once-most : all (λ (s : ℕ). eqb (count blocks (λ (b : ℕ). isPart f s (rec b))) 1) n ≡ true → n ≤ blocks
-  once-most t =
-      let c : ℕ → ℕ = λ (s : ℕ). count blocks (λ (b : ℕ). isPart f s (rec b)) in
-      let e : sum n c ≡ sum n (λ (s : ℕ). 1) = sum-cong n c (λ (s : ℕ). 1) (λ s h. true-eq (all-at (λ (s : ℕ). eqb (c s) 1) n t s h)) in
-      omega (arith, ones n, parts-below blocks)
 
 -- ---- the key of a record among the first n parts of file f
 

@@ -1,0 +1,180 @@
+-- What a reply of check, or of the first track, tells of the disk: done, 9 or 11.
+-- Rests on calls that judge a disk first (OnSound), on what a sound disk has (Sound) and on the first track (Track).
+use mathlib.Core.Path.{_≡_, refl, sym, ap, _∙_, subst}
+use mathlib.Core.Logic.{_≢_}
+use mathlib.Core.Bool.{Bool, true, false}
+use mathlib.Core.List.{List}
+use mathlib.Core.Option.{Option, none, some}
+use Prim.Native.Nat.{ℕ}
+use native.Mathlib.Omega.{arith}
+use lib.ListN.{length, take}
+use Rattle.laws.specs.Options.{orElse}
+use Rattle.laws.specs.Laws.Cases.{by-order, by-equal, by-test}
+use Rattle.laws.specs.Laws.Tests.{lt-true, lt-false, cond-true, cond-false}
+use Rattle.laws.specs.Laws.Lowest.{lowest-hit, lowest-here}
+use Rattle.sector_rules.specs.declared.Reply.{Reply}
+use Rattle.sector_rules.specs.declared.Fault.{Fault}
+use Rattle.sector_rules.specs.declared.Fault.the-variants.{At, Sound}
+use Rattle.sector_rules.specs.Faults.{faultBelow, refusalAt}
+use Rattle.sector_rules.specs.Geometry.{blocks, imageBytes}
+use Rattle.sector_rules.specs.Replies.{replyWith, done, refusal}
+use Rattle.file_rules.specs.declared.FirstTrack.{FirstTrack}
+use Rattle.file_rules.specs.Calls.{unless, check}
+use Rattle.file_rules.specs.Check.{diskHeaderFault, recordFault, mapFault, fileFault, freeRight}
+use Rattle.file_rules.specs.Check.{refusal8, refusal9, refusal10, refusal11, diskRefusal}
+use Rattle.file_rules.specs.Disk.{Disk, diskOf}
+use Rattle.file_rules.specs.FirstTrack.{refusedTrack, counted, firstTrackResult}
+use Rattle.file_rules.specs.Laws.Base.OnSound.{sound-length, sound-refused, sound-passed}
+use Rattle.file_rules.specs.Laws.Base.Sound.{or-none-right, NotDone, not-done-or, not-done-at, not-done-eleven, refused-number}
+use Rattle.file_rules.specs.Laws.Base.Track.{track-is}
+use Rattle.file_rules.specs.Map.{recordAt}
+use Rattle.file_rules.specs.Sizes.{slotCount}
+use Rattle.file_rules.specs.TrackValues.{judgedFirst}
+
+-- ---- which of several refusals is given
+
+-- a refusal, where there is one, has this number
+abbrev Numbered : ℕ → Option Reply → Type 0
+Numbered n none = Unit {0}
+Numbered n (some r) = r .number ≡ n
+
+at-number : (n : ℕ) (f : Fault) → Numbered n (refusalAt n f)
+at-number n (At o) = refl
+at-number n Sound = tt
+
+other-number : (n : ℕ) (a : Option Reply) (r : Reply) → Numbered n a → r .number ≢ n → a ≢ some r
+other-number n a r p q e = q (subst (Numbered n) e p)
+
+or-second : (a b : Option Reply) (r : Reply) → orElse a b ≡ some r → a ≢ some r → b ≡ some r
+unfolding orElse
+or-second none b r e n = e
+or-second (some x) b r e n = absurd (n e)
+
+or-first : (a b : Option Reply) (r : Reply) → orElse a b ≡ some r → b ≢ some r → a ≡ some r
+unfolding orElse
+or-first none b r e n = absurd (n e)
+or-first (some x) b r e n = e
+
+none-some : {X : Type 0} (r : Reply) → none ≡ some r → X
+none-some r e = let z : _≡_ {A = ℕ} 0 1 = cc in absurd (omega arith)
+
+some-same : (q r : Reply) → some q ≡ some r → q ≡ r
+some-same q r e = cc
+
+-- ---- check
+
+module _ (image : List ℕ) where
+  abbrev d : Disk
+  d = diskOf image
+
+  -- another reply than 1 is given for an image of the right length
+  pub check-long : check image .number ≢ 1 → length image ≡ imageBytes
+  unfolding check
+  check-long n =
+      by-equal (length image) imageBytes (λ e. e) (λ h. absurd (n (ap (λ (r : Reply). r .number) (sound-length image _ _ h))))
+
+  passed-by : length image ≡ imageBytes → check image ≡ done → (v : Option Reply) → diskRefusal d ≡ v → diskRefusal d ≡ none
+  unfolding check
+  passed-by long e none q = q
+  passed-by long e (some r) q =
+      absurd (subst NotDone q (refused-number d) (ap (λ (x : Reply). x .number) (sym (sound-refused image _ _ long r q) ∙ e)))
+
+  -- done is said of a sound disk
+  pub check-passed : check image ≡ done → diskRefusal d ≡ none
+  check-passed e = passed-by (check-long (λ z. absurd (omega (arith, z, ap (λ (x : Reply). x .number) e)))) e (diskRefusal d) refl
+
+  refused-by : length image ≡ imageBytes → (r : Reply) → r .number ≢ 0 → check image ≡ r → (v : Option Reply) → diskRefusal d ≡ v → diskRefusal d ≡ some r
+  unfolding check
+  refused-by long r n e none q = absurd (n (ap (λ (x : Reply). x .number) (sym e ∙ sound-passed image _ _ long q)))
+  refused-by long r n e (some x) q = q ∙ ap some (sym (sound-refused image _ _ long x q) ∙ e)
+
+  check-refused : (r : Reply) → r .number ≢ 0 → r .number ≢ 1 → check image ≡ r → diskRefusal d ≡ some r
+  check-refused r n m e = refused-by (check-long (λ z. m (ap (λ (x : Reply). x .number) (sym e) ∙ z))) r n e (diskRefusal d) refl
+
+  after-eight : (r : Reply) → r .number ≢ 8 → diskRefusal d ≡ some r → orElse (refusal9 d) (orElse (refusal10 d) (refusal11 d)) ≡ some r
+  unfolding diskRefusal refusal8
+  after-eight r n e = or-second (refusal8 d) _ r e (other-number 8 (refusal8 d) r (at-number 8 (diskHeaderFault d)) n)
+
+  ten-not : (r : Reply) → r .number ≢ 10 → refusal10 d ≢ some r
+  unfolding refusal10
+  ten-not r n = other-number 10 (refusal10 d) r (at-number 10 (faultBelow slotCount (fileFault d))) n
+
+  eleven-number : Numbered 11 (refusal11 d)
+  unfolding refusal11
+  eleven-number = by-test (freeRight d)
+      (λ t. subst (Numbered 11) (sym (cond-true none (some (refusal 11)) t)) tt) (λ t. subst (Numbered 11) (sym (cond-false none (some (refusal 11)) t)) refl)
+
+  nine-given : (b : ℕ) → check image ≡ replyWith 9 b 0 0 → refusal9 d ≡ some (replyWith 9 b 0 0)
+  nine-given b e =
+      let r : Reply = replyWith 9 b 0 0 in
+      or-first (refusal9 d) _ r (after-eight r (λ z. omega arith) (check-refused r (λ z. omega arith) (λ z. omega arith) e))
+      (λ z. other-number 11 (refusal11 d) r eleven-number (λ y. omega arith) (or-second (refusal10 d) _ r z (ten-not r (λ y. omega arith))))
+
+  -- 9 names a block whose record is wrong
+  pub nine-wrong : (b : ℕ) → check image ≡ replyWith 9 b 0 0 → recordFault b (recordAt d b) ≡ true
+  unfolding refusal9 faultBelow mapFault
+  nine-wrong b e =
+      let wrong : ℕ → Bool = λ (j : ℕ). recordFault j (recordAt d j) in
+      by-order (mapFault d) blocks
+      (λ h.
+      let same : some (replyWith 9 (mapFault d) 0 0) ≡ some (replyWith 9 b 0 0) =
+      sym (ap (refusalAt 9) (cond-true (At (mapFault d)) Sound (lt-true h))) ∙ nine-given b e in
+      let at : mapFault d ≡ b = ap (λ (x : Reply). x .first) (some-same _ _ same) in
+      ap wrong (sym at) ∙ lowest-hit wrong blocks h)
+      (λ h. none-some (replyWith 9 b 0 0) (sym (ap (refusalAt 9) (cond-false (At (mapFault d)) Sound (lt-false h))) ∙ nine-given b e))
+
+  -- where the header is right and the record of block 0 is wrong, 9 names it
+  pub nine-at-zero : length image ≡ imageBytes → refusal8 d ≡ none → recordFault 0 (recordAt d 0) ≡ true → check image ≡ replyWith 9 0 0 0
+  unfolding check diskRefusal orElse refusal9 faultBelow mapFault
+  nine-at-zero long right wrong =
+      let at : mapFault d ≡ 0 = omega (arith, lowest-here (λ (j : ℕ). recordFault j (recordAt d j)) blocks 0 wrong) in
+      let nine : refusal9 d ≡ some (replyWith 9 0 0 0) = ap (λ (m : ℕ). refusalAt 9 (faultBelow blocks m)) at in
+      sound-refused image _ _ long (replyWith 9 0 0 0) (rw (right, nine))
+
+  -- where 11 is not given, the free word is right
+  pub passed-eleven : refusal11 d ≡ none → freeRight d ≡ true
+  unfolding refusal11
+  passed-eleven e = by-test (freeRight d) (λ t. t) (λ t. none-some (refusal 11) (sym e ∙ cond-false none (some (refusal 11)) t))
+
+  -- the free word of a sound disk is right
+  pub word-right : diskRefusal d ≡ none → freeRight d ≡ true
+  unfolding diskRefusal
+  word-right e =
+      let after8 : orElse (refusal9 d) (orElse (refusal10 d) (refusal11 d)) ≡ none = or-none-right (refusal8 d) _ e in
+      passed-eleven (or-none-right (refusal10 d) _ (or-none-right (refusal9 d) _ after8))
+
+  -- where 11 is given, it is wrong
+  pub eleven-wrong : check image ≡ refusal 11 → freeRight d ≡ false
+  unfolding refusal11 refusal9
+  eleven-wrong e =
+      let r : Reply = refusal 11 in
+      let after8 : orElse (refusal9 d) (orElse (refusal10 d) (refusal11 d)) ≡ some r =
+      after-eight r (λ z. omega arith) (check-refused r (λ z. omega arith) (λ z. omega arith) e) in
+      let after9 : orElse (refusal10 d) (refusal11 d) ≡ some r =
+      or-second (refusal9 d) _ r after8 (other-number 9 (refusal9 d) r (at-number 9 (faultBelow blocks (mapFault d))) (λ z. omega arith)) in
+      let given : refusal11 d ≡ some r = or-second (refusal10 d) _ r after9 (ten-not r (λ z. omega arith)) in
+      by-test (freeRight d) (λ t. none-some r (sym (cond-true none (some (refusal 11)) t) ∙ given)) (λ t. t)
+
+  -- ---- the first track
+
+  track-by : (v : Option Reply) → orElse (refusal8 d) (orElse (refusal9 d) (refusal11 d)) ≡ v → judgedFirst d .reply ≡ done
+      → (judgedFirst d ≡ counted d) × (freeRight d ≡ true)
+  unfolding judgedFirst unless refusal8 refusal9
+  track-by none e p =
+      let counts : judgedFirst d ≡ counted d = rw e in
+      (counts, passed-eleven (or-none-right (refusal9 d) _ (or-none-right (refusal8 d) _ e)))
+  track-by (some r) e p =
+      let refused : judgedFirst d ≡ refusedTrack r = rw e in
+      let number : NotDone (some r) =
+      subst NotDone e (not-done-or _ _ (not-done-at 8 (λ z. omega arith) (diskHeaderFault d))
+      (not-done-or _ _ (not-done-at 9 (λ z. omega arith) (faultBelow blocks (mapFault d))) (not-done-eleven d))) in
+      absurd (number (ap (λ (x : FirstTrack). x .reply .number) (sym refused) ∙ ap (λ (x : Reply). x .number) p))
+
+  -- an accepted first track gives the counts, and its free word is right
+  pub track-accepted : length image ≡ imageBytes → firstTrackResult (take 9216 image) .reply ≡ done
+      → (firstTrackResult (take 9216 image) ≡ counted d) × (freeRight d ≡ true)
+  track-accepted long e =
+      let is : firstTrackResult (take 9216 image) ≡ judgedFirst d = track-is image long in
+      let w : (judgedFirst d ≡ counted d) × (freeRight d ≡ true) =
+      track-by (orElse (refusal8 d) (orElse (refusal9 d) (refusal11 d))) refl (ap (λ (x : FirstTrack). x .reply) (sym is) ∙ e) in
+      (is ∙ w .0, w .1)
