@@ -91,7 +91,7 @@ enum dheg_number {
     DHEG_DISK_HEADER = 8,
     /* A map record is of no kind, or of a kind that its block cannot have. `first` is the lowest
      * such block. A record is free if its first byte is FD (hex), whatever the two after it are; so
-     * FD is wrong at block 0 alone. */
+     * FD is wrong only at block 0. */
     DHEG_MAP_RECORD = 9,
     /* The directory is not sound. `first` is the lowest file number at fault, 0 for the directory
      * itself. Of two files with equal names the one with the higher number is at fault. */
@@ -239,7 +239,7 @@ dheg_reply dheg_format(uint8_t *image, size_t image_len, const uint8_t *name, si
  *   1      `first`: 2 `image` has not 737,280 bytes
  *   8      `first`: offset of the lowest wrong field of the disk header (34: directory's length)
  *   9      `first`: lowest block whose map record is wrong; one that begins with FD (hex) is free,
- *          whatever its other two bytes are, and wrong at block 0 alone
+ *          whatever its other two bytes are, and wrong only at block 0
  *   10     `first`: lowest file number at fault, 0 for the directory itself; of two files with equal
  *          names, in whatever spelling, the one with the higher number is at fault
  *   11     the free word is not three times the free records; no place is named
@@ -330,7 +330,7 @@ dheg_reply dheg_remove(uint8_t *image, size_t image_len, const uint8_t *name, si
  *
  *   1      `first`: 2 `track` has not 9,216 bytes
  *   8      `first`: offset of the lowest wrong field of the disk header (34: directory's length)
- *   9      `first`: lowest block whose map record is wrong
+ *   9      `first`: lowest block whose map record is wrong, as dheg_check says
  *   11     the free word is not three times the free records; no place is named
  *
  * `track` is only read, until the call returns; no state is kept, and several threads may judge the

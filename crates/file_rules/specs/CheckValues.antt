@@ -22,7 +22,7 @@ use Rattle.file_rules.specs.Sizes.{titleMost}
 
 -- what check says of an image of which one record is another, where the record of block b is at byte 96 + 3b (§7.9 §7.10)
 pub record RecordsJudged (image : List ℕ) : Type 0 where
-  -- 9: the record of block 0 is of no kind, or begins with FD, that of block 1 is the system's, and that of block 100 is of no kind
+  -- 9: the record of block 0 is of no kind, or FD 00 00, that of block 1 is the system's, and that of block 100 is of no kind
   pub first-record : check (set image 96 0xF9) ≡ replyWith 9 0 0 0
   pub first-free : check (set image 96 0xFD) ≡ replyWith 9 0 0 0
   pub system-record : check (set image 99 0xF8) ≡ replyWith 9 1 0 0

@@ -1,4 +1,4 @@
--- Laws of the definitions that history rests on. No statement outside cites them.
+-- Laws of the definitions that the promises rest on. No statement outside cites them.
 pub mod Base
 pub mod OnAnyDisk
 pub mod InnerModel

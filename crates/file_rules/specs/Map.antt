@@ -21,7 +21,7 @@ fileBound = 0xF80000
 abbrev pub freeByte : ℕ
 freeByte = 0xFD
 
--- how many numbers begin with one byte: the other two, a record's tail, have 16 bits (§6.8)
+-- how many numbers have the same first byte: the other two, the tail of a free record, have 16 bits (§6.9)
 abbrev pub tailCount : ℕ
 tailCount = 65536
 

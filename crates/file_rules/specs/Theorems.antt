@@ -6,9 +6,10 @@ pub use Rattle.file_rules.specs.Laws.Theorem.Refusals.{refusals-keep}
 -- names-equal: two names are equal if and only if they have the same length and, capitals counting as small letters, the same bytes; this is an equivalence;
 -- all 256 bytes as they are compared. NamesEqual.antt
 pub use Rattle.file_rules.specs.Laws.Base.Names.{names-equal}
--- tails-unread: block images that differ in tails of free records alone get the same answers, and differ in tails alone afterwards. FreeTails.antt
+-- tails-unread: block images that differ at most in tails of free records get the same answers, and differ at most in tails afterwards. FreeTails.antt
 pub use Rattle.file_rules.specs.Laws.Theorem.TailsUnread.{tails-unread}
--- free-tails: which records an add or a remove changes, so that every other tail of a free record stays; no history makes another tail. FreeTails.antt
+-- free-tails: a record is free by its first byte, in every count and for 9; what an add or a remove writes as each record and which it leaves, tails of free
+-- records among them; no history makes another tail than FF FF. FreeTails.antt
 pub use Rattle.file_rules.specs.Laws.Theorem.FreeTails.{free-tails}
 -- history: for every history of calls after a format, each reply, each result buffer and the whole final image are the model's. History.antt
 pub use Rattle.file_rules.specs.Laws.Theorem.History.{history}

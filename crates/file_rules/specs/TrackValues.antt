@@ -23,7 +23,7 @@ judgedFirst d = unless (orElse (refusal8 d) (orElse (refusal9 d) (refusal11 d)))
 
 -- ---- what is promised
 
--- by value: what first track gives of a track of another length, of a formatted disk and of one with another free word (§8.14)
+-- by value: what first track gives of a track of another length, of a formatted disk, of one with another tail and of one with another free word (§8.14)
 pub record FirstTrackValues : Type 0 where
   -- the first 9,216 bytes of an image are enough
   pub whole-image : (image : List ℕ) → length image ≡ imageBytes → firstTrackResult (take 9216 image) ≡ judgedFirst (diskOf image)

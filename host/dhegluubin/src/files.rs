@@ -118,7 +118,8 @@ pub fn read(image: &[u8], name: &[u8], out: &mut [u8]) -> Result<usize, Refusal>
 /// Adds a file to a disk. It takes the lowest vacant slot and the lowest free
 /// blocks, (64 + bytes of data) / 1536 rounded up, and a block more where the
 /// directory grows. The disk keeps the name as it is spelled here; compared
-/// with those of other files, A to Z in it count as a to z.
+/// with those of other files, A to Z in it count as a to z. Free records whose
+/// blocks are not taken stay as they are, all three bytes.
 ///
 /// Refused as [`check`], then with 12, 13, 15:
 /// [`Argument`](Refusal::Argument), [`NamePresent`](Refusal::NamePresent),
@@ -145,8 +146,9 @@ pub fn add(image: &mut [u8], name: &[u8], date: u32, data: &[u8]) -> Result<(), 
 }
 
 /// Removes a file from a disk. Its blocks and its slot are filled with zero
-/// bytes: none of its bytes stays in the image. A to Z in the name count as
-/// a to z.
+/// bytes: none of its bytes stays in the image. Its records are written FD FF
+/// FF (hex); those that were free before stay as they are. A to Z in the name
+/// count as a to z.
 ///
 /// Refused as [`check`], then with 12, 14: [`Argument`](Refusal::Argument),
 /// [`NoSuchName`](Refusal::NoSuchName).

@@ -82,9 +82,9 @@ pub enum Refusal {
         /// Offset of the lowest wrong field, 34 for the length.
         offset: usize,
     },
-    /// 9: a map record is of no kind, or of a kind its block cannot have. One
-    /// that begins with FD (hex) is free, whatever follows, and wrong at block
-    /// 0 alone.
+    /// 9: a map record is of no kind, or of a kind its block cannot have. A
+    /// record that begins with FD (hex) is free, whatever follows; it is wrong
+    /// only at block 0.
     MapRecord {
         /// The lowest such block.
         block: usize,

@@ -2,14 +2,14 @@
 -- Rests on the laws of tests and of a function that is changed at one number.
 use mathlib.Core.Path.{_≡_, refl, sym, ap, ap₂, _∙_}
 use mathlib.Core.Logic.{_≢_}
-use mathlib.Core.Bool.{Bool, true, false, cond, _&&_, _||_}
+use mathlib.Core.Bool.{Bool, true, false, not, cond, _&&_, _||_}
 use Prim.Native.Nat.{ℕ, zero, suc, _+_, _*_, _≤_, _<_}
 use native.Mathlib.Nat.{add-zero, add-suc, not-suc-le-zero}
 use native.Mathlib.Omega.{arith}
 use lib.Dec.{lit≤}
 use Rattle.laws.specs.Below.{count, sum}
 use Rattle.laws.specs.Changes.{upd}
-use Rattle.laws.specs.Laws.Cases.{by-test, by-equal}
+use Rattle.laws.specs.Laws.Cases.{by-test, by-order, by-equal}
 use Rattle.laws.specs.Laws.Tests.{cond-true, cond-false, and-not, or-left, or-right, or-none}
 use Rattle.laws.specs.Laws.Changes.{upd-same, upd-other}
 
@@ -66,6 +66,42 @@ count-but-one (suc n) i p q e =
     by-test (q n)
     (λ t. omega (arith, count-yes n p (same-n ∙ t), count-yes n q t))
     (λ t. omega (arith, count-no n p (same-n ∙ t), count-no n q t)))
+
+-- where the count is 0, every number fails
+pub count-zero : (n : ℕ) (p : ℕ → Bool) → count n p ≡ 0 → (i : ℕ) → i < n → p i ≡ false
+count-zero zero p e i h = absurd (not-suc-le-zero h)
+count-zero (suc n) p e i h =
+    by-test (p n)
+    (λ t. absurd (omega (arith, count-yes n p t)))
+    (λ t. by-equal i n (λ q. ap p q ∙ t) (λ q. count-zero n p (omega (arith, count-no n p t)) i (omega arith)))
+
+-- where it is not 0, there is a lowest number that passes
+pub count-first : (n : ℕ) (p : ℕ → Bool) → 1 ≤ count n p → (x : ℕ) × (x < n) × (p x ≡ true) × (count x p ≡ 0)
+unfolding count
+count-first zero p h = absurd (omega arith)
+count-first (suc n) p h =
+    by-order 0 (count n p)
+    (λ q. let w = count-first n p q in (w .0, omega (arith, w .1), w .2, w .3))
+    (λ q. by-test (p n) (λ t. (n, omega arith, t, omega arith)) (λ t. absurd (omega (arith, count-no n p t))))
+
+-- the count grows with the bound
+pub count-more : (n i : ℕ) (p : ℕ → Bool) → i ≤ n → count i p ≤ count n p
+count-more zero i p h = let z : i ≡ 0 = omega arith in omega (arith, ap (λ (x : ℕ). count x p) z)
+count-more (suc n) i p h =
+    by-equal i (suc n)
+    (λ z. omega (arith, ap (λ (x : ℕ). count x p) z))
+    (λ z. by-test (p n)
+    (λ t. omega (arith, count-yes n p t, count-more n i p (omega arith)))
+    (λ t. omega (arith, count-no n p t, count-more n i p (omega arith))))
+
+-- numbers that pass and numbers that fail are all numbers below n
+pub count-not : (n : ℕ) (p : ℕ → Bool) → count n (λ (i : ℕ). not (p i)) + count n p ≡ n
+unfolding count
+count-not zero p = refl
+count-not (suc n) p =
+    by-test (p n)
+    (λ t. omega (arith, count-no n (λ (i : ℕ). not (p i)) (ap not t), count-yes n p t, count-not n p))
+    (λ t. omega (arith, count-yes n (λ (i : ℕ). not (p i)) (ap not t), count-no n p t, count-not n p))
 
 -- where one number alone below n passes, the count is 1
 pub count-one : (n i : ℕ) (p : ℕ → Bool) → i < n → p i ≡ true → ((j : ℕ) → j < n → p j ≡ true → j ≡ i) → count n p ≡ 1

@@ -129,6 +129,16 @@ module _ (p : ℕ → Bool) where
       (λ t. subst (Avoids b) (sym (firsts-yes p n i k t)) (λ z. true≢false (p i) t (ap p (sym z) ∙ e), from-fails b e n (suc i) k))
       (λ t. subst (Avoids b) (sym (firsts-no p n i k t)) (from-fails b e n (suc i) (suc k)))
 
+  -- a number below the first that is asked is not among them
+  pub from-below : (b n i k : ℕ) → b < i → Avoids b (firstsFrom n i k p)
+  unfolding firstsFrom
+  from-below b zero i k h = tt
+  from-below b (suc n) i zero h = tt
+  from-below b (suc n) i (suc k) h =
+      by-test (p i)
+      (λ t. subst (Avoids b) (sym (firsts-yes p n i k t)) (λ z. omega arith, from-below b n (suc i) k (omega arith)))
+      (λ t. subst (Avoids b) (sym (firsts-no p n i k t)) (from-below b n (suc i) (suc k) (omega arith)))
+
   -- a number that fails is not among them
   pub firsts-fails : (b : ℕ) → p b ≡ false → (n k : ℕ) → Avoids b (firsts n k p)
   unfolding firsts

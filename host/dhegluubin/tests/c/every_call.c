@@ -177,12 +177,23 @@ static void wrong_disks(void)
     slot[15] = 6;
     image[21] ^= 1;
     expect("all put right", checked(), DHEG_DONE, 0, 0, 0);
-    image[96 + 3 * 100 + 1] = 0x00;
-    image[96 + 3 * 100 + 2] = 0x10;
+}
+
+/* Record 100 is free with the tail 00 10; calls leave it so, and count it. */
+static void free_tail(void)
+{
+    uint8_t *record = image + 96 + 3 * 100;
+
+    record[1] = 0x00;
+    record[2] = 0x10;
     expect("a free record with another tail", checked(), DHEG_DONE, 0, 0, 0);
     expect("another tail", first_track_reply(), DHEG_DONE, 0, 0, 0);
+    expect("add beside it", add("tail", text("data"), 4), DHEG_DONE, 0, 0, 0);
+    expect("remove beside it", remove_file("tail"), DHEG_DONE, 0, 0, 0);
+    check("the tail stays", record[0] == 0xFD && record[1] == 0x00 && record[2] == 0x10);
     image[96] = 0xFD;
-    expect("free at block 0", checked(), DHEG_MAP_RECORD, 0, 0, 0);
+    wrong_disk("free at block 0", DHEG_MAP_RECORD, 0);
+    expect("free at block 0", first_track_reply(), DHEG_MAP_RECORD, 0, 0, 0);
     image[96] = 0xF8;
     expect("the system's at block 0", checked(), DHEG_DONE, 0, 0, 0);
 }
@@ -339,6 +350,7 @@ int main(void)
     files();
     long_data();
     wrong_disks();
+    free_tail();
     first_track();
     hfe_images();
     version_3();

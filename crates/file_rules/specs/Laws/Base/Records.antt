@@ -81,6 +81,11 @@ free-by-byte d b h =
     ∙ by-cond (λ (r : Record). isFree r ≡ false) (eqb n systemNumber) System Other (λ u. refl) (λ u. refl)
     ∙ sym (eq-false (λ e. false-eq t (top ∙ e)))))
 
+-- a record in bytes that begins with FD is the free one
+pub begins-free : (d : Disk) (b : ℕ) → ((i : ℕ) → i < recordBytes → recordByte d b i < 256) → recordByte d b 0 ≡ freeByte → recordAt d b ≡ Free
+unfolding freeAt
+begins-free d b bytes e = free-only (recordAt d b) (free-by-byte d b bytes ∙ eq-true e)
+
 -- ---- a record that is written
 
 module _ (d : Disk) (b : ℕ) (r : Record) where

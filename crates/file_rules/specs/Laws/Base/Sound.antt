@@ -4,8 +4,9 @@ use mathlib.Core.Path.{_≡_, refl, sym, ap, _∙_}
 use mathlib.Core.Logic.{_≢_}
 use mathlib.Core.Bool.{Bool, true, false}
 use mathlib.Core.Option.{Option, none, some}
-use Prim.Native.Nat.{ℕ}
+use Prim.Native.Nat.{ℕ, _<_}
 use native.Mathlib.Omega.{arith}
+use Rattle.laws.specs.Below.{lowest}
 use Rattle.laws.specs.Options.{orElse}
 use Rattle.laws.specs.Laws.Cases.{by-order, by-cond}
 use Rattle.laws.specs.Laws.Tests.{lt-true, true≢false, cond-true}
@@ -62,13 +63,18 @@ first-system d e =
     let a : orElse (refusal9 d) (orElse (refusal10 d) (refusal11 d)) ≡ none = or-none-right (refusal8 d) _ e in
     first-passed d (or-none-left (refusal9 d) (orElse (refusal10 d) (refusal11 d)) a)
 
--- where block 0 is the system's, it is no part of a file
+-- a block whose record is not a part of a file is not the block of that part
+pub part-not : (d : Disk) (f s b : ℕ) → b < blocks → isPart f s (recordAt d b) ≡ false → partBlock d f s ≢ b
+unfolding partBlock
+part-not d f s b l e z =
+    let test : ℕ → Bool = λ (j : ℕ). isPart f s (recordAt d j) in
+    let h : lowest test blocks < blocks = omega arith in
+    true≢false (test b) (ap test (sym z) ∙ lowest-hit test blocks h) e
+
+-- so where block 0 is the system's, it is none
 pub part-not-first : (d : Disk) → recordAt d 0 ≡ System → (f s : ℕ) → partBlock d f s ≢ 0
-unfolding partBlock isPart
-part-not-first d first f s z =
-    let test : ℕ → Bool = λ (b : ℕ). isPart f s (recordAt d b) in
-    let t : test 0 ≡ true = ap test (sym z) ∙ lowest-hit test blocks (omega arith) in
-    true≢false (test 0) t (ap (isPart f s) first)
+unfolding isPart
+part-not-first d first f s = part-not d f s 0 (omega arith) (ap (isPart f s) first)
 
 -- ---- a disk with a refusal
 

@@ -12,14 +12,13 @@ use Rattle.laws.specs.Below.{all, lowest, count}
 use Rattle.laws.specs.Numbers.{at16, at32}
 use Rattle.laws.specs.Options.{orElse}
 use Rattle.laws.specs.Laws.Cases.{by-order}
-use Rattle.laws.specs.Laws.Tests.{eq-true}
 use Rattle.laws.specs.Laws.Numbers.{big-ext}
 use Rattle.sector_rules.specs.declared.Reply.{Reply}
 use Rattle.sector_rules.specs.Faults.{faultBelow, refusalAt}
 use Rattle.sector_rules.specs.Geometry.{blocks}
 use Rattle.sector_rules.specs.Replies.{refusal}
 use Rattle.file_rules.specs.declared.Record.{Record}
-use Rattle.file_rules.specs.declared.Record.the-variants.{Free, System}
+use Rattle.file_rules.specs.declared.Record.the-variants.{System}
 use Rattle.file_rules.specs.declared.Entry.{Entry}
 use Rattle.file_rules.specs.Calls.{opensBlock, needed, entries, dataOf}
 use Rattle.file_rules.specs.Check.{recordFault, mapFault, partsRight, noRecordBears, newName, entryRight, fileRight, fileFault, freeRight}
@@ -27,28 +26,24 @@ use Rattle.file_rules.specs.Check.{refusal8, refusal9, refusal10, refusa
 use Rattle.file_rules.specs.Directory.{nameOf, entryOf, slotByte, slotEntry, slotName, held, dirBytes, dirEnd, findName, vacantSlot}
 use Rattle.file_rules.specs.Disk.{Disk}
 use Rattle.file_rules.specs.FirstTrack.{counted}
-use Rattle.file_rules.specs.FreeTails.{InBytes, LikeRecord, sameBytes, bothFree, TailsApart}
+use Rattle.file_rules.specs.FreeTails.{SameOrBothFree, sameBytes, bothFree, SameButTails}
 use Rattle.file_rules.specs.Laws.Base.Header.{judged-alike}
-use Rattle.file_rules.specs.Laws.Base.Records.{free-by-byte, free-only}
+use Rattle.file_rules.specs.Laws.Base.Records.{begins-free}
 use Rattle.file_rules.specs.Laws.Base.Sound.{first-passed, part-not-first}
 use Rattle.file_rules.specs.Laws.OnAnyDisk.Kept.{record-same}
-use Rattle.file_rules.specs.Map.{recordByte, recordAt, isFree, bears, isPart, within, freeAt, freeCount, partBlock, fileByte}
+use Rattle.file_rules.specs.Map.{recordAt, isFree, bears, isPart, within, freeAt, freeCount, partBlock, fileByte}
 use Rattle.file_rules.specs.Sizes.{blockBytes, slotBytes, blockSlots, slotCount, mapStart, recordBytes, blocksOf, freeSectors}
 
 -- ---- records
 
-begins-free : (d : Disk) (b : ℕ) → InBytes d b → recordByte d b 0 ≡ 0xFD → recordAt d b ≡ Free
-unfolding freeAt
-begins-free d b bytes e = free-only (recordAt d b) (free-by-byte d b bytes ∙ eq-true e)
-
 -- like records are the same record
-pub like-record : (d e : Disk) (b : ℕ) → LikeRecord d e b → recordAt d b ≡ recordAt e b
+pub like-record : (d e : Disk) (b : ℕ) → SameOrBothFree d e b → recordAt d b ≡ recordAt e b
 like-record d e b (sameBytes s) = record-same d e b s
 like-record d e b (bothFree p q x y) = begins-free d b p x ∙ sym (begins-free e b q y)
 
--- disks that differ in tails alone, and past the end of block 0 not at all
+-- disks that differ at most in tails, and past the end of block 0 not at all
 pub record Alike (d e : Disk) : Type 0 where
-  pub apart : TailsApart d e
+  pub sameBut : SameButTails d e
   pub past : (o : ℕ) → blockBytes ≤ o → d 0 o ≡ e 0 o
 
 module _ (d e : Disk) (a : Alike d e) where
@@ -56,7 +51,7 @@ module _ (d e : Disk) (a : Alike d e) where
   pub records-alike : recordAt d ≡ recordAt e
   records-alike =
       fun-ext (λ (b : ℕ).
-      by-order b blocks (λ l. like-record d e b (a .apart .records b l))
+      by-order b blocks (λ l. like-record d e b (a .sameBut .records b l))
       (λ h. record-same d e b (λ i k. a .past (mapStart + recordBytes * b + i) (omega arith))))
 
   record-alike : (b : ℕ) → recordAt d b ≡ recordAt e b
@@ -80,12 +75,12 @@ module _ (d e : Disk) (a : Alike d e) where
   -- a word of the header is the same
   pub word-alike : (o : ℕ) → o + 2 ≤ mapStart → at16 (d 0) o ≡ at16 (e 0) o
   unfolding at16
-  word-alike o h = big-ext (λ (i : ℕ). d 0 (o + i)) (λ (i : ℕ). e 0 (o + i)) 2 (λ i l. a .apart .header (o + i) (omega arith))
+  word-alike o h = big-ext (λ (i : ℕ). d 0 (o + i)) (λ (i : ℕ). e 0 (o + i)) 2 (λ i l. a .sameBut .header (o + i) (omega arith))
 
   -- the update count is the same
   pub updates-alike : at32 (d 0) 16 ≡ at32 (e 0) 16
   unfolding at32
-  updates-alike = big-ext (λ (i : ℕ). d 0 (16 + i)) (λ (i : ℕ). e 0 (16 + i)) 4 (λ i l. a .apart .header (16 + i) (omega arith))
+  updates-alike = big-ext (λ (i : ℕ). d 0 (16 + i)) (λ (i : ℕ). e 0 (16 + i)) 4 (λ i l. a .sameBut .header (16 + i) (omega arith))
 
   dir-alike : dirBytes d ≡ dirBytes e
   unfolding dirBytes
@@ -99,7 +94,7 @@ module _ (d e : Disk) (a : Alike d e) where
   -- 8, 9 and 11 judge alike
   pub eight-alike : refusal8 d ≡ refusal8 e
   unfolding refusal8
-  eight-alike = ap (refusalAt 8) (judged-alike d e (λ o h. a .apart .header o (omega arith)) (λ o g h. a .apart .header o (omega arith)))
+  eight-alike = ap (refusalAt 8) (judged-alike d e (λ o h. a .sameBut .header o (omega arith)) (λ o g h. a .sameBut .header o (omega arith)))
 
   -- 9
   pub nine-alike : refusal9 d ≡ refusal9 e
@@ -131,7 +126,7 @@ module _ (d e : Disk) (a : Alike d e) where
 
   module _ (first : recordAt d 0 ≡ System) where
     in-part : (f s o : ℕ) → d (partBlock d f s) o ≡ e (partBlock e f s) o
-    in-part f s o = a .apart .contents (partBlock d f s) o (part-not-first d first f s) ∙ ap (λ (b : ℕ). e b o) (part-alike f s)
+    in-part f s o = a .sameBut .contents (partBlock d f s) o (part-not-first d first f s) ∙ ap (λ (b : ℕ). e b o) (part-alike f s)
 
     -- slots have the same bytes
     pub slots-alike : slotByte d ≡ slotByte e

@@ -40,7 +40,8 @@ pub record-same : (d e : Disk) (b : ℕ) → SameRecord d e b → recordAt d b �
 unfolding recordAt numberAt
 record-same d e b s = ap decode (big-ext (recordByte d b) (recordByte e b) recordBytes s)
 
-free-same : (d e : Disk) (b : ℕ) → SameRecord d e b → freeAt d b ≡ freeAt e b
+-- so both are free or none
+pub free-same : (d e : Disk) (b : ℕ) → SameRecord d e b → freeAt d b ≡ freeAt e b
 unfolding freeAt
 free-same d e b s = ap isFree (record-same d e b s)
 
@@ -143,7 +144,7 @@ module _ (d : Disk) (first : recordAt d 0 ≡ System) where
   firsts-not-first n = firsts-fails (freeAt d) 0 (system-held d first) blocks n
 
   -- the lowest free blocks, given to file f, leave each record that is not among theirs
-  firsts-beside : (f : ℕ) (c : ℕ → ℕ) (s n b : ℕ) → b < blocks → Avoids b (firsts blocks n (freeAt d))
+  pub firsts-beside : (f : ℕ) (c : ℕ → ℕ) (s n b : ℕ) → b < blocks → Avoids b (firsts blocks n (freeAt d))
       → SameRecord d (giveBlocks d f c s (firsts blocks n (freeAt d))) b
   firsts-beside f c s n b l a =
       give-beside (firsts blocks n (freeAt d)) d f c s b (firsts-not-first n) a l
@@ -155,15 +156,16 @@ module _ (d : Disk) (first : recordAt d 0 ≡ System) where
       sym (record-same d e 0 (firsts-beside f c s n 0 (omega arith) (firsts-not-first n))) ∙ first
 
 module _ (d : Disk) (first : recordAt d 0 ≡ System) where
-  grow-beside : (k b : ℕ) → b < blocks → Avoids b (firsts blocks 1 (freeAt d)) → SameRecord d (growDir d k) b
+  -- where the directory grows, every record but the lowest free one stays
+  pub grow-beside : (k b : ℕ) → b < blocks → (opensBlock d k ≡ true → Avoids b (firsts blocks 1 (freeAt d))) → SameRecord d (growDir d k) b
   unfolding growDir
   grow-beside k b l a =
       by-cond (λ (e : Disk). SameRecord d e b) (opensBlock d k) _ d
-      (λ t. firsts-beside d first 0 zeros (k / blockSlots) 1 b l a) (λ t i q. refl)
+      (λ t. firsts-beside d first 0 zeros (k / blockSlots) 1 b l (a t)) (λ t i q. refl)
 
   -- block 0 stays the system's where the directory grows
   pub grow-system : (k : ℕ) → recordAt (growDir d k) 0 ≡ System
-  grow-system k = sym (record-same d (growDir d k) 0 (grow-beside k 0 (omega arith) (firsts-not-first d first 1))) ∙ first
+  grow-system k = sym (record-same d (growDir d k) 0 (grow-beside k 0 (omega arith) (λ t. firsts-not-first d first 1))) ∙ first
 
   module _ (k : ℕ) (e : Entry) (content : List ℕ) (b : ℕ) (l : b < blocks) where
     abbrev d₁ : Disk
@@ -175,42 +177,51 @@ module _ (d : Disk) (first : recordAt d 0 ≡ System) where
     abbrev d₂ : Disk
     d₂ = giveBlocks d₁ k (storedByte e content) 0 (firsts blocks n (freeAt d₁))
 
-    -- what both steps leave, the add leaves
-    add-beside : SameRecord d d₁ b → Avoids b (firsts blocks n (freeAt d₁)) → SameRecord d (addAt d k e content) b
+    -- the steps after the blocks are given leave every record
+    pub given-added : SameRecord d₂ (addAt d k e content) b
     unfolding addAt
-    add-beside p a =
-        let system₁ : recordAt d₁ 0 ≡ System = grow-system k in
-        let system₂ : recordAt d₂ 0 ≡ System = firsts-system d₁ system₁ k (storedByte e content) 0 n in
-        same-then d d₁ (addAt d k e content) b p
-        (same-then d₁ d₂ (addAt d k e content) b (firsts-beside d₁ system₁ k (storedByte e content) 0 n b l a)
-        (map-records d₂ (addAt d k e content) (added-map d₂ system₂ k (dirEnd d) (entryByte e)) b l))
+    given-added =
+        let system₂ : recordAt d₂ 0 ≡ System = firsts-system d₁ (grow-system k) k (storedByte e content) 0 n in
+        map-records d₂ (addAt d k e content) (added-map d₂ system₂ k (dirEnd d) (entryByte e)) b l
+
+    -- what is not given after the directory has grown, the add leaves
+    pub grown-added : Avoids b (firsts blocks n (freeAt d₁)) → SameRecord d₁ (addAt d k e content) b
+    grown-added a = same-then d₁ d₂ (addAt d k e content) b (firsts-beside d₁ (grow-system k) k (storedByte e content) 0 n b l a) given-added
+
+    add-beside : SameRecord d d₁ b → Avoids b (firsts blocks n (freeAt d₁)) → SameRecord d (addAt d k e content) b
+    add-beside p a = same-then d d₁ (addAt d k e content) b p (grown-added a)
 
     -- an add leaves each record that is not free
     pub add-held : freeAt d b ≡ false → SameRecord d (addAt d k e content) b
     add-held t =
-        let p : SameRecord d d₁ b = grow-beside k b l (firsts-fails (freeAt d) b t blocks 1) in
+        let p : SameRecord d d₁ b = grow-beside k b l (λ o. firsts-fails (freeAt d) b t blocks 1) in
         add-beside p (firsts-fails (freeAt d₁) b (sym (free-same d d₁ b p) ∙ t) blocks n)
 
-    -- and each that has as many free ones below it as the add needs
-    pub add-left : needed d k (length content) ≤ count b (freeAt d) → SameRecord d (addAt d k e content) b
+    -- a block that has as many free ones below it as the add needs is not among those given
+    pub left-beside : needed d k (length content) ≤ count b (freeAt d)
+        → (opensBlock d k ≡ true → Avoids b (firsts blocks 1 (freeAt d))) × Avoids b (firsts blocks n (freeAt d₁))
     unfolding needed growDir
-    add-left h =
+    left-beside h =
         by-test (opensBlock d k)
         (λ t.
         let grown : Disk = giveBlocks d 0 zeros (k / blockSlots) (firsts blocks 1 (freeAt d)) in
         let more : suc n ≤ count b (freeAt d) = omega (arith, cond-true {b = opensBlock d k} (suc n) n t) in
-        let p : SameRecord d d₁ b = grow-beside k b l (firsts-beyond (freeAt d) b blocks 1 (omega arith)) in
         let is : d₁ ≡ grown = cond-true _ _ t in
         let less : count b (freeAt d) ≤ count b (freeAt grown) + length (firsts blocks 1 (freeAt d)) =
         give-count (firsts blocks 1 (freeAt d)) d 0 zeros (k / blockSlots) b (firsts-not-first d first 1) (omega arith) in
         let left : n ≤ count b (freeAt d₁) =
         subst (λ (x : Disk). n ≤ count b (freeAt x)) (sym is) (omega (arith, less, firsts-most blocks 1 (freeAt d))) in
-        add-beside p (firsts-beyond (freeAt d₁) b blocks n left))
+        (λ o. firsts-beyond (freeAt d) b blocks 1 (omega arith), firsts-beyond (freeAt d₁) b blocks n left))
         (λ t.
         let is : d₁ ≡ d = cond-false _ _ t in
-        let left : n ≤ count b (freeAt d) = omega (arith, cond-false {b = opensBlock d k} (suc n) n t) in
-        add-beside (subst (λ (x : Disk). SameRecord d x b) (sym is) (λ i q. refl))
-        (firsts-beyond (freeAt d₁) b blocks n (subst (λ (x : Disk). n ≤ count b (freeAt x)) (sym is) left)))
+        let left : n ≤ count b (freeAt d) = omega (arith, cond-false {b = opensBlock d k} (suc n) n t) in (
+          λ o. true≢false (opensBlock d k) o t,
+          firsts-beyond (freeAt d₁) b blocks n (subst (λ (x : Disk). n ≤ count b (freeAt x)) (sym is) left),
+        ))
+
+    -- so an add leaves its record
+    pub add-left : needed d k (length content) ≤ count b (freeAt d) → SameRecord d (addAt d k e content) b
+    add-left h = let apart = left-beside h in add-beside (grow-beside k b l (apart .0)) (apart .1)
 
 -- ---- a remove
 
@@ -247,6 +258,10 @@ module _ (d : Disk) (first : recordAt d 0 ≡ System) (f : ℕ) where
             (λ z. true≢false (bears f (recordAt d b)) u (ap (λ (x : ℕ). bears f (recordAt d x)) z ∙ t))
             (λ z. sym (kept i k) ∙ before .2 u (omega arith) i k),
       ))
+
+  -- freeing the blocks of the file below n leaves each record that does not bear it
+  pub freed-kept : (n b : ℕ) → n ≤ blocks → b < blocks → bears f (recordAt d b) ≡ false → SameRecord d (freeBlocks n d f) b
+  freed-kept n b h l t = freed-below n b h l .1 t
 
   -- block 0 stays the system's
   pub freed-system : (n : ℕ) → n ≤ blocks → recordAt (freeBlocks n d f) 0 ≡ System

@@ -1,4 +1,4 @@
--- The steps of add and remove on disks that differ in tails alone leave disks that differ in tails alone.
+-- The steps of add and remove on disks that differ at most in tails leave disks that differ at most in tails.
 -- Rests on what is read of such disks (Alike) and on which records the steps change (Kept).
 use mathlib.Core.Path.{_≡_, refl, sym, ap, ap₂, _∙_, subst}
 use mathlib.Core.Logic.{_≢_}
@@ -22,7 +22,7 @@ use Rattle.file_rules.specs.declared.Entry.{Entry}
 use Rattle.file_rules.specs.Calls.{DiskChanged, diskKept, opensBlock, growDir, endAfter, addAt, addSound, removeAt, removeSound, needed}
 use Rattle.file_rules.specs.Directory.{nameRight, entryByte, entryFor, dirEnd, findName, vacantSlot}
 use Rattle.file_rules.specs.Disk.{Disk}
-use Rattle.file_rules.specs.FreeTails.{SameRecord, LikeRecord, sameBytes, bothFree}
+use Rattle.file_rules.specs.FreeTails.{SameRecord, SameOrBothFree, sameBytes, bothFree}
 use Rattle.file_rules.specs.Laws.Base.Records.{record-set, record-beside}
 use Rattle.file_rules.specs.Laws.Base.Sound.{part-not-first}
 use Rattle.file_rules.specs.Laws.Base.Whole.{bears-not-system}
@@ -35,7 +35,7 @@ use Rattle.file_rules.specs.Written.{storedByte, part, blocksFor, zeros,
 use Rattle.file_rules.specs.Written.{giveBlocks, freeBlock, freeBlocks}
 
 -- like records that keep their bytes stay like
-pub like-kept : (d e d′ e′ : Disk) (b : ℕ) → LikeRecord d e b → SameRecord d d′ b → SameRecord e e′ b → LikeRecord d′ e′ b
+pub like-kept : (d e d′ e′ : Disk) (b : ℕ) → SameOrBothFree d e b → SameRecord d d′ b → SameRecord e e′ b → SameOrBothFree d′ e′ b
 like-kept d e d′ e′ b (sameBytes s) p q = sameBytes (λ i k. sym (p i k) ∙ s i k ∙ q i k)
 like-kept d e d′ e′ b (bothFree x y u v) p q =
     bothFree (λ i k. subst (λ (n : ℕ). n < 256) (p i k) (x i k)) (λ i k. subst (λ (n : ℕ). n < 256) (q i k) (y i k))
@@ -51,10 +51,10 @@ module _ (d e : Disk) (a : Alike d e) where
   head-step : (o n : ℕ) (g : ℕ → ℕ) → o + n ≤ mapStart → Alike (written d 0 o n g) (written e 0 o n g)
   head-step o n g h =
       record {
-        apart = record {
-          header = λ i l. zero-row i (a .apart .header i l);
-          records = λ b l. like-kept d e _ _ b (a .apart .records b l) (kept d b) (kept e b);
-          contents = λ b i q. upd₂-other d 0 _ b i q ∙ a .apart .contents b i q ∙ sym (upd₂-other e 0 _ b i q);
+        sameBut = record {
+          header = λ i l. zero-row i (a .sameBut .header i l);
+          records = λ b l. like-kept d e _ _ b (a .sameBut .records b l) (kept d b) (kept e b);
+          contents = λ b i q. upd₂-other d 0 _ b i q ∙ a .sameBut .contents b i q ∙ sym (upd₂-other e 0 _ b i q);
         };
         past = λ i l. zero-row i (a .past i l);
       }
@@ -76,13 +76,13 @@ module _ (d e : Disk) (a : Alike d e) where
   block-step : (b : ℕ) (g h : ℕ → ℕ) → b ≢ 0 → ((i : ℕ) → g i ≡ h i) → Alike (upd d b g) (upd e b h)
   block-step b g h z same-row =
       record {
-        apart = record {
-          header = λ i l. zero-row i (a .apart .header i l);
-          records = λ x l. like-kept d e _ _ x (a .apart .records x l)
+        sameBut = record {
+          header = λ i l. zero-row i (a .sameBut .header i l);
+          records = λ x l. like-kept d e _ _ x (a .sameBut .records x l)
               (λ i k. sym (beside d g (mapStart + recordBytes * x + i))) (λ i k. sym (beside e h (mapStart + recordBytes * x + i)));
           contents = λ x i q. by-equal x b
               (λ y. upd₂-same d b g x i y ∙ same-row i ∙ sym (upd₂-same e b h x i y))
-              (λ y. upd₂-other d b g x i y ∙ a .apart .contents x i q ∙ sym (upd₂-other e b h x i y));
+              (λ y. upd₂-other d b g x i y ∙ a .sameBut .contents x i q ∙ sym (upd₂-other e b h x i y));
         };
         past = λ i l. zero-row i (a .past i l);
       }
@@ -98,14 +98,14 @@ module _ (d e : Disk) (a : Alike d e) where
   unfolding setRecord
   record-step b r =
       record {
-        apart = record {
-          header = λ i l. zero-row i (a .apart .header i l);
+        sameBut = record {
+          header = λ i l. zero-row i (a .sameBut .header i l);
           records = λ x l. by-equal x b
               (λ y. sameBytes (λ i k.
               ap (λ (j : ℕ). recordByte (setRecord d b r) j i) y ∙ record-set d b r i k
               ∙ sym (ap (λ (j : ℕ). recordByte (setRecord e b r) j i) y ∙ record-set e b r i k)))
-              (λ y. like-kept d e _ _ x (a .apart .records x l) (λ i k. sym (record-beside d b r x i y k)) (λ i k. sym (record-beside e b r x i y k)));
-          contents = λ x i q. upd₂-other d 0 _ x i q ∙ a .apart .contents x i q ∙ sym (upd₂-other e 0 _ x i q);
+              (λ y. like-kept d e _ _ x (a .sameBut .records x l) (λ i k. sym (record-beside d b r x i y k)) (λ i k. sym (record-beside e b r x i y k)));
+          contents = λ x i q. upd₂-other d 0 _ x i q ∙ a .sameBut .contents x i q ∙ sym (upd₂-other e 0 _ x i q);
         };
         past = λ i l. zero-row i (a .past i l);
       }
@@ -125,7 +125,7 @@ module _ (d e : Disk) (a : Alike d e) where
       let z : partBlock d 0 (k / blockSlots) ≢ 0 = part-not-first d first 0 (k / blockSlots) in
       subst (λ (x : ℕ). Alike (written d p o slotBytes g) (written e x o slotBytes g)) (part-alike d e a 0 (k / blockSlots))
       (block-step p (patch (d p) o slotBytes g) (patch (e p) o slotBytes g) z
-      (λ i. patch-cong (d p) (e p) o slotBytes g i (a .apart .contents p i z)))
+      (λ i. patch-cong (d p) (e p) o slotBytes g i (a .sameBut .contents p i z)))
 
   free-step : Alike (setFree d) (setFree e)
   unfolding setFree
@@ -203,7 +203,7 @@ module _ (d e : Disk) (a : Alike d e) (first : recordAt d 0 ≡ System) where
       (slot-step (freeBlocks blocks d k) (freeBlocks blocks e k) (freed-step d e a first k blocks (omega arith))
       (freed-system d first k blocks (omega arith)) k zeros))
 
-  -- the same reply, and disks that differ in tails alone
+  -- the same reply, and disks that differ at most in tails
   abbrev pub LikeChanged : DiskChanged → DiskChanged → Type 0
   LikeChanged x y = (x .answer ≡ y .answer) × Alike (x .diskAfter) (y .diskAfter)
 

@@ -1,15 +1,19 @@
 -- free-tails (FreeTails.antt). What the calls leave of a record is what their steps leave (OnAnyDisk.Kept), on a sound disk; every refusal leaves
 -- the image. That no history makes another tail is read off the inner model's disk, whose free records are written ones.
 use mathlib.Core.Path.{_≡_, refl, sym, ap, _∙_, subst}
-use mathlib.Core.Bool.{true, false}
+use mathlib.Core.Bool.{true, not, _&&_}
 use mathlib.Core.List.{List}
 use mathlib.Core.Option.{Option, none, some}
-use Prim.Native.Nat.{ℕ, _+_, _*_, _≤_, _<_}
+use Prim.Native.Nat.{ℕ, _+_, _-_, _*_, _/_, _≤_, _<_}
 use native.Mathlib.Omega.{arith}
-use lib.Dec.{leb, ltb}
+use lib.Dec.{leb, ltb, eqb}
 use lib.ListN.{length}
-use Rattle.laws.specs.Numbers.{highByte}
-use Rattle.laws.specs.Laws.Cases.{by-equal, by-cond}
+use Rattle.laws.specs.Below.{count}
+use Rattle.laws.specs.Numbers.{at16, highByte}
+use Rattle.laws.specs.Laws.Cases.{by-order, by-equal, by-test, by-cond}
+use Rattle.laws.specs.Laws.Tests.{true-eq, false-eq}
+use Rattle.laws.specs.Laws.Lowest.{lowest-le}
+use Rattle.laws.specs.Laws.Count.{count-cong, count-not}
 use Rattle.sector_rules.specs.Geometry.{blocks, imageBytes}
 use Rattle.sector_rules.specs.Replies.{done}
 use Rattle.sector_rules.specs.declared.Reply.{Reply}
@@ -17,138 +21,237 @@ use Rattle.file_rules.specs.declared.Record.{Record}
 use Rattle.file_rules.specs.declared.Record.the-variants.{Free, System}
 use Rattle.file_rules.specs.declared.Entry.{Entry}
 use Rattle.file_rules.specs.Arguments.{FormatArguments}
-use Rattle.file_rules.specs.Calls.{DiskChanged, ImageChanged, diskKept, imageKept, wrongLength, needed, addAt, addSound, imaged, add}
+use Rattle.file_rules.specs.Calls.{DiskChanged, ImageChanged, diskKept, imageKept, wrongLength, onSound, needed, addAt, addSound, imaged, add}
 use Rattle.file_rules.specs.Calls.{removeAt, removeSound, remove}
-use Rattle.file_rules.specs.Check.{diskRefusal}
-use Rattle.file_rules.specs.Directory.{nameRight, dirEnd, findName, vacantSlot, entryFor}
+use Rattle.file_rules.specs.Check.{recordFault, freeRight, diskRefusal}
+use Rattle.file_rules.specs.Directory.{nameRight, entryFor, held, dirEnd, findName, vacantSlot}
 use Rattle.file_rules.specs.Disk.{Disk, diskOf, imageOf}
-use Rattle.file_rules.specs.FreeTails.{SameRecord, IsFreed, FreeTails}
+use Rattle.file_rules.specs.FirstTrack.{counted}
+use Rattle.file_rules.specs.FreeTails.{SameRecord, MapInBytes, IsWrittenFree, freeByFirst, takenRecord, FreeTails}
 use Rattle.file_rules.specs.Histories.{Call, imageEnd}
 use Rattle.file_rules.specs.History.{formatted}
-use Rattle.file_rules.specs.Laws.Base.Disk.{inside-disk}
+use Rattle.file_rules.specs.Laws.Base.Disk.{inside-disk, outside-disk}
+use Rattle.file_rules.specs.Laws.Base.Ends.{end-within}
+use Rattle.file_rules.specs.Laws.Base.Judged.{check-passed, nine-wrong, nine-at-zero, word-right, eleven-wrong, track-accepted}
 use Rattle.file_rules.specs.Laws.Base.OnSound.{sound-length, sound-refused, sound-passed, by-sound}
-use Rattle.file_rules.specs.Laws.Base.Records.{free-only, free-by-byte}
+use Rattle.file_rules.specs.Laws.Base.Records.{free-only, free-by-byte, begins-free}
 use Rattle.file_rules.specs.Laws.Base.Sound.{first-system, NotDone, refused-number}
 use Rattle.file_rules.specs.Laws.Base.Whole.{with-is, free-is}
 use Rattle.file_rules.specs.Laws.InnerModel.Inner.{Inner, render, innerFormat, innerEnd}
 use Rattle.file_rules.specs.Laws.InnerModel.Invariant.{Inv}
 use Rattle.file_rules.specs.Laws.OnImages.Run.{format-inv, img-disk, end-inv}
-use Rattle.file_rules.specs.Laws.OnAnyDisk.Kept.{add-held, add-left, remove-beside, remove-freed}
+use Rattle.file_rules.specs.Laws.OnAnyDisk.Kept.{grow-system, add-held, add-left, remove-beside, remove-freed}
+use Rattle.file_rules.specs.Laws.OnAnyDisk.FreeBytes.{SameBytes, add-bytes, remove-bytes}
+use Rattle.file_rules.specs.Laws.OnAnyDisk.Taken.{HasRecord, add-gives-record}
 use Rattle.file_rules.specs.Laws.Theorem.History.{end-is}
-use Rattle.file_rules.specs.Map.{numberOf, encode, recordByte, recordAt, bears, freeAt, freeCount}
-use Rattle.file_rules.specs.Sizes.{mapStart, recordBytes, titleMost}
+use Rattle.file_rules.specs.Map.{sequences, numberOf, encode, recordByte, recordAt, isSystem, isOther, bears, freeAt, freeCount}
+use Rattle.file_rules.specs.Sizes.{blockBytes, blockSlots, mapStart, recordBytes, titleMost, freeSectors}
 
--- ---- records that stay
+-- ---- what stays
+
+-- what holds of the disk before, and of that which the steps of a call leave, holds of the disk after the call, whatever its reply
+module _ (image : List ℕ) (P : Disk → Type 0) (on-image : (e : Disk) → P e → P (diskOf (imageOf e))) (before : P (diskOf image)) where
+  abbrev OnDisk : DiskChanged → Type 0
+  OnDisk c = P (c .diskAfter)
+
+  abbrev OnImage : ImageChanged → Type 0
+  OnImage w = P (diskOf (w .image))
+
+  by-add : (name : List ℕ) (date : ℕ) (content : List ℕ)
+      → (recordAt (diskOf image) 0 ≡ System → (x : Entry) → P (addAt (diskOf image) (vacantSlot (diskOf image)) x content))
+      → OnImage (add image name date content)
+  unfolding add addSound imaged diskKept imageKept
+  by-add name date content steps =
+      let d : Disk = diskOf image in
+      by-sound image (imageKept image) (λ (x : Disk). imaged (addSound x name date content)) OnImage (λ r. before)
+      (λ long passed. on-image (addSound d name date content .diskAfter)
+      (by-cond OnDisk (nameRight name) _ _
+      (λ t. by-cond OnDisk (ltb (findName d name) (dirEnd d)) _ _ (λ u. before)
+      (λ u. by-cond OnDisk (leb (needed d (vacantSlot d) (length content)) (freeCount d)) _ _
+      (λ r. steps (first-system d passed) (entryFor name date (length content))) (λ r. before)))
+      (λ t. before)))
+
+  by-remove : (name : List ℕ) → (recordAt (diskOf image) 0 ≡ System → P (removeAt (diskOf image) (findName (diskOf image) name)))
+      → OnImage (remove image name)
+  unfolding remove removeSound imaged diskKept imageKept
+  by-remove name steps =
+      let d : Disk = diskOf image in
+      by-sound image (imageKept image) (λ (x : Disk). imaged (removeSound x name)) OnImage (λ r. before)
+      (λ long passed. on-image (removeSound d name .diskAfter)
+      (by-cond OnDisk (nameRight name) _ _
+      (λ t. by-cond OnDisk (ltb (findName d name) (dirEnd d)) _ _ (λ u. steps (first-system d passed)) (λ u. before))
+      (λ t. before)))
 
 module _ (image : List ℕ) (b : ℕ) (l : b < blocks) where
   abbrev d : Disk
   d = diskOf image
 
-  on-image : (e : Disk) (i : ℕ) → i < recordBytes → recordByte (diskOf (imageOf e)) b i ≡ recordByte e b i
-  on-image e i k = inside-disk e 0 (mapStart + recordBytes * b + i) (omega arith) (omega arith)
+  record-image : (e : Disk) (i : ℕ) → i < recordBytes → recordByte (diskOf (imageOf e)) b i ≡ recordByte e b i
+  record-image e i k = inside-disk e 0 (mapStart + recordBytes * b + i) (omega arith) (omega arith)
 
-  kept-image : (e : Disk) → SameRecord d e b → SameRecord d (diskOf (imageOf e)) b
-  kept-image e s i k = s i k ∙ sym (on-image e i k)
-
-  abbrev Kept : DiskChanged → Type 0
-  Kept c = SameRecord d (c .diskAfter) b
-
-  -- what the steps of an add leave, the call leaves
+  -- of a record
   add-kept : (name : List ℕ) (date : ℕ) (content : List ℕ)
-      → (recordAt d 0 ≡ System → (e : Entry) → SameRecord d (addAt d (vacantSlot d) e content) b) → SameRecord d (diskOf (add image name date content .image)) b
-  unfolding add addSound imaged diskKept imageKept
-  add-kept name date content steps =
-      by-sound image (imageKept image) (λ (x : Disk). imaged (addSound x name date content)) (λ (w : ImageChanged). SameRecord d (diskOf (w .image)) b)
-      (λ r i k. refl)
-      (λ long passed. kept-image (addSound d name date content .diskAfter)
-      (by-cond Kept (nameRight name) _ _
-      (λ t. by-cond Kept (ltb (findName d name) (dirEnd d)) _ _ (λ u i k. refl)
-      (λ u. by-cond Kept (leb (needed d (vacantSlot d) (length content)) (freeCount d)) _ _
-      (λ r. steps (first-system d passed) (entryFor name date (length content))) (λ r i k. refl)))
-      (λ t i k. refl)))
+      → (recordAt d 0 ≡ System → (x : Entry) → SameRecord d (addAt d (vacantSlot d) x content) b) → SameRecord d (diskOf (add image name date content .image)) b
+  add-kept = by-add image (λ (e : Disk). SameRecord d e b) (λ e s i k. s i k ∙ sym (record-image e i k)) (λ i k. refl)
 
-  remove-kept : (name : List ℕ) → bears (findName d name) (recordAt d b) ≡ false → SameRecord d (diskOf (remove image name .image)) b
-  unfolding remove removeSound imaged diskKept imageKept
-  remove-kept name n =
-      by-sound image (imageKept image) (λ (x : Disk). imaged (removeSound x name)) (λ (w : ImageChanged). SameRecord d (diskOf (w .image)) b)
-      (λ r i k. refl)
-      (λ long passed. kept-image (removeSound d name .diskAfter)
-      (by-cond Kept (nameRight name) _ _
-      (λ t. by-cond Kept (ltb (findName d name) (dirEnd d)) _ _
-      (λ u. remove-beside d (first-system d passed) (findName d name) b l n) (λ u i k. refl))
-      (λ t i k. refl)))
+  remove-kept : (name : List ℕ) → (recordAt d 0 ≡ System → SameRecord d (removeAt d (findName d name)) b)
+      → SameRecord d (diskOf (remove image name .image)) b
+  remove-kept = by-remove image (λ (e : Disk). SameRecord d e b) (λ e s i k. s i k ∙ sym (record-image e i k)) (λ i k. refl)
 
--- ---- records that are freed
+  -- of a block's bytes
+  bytes-image : (e : Disk) → SameBytes d e b → SameBytes d (diskOf (imageOf e)) b
+  bytes-image e s o =
+      by-order o blockBytes
+      (λ h. s o ∙ sym (inside-disk e b o l h)) (λ h. outside-disk image b o h ∙ sym (outside-disk (imageOf e) b o h))
 
--- a record with the bytes of the free one is FD FF FF
-freed-is : (e : Disk) (b : ℕ) → ((i : ℕ) → i < recordBytes → recordByte e b i ≡ encode Free i) → IsFreed e b
-unfolding encode numberOf highByte
-freed-is e b h = (h 0 (omega arith), h 1 (omega arith), h 2 (omega arith))
+  add-stays : (name : List ℕ) (date : ℕ) (content : List ℕ)
+      → (recordAt d 0 ≡ System → (x : Entry) → SameBytes d (addAt d (vacantSlot d) x content) b) → SameBytes d (diskOf (add image name date content .image)) b
+  add-stays = by-add image (λ (e : Disk). SameBytes d e b) bytes-image (λ o. refl)
+
+  remove-stays : (name : List ℕ) → (recordAt d 0 ≡ System → SameBytes d (removeAt d (findName d name)) b)
+      → SameBytes d (diskOf (remove image name .image)) b
+  remove-stays = by-remove image (λ (e : Disk). SameBytes d e b) bytes-image (λ o. refl)
+
+-- ---- records that are written
 
 not-done : {X : Type 0} (r : Reply) → NotDone (some r) → r ≡ done → X
 not-done r n e = absurd (n (ap (λ (x : Reply). x .number) e))
 
-module _ (image name : List ℕ) (b : ℕ) (l : b < blocks) (t : bears (findName (diskOf image) name) (recordAt (diskOf image) b) ≡ true) where
+-- what a call that writes has done, where its reply is done
+module _ (image : List ℕ) (act : Disk → DiskChanged) (P : List ℕ → Type 0)
+    (sound : diskRefusal (diskOf image) ≡ none → act (diskOf image) .answer ≡ done → P (imageOf (act (diskOf image) .diskAfter))) where
+  abbrev call : ImageChanged
+  call = onSound image (imageKept image) (λ (x : Disk). imaged (act x))
+
+  abbrev Done : ImageChanged → Type 0
+  Done w = w .answer ≡ done → P (w .image)
+
+  done-by : (long : length image ≡ imageBytes) (v : Option Reply) → diskRefusal (diskOf image) ≡ v → Done call
+  unfolding imaged imageKept
+  done-by long none e = subst Done (sym (sound-passed image _ _ long e)) (sound e)
+  done-by long (some r) e = subst Done (sym (sound-refused image _ _ long r e)) (not-done r (subst NotDone e (refused-number (diskOf image))))
+
+  when-done : Done call
+  unfolding imageKept
+  when-done =
+      by-equal (length image) imageBytes (λ long. done-by long (diskRefusal (diskOf image)) refl)
+      (λ short. subst Done (sym (sound-length image _ _ short)) (not-done wrongLength (λ z. omega arith)))
+
+-- a record with the bytes of the free one is FD FF FF
+written-free : (e : Disk) (b : ℕ) → HasRecord e b Free → IsWrittenFree e b
+unfolding encode numberOf highByte
+written-free e b h = (h 0 (omega arith), h 1 (omega arith), h 2 (omega arith))
+
+module _ (image : List ℕ) (b : ℕ) (l : b < blocks) where
   abbrev before : Disk
   before = diskOf image
 
-  abbrev Freed : ImageChanged → Type 0
-  Freed w = w .answer ≡ done → IsFreed (diskOf (w .image)) b
+  -- the record of a block on the image of a disk is the disk's
+  written-image : (e : Disk) (r : Record) → HasRecord e b r → HasRecord (diskOf (imageOf e)) b r
+  written-image e r h i k = record-image image b l e i k ∙ h i k
 
-  abbrev FreedOn : DiskChanged → Type 0
-  FreedOn c = c .answer ≡ done → IsFreed (diskOf (imageOf (c .diskAfter))) b
+  remove-frees : (name : List ℕ) → remove image name .answer ≡ done → bears (findName before name) (recordAt before b) ≡ true
+      → IsWrittenFree (diskOf (remove image name .image)) b
+  unfolding remove removeSound diskKept
+  remove-frees name e t =
+      let after : Disk = removeAt before (findName before name) in
+      let Freed : DiskChanged → Type 0 = λ (c : DiskChanged). c .answer ≡ done → IsWrittenFree (diskOf (imageOf (c .diskAfter))) b in
+      when-done image (λ (x : Disk). removeSound x name) (λ (x : List ℕ). IsWrittenFree (diskOf x) b)
+      (λ passed. by-cond Freed (nameRight name) _ _
+      (λ u. by-cond Freed (ltb (findName before name) (dirEnd before)) _ _
+      (λ v q. written-free (diskOf (imageOf after)) b
+      (written-image after Free (remove-freed before (first-system before passed) (findName before name) b l t)))
+      (λ v. not-done _ (λ z. omega arith)))
+      (λ u. not-done _ (λ z. omega arith))) e
 
-  freed-image : recordAt before 0 ≡ System → IsFreed (diskOf (imageOf (removeAt before (findName before name)))) b
-  freed-image first =
-      let e : Disk = removeAt before (findName before name) in
-      freed-is (diskOf (imageOf e)) b (λ i k. on-image image b l e i k ∙ remove-freed before first (findName before name) b l t i k)
+  -- the slot that an add takes lies in a block whose sequence has 12 bits
+  slot-bound : diskRefusal before ≡ none → vacantSlot before / blockSlots < sequences
+  unfolding vacantSlot
+  slot-bound passed = omega (arith, end-within before passed, lowest-le (λ (k : ℕ). ltb 0 k && not (held before k)) (dirEnd before))
 
-  freed-sound : recordAt before 0 ≡ System → FreedOn (removeSound before name)
-  unfolding removeSound diskKept
-  freed-sound first =
-      by-cond FreedOn (nameRight name) _ _
-      (λ t. by-cond FreedOn (ltb (findName before name) (dirEnd before)) _ _ (λ u e. freed-image first) (λ u. not-done _ (λ z. omega arith)))
-      (λ t. not-done _ (λ z. omega arith))
-
-  freed-by : (long : length image ≡ imageBytes) (v : Option Reply) → diskRefusal before ≡ v → Freed (remove image name)
-  unfolding remove imaged imageKept
-  freed-by long none e = subst Freed (sym (sound-passed image _ _ long e)) (freed-sound (first-system before e))
-  freed-by long (some r) e = subst Freed (sym (sound-refused image _ _ long r e)) (not-done r (subst NotDone e (refused-number before)))
-
-  remove-frees : Freed (remove image name)
-  unfolding remove imageKept
-  remove-frees =
-      by-equal (length image) imageBytes (λ long. freed-by long (diskRefusal before) refl)
-      (λ short. subst Freed (sym (sound-length image _ _ short)) (not-done wrongLength (λ z. omega arith)))
+  add-given : (name : List ℕ) (date : ℕ) (content : List ℕ) → add image name date content .answer ≡ done → freeAt before b ≡ true
+      → count b (freeAt before) < needed before (vacantSlot before) (length content)
+      → HasRecord (diskOf (add image name date content .image)) b (takenRecord before (vacantSlot before) (count b (freeAt before)))
+  unfolding add addSound diskKept
+  add-given name date content e t few =
+      let k : ℕ = vacantSlot before in
+      let x : Entry = entryFor name date (length content) in
+      let r : Record = takenRecord before (vacantSlot before) (count b (freeAt before)) in
+      let Given : DiskChanged → Type 0 = λ (c : DiskChanged). c .answer ≡ done → HasRecord (diskOf (imageOf (c .diskAfter))) b r in
+      when-done image (λ (y : Disk). addSound y name date content) (λ (y : List ℕ). HasRecord (diskOf y) b r)
+      (λ passed.
+      let first : recordAt before 0 ≡ System = first-system before passed in
+      by-cond Given (nameRight name) _ _
+      (λ u. by-cond Given (ltb (findName before name) (dirEnd before)) _ _ (λ v. not-done _ (λ z. omega arith))
+      (λ v. by-cond Given (leb (needed before (vacantSlot before) (length content)) (freeCount before)) _ _
+      (λ w q. written-image (addAt before k x content) r (add-gives-record before first k x content b l t (grow-system before first k) (slot-bound passed) few))
+      (λ w. not-done _ (λ z. omega arith))))
+      (λ u. not-done _ (λ z. omega arith))) e
 
 -- ---- histories
 
 -- the free records of the inner model's disk are written ones
-render-freed : (m : Inner) → Inv m → (b : ℕ) → b < blocks → freeAt (render m) b ≡ true → IsFreed (render m) b
+render-freed : (m : Inner) → Inv m → (b : ℕ) → b < blocks → freeAt (render m) b ≡ true → IsWrittenFree (render m) b
 unfolding render
 render-freed m v b l t =
     let w = with-is _ (m .owner) _ in
     let owned : m .owner b ≡ Free = free-only (m .owner b) (sym (free-is (render m) _ (m .owner) _ w (λ x h. v .own .own-valid x h) b l) ∙ t) in
-    freed-is (render m) b (λ i k. w .map b i l k ∙ ap (λ (r : Record). encode r i) owned)
+    written-free (render m) b (λ i k. w .map b i l k ∙ ap (λ (r : Record). encode r i) owned)
 
 history-frees : (old : List ℕ) (args : FormatArguments) (calls : List Call) → length old ≡ imageBytes → length (args .title) ≤ titleMost
-    → (b : ℕ) → b < blocks → freeAt (diskOf (imageEnd (formatted old args) calls)) b ≡ true → IsFreed (diskOf (imageEnd (formatted old args) calls)) b
+    → (b : ℕ) → b < blocks → freeAt (diskOf (imageEnd (formatted old args) calls)) b ≡ true → IsWrittenFree (diskOf (imageEnd (formatted old args) calls)) b
 history-frees old args calls long short =
     let m : Inner = innerEnd (innerFormat args) calls in
     let v : Inv m = end-inv calls (innerFormat args) (format-inv args) in
     let e : diskOf (imageEnd (formatted old args) calls) ≡ render m = ap diskOf (end-is old args calls long short) ∙ img-disk m v in
-    subst (λ (x : Disk). (b : ℕ) → b < blocks → freeAt x b ≡ true → IsFreed x b) (sym e) (render-freed m v)
+    subst (λ (x : Disk). (b : ℕ) → b < blocks → freeAt x b ≡ true → IsWrittenFree x b) (sym e) (render-freed m v)
+
+-- ---- what is counted
+
+free-fault : (b : ℕ) → recordFault b Free ≡ eqb b 0
+unfolding recordFault isSystem isOther
+free-fault b = by-test (eqb b 0) (λ t. rw t) (λ t. rw t)
+
+module _ (d : Disk) (bytes : MapInBytes d) where
+  free-first : freeCount d ≡ freeByFirst d
+  unfolding freeCount freeByFirst
+  free-first = count-cong blocks (freeAt d) (λ (b : ℕ). eqb (recordByte d b 0) 0xFD) (λ b l. free-by-byte d b (bytes b l))
+
+  word-is : freeRight d ≡ eqb (at16 (d 0) 20) (3 * freeByFirst d)
+  unfolding freeRight
+  word-is = ap (λ (n : ℕ). eqb (at16 (d 0) 20) (freeSectors n)) free-first
+
+  counted-is : freeRight d ≡ true → counted d ≡ record { reply = done; free = 3 * freeByFirst d; good = at16 (d 0) 22; held = blocks - freeByFirst d }
+  unfolding counted freeCount
+  counted-is t =
+      let word : at16 (d 0) 20 ≡ 3 * freeByFirst d = true-eq (sym word-is ∙ t) in
+      let others : count blocks (λ (b : ℕ). not (freeAt d b)) ≡ blocks - freeByFirst d = omega (arith, count-not blocks (freeAt d), free-first) in
+      rw (word, others)
 
 -- free-tails: all of this holds
 pub free-tails : FreeTails
 free-tails =
     record {
       first-byte = free-by-byte;
+      nine-names = λ image b e bytes f.
+          true-eq (sym (free-fault b) ∙ ap (recordFault b) (sym (begins-free (diskOf image) b bytes f)) ∙ nine-wrong image b e);
+      nine-zero = λ image long right bytes f.
+          nine-at-zero image long right (ap (recordFault 0) (begins-free (diskOf image) 0 bytes f) ∙ free-fault 0);
+      word-counts = λ image bytes e. true-eq (sym (word-is (diskOf image) bytes) ∙ word-right image (check-passed image e));
+      word-wrong = λ image bytes e. false-eq (sym (word-is (diskOf image) bytes) ∙ eleven-wrong image e);
+      track-counts = λ image long bytes e.
+          let w = track-accepted image long e in w .0 ∙ counted-is (diskOf image) bytes (w .1);
       add-others = λ image name date content b l t.
           add-kept image b l name date content (λ first e. add-held (diskOf image) first (vacantSlot (diskOf image)) e content b l t);
       add-free = λ image name date content b l h.
           add-kept image b l name date content (λ first e. add-left (diskOf image) first (vacantSlot (diskOf image)) e content b l h);
-      remove-others = λ image name b l t. remove-kept image b l name t;
-      remove-own = λ image name b l e t. remove-frees image name b l t e;
-      history-freed = history-frees;
+      add-bytes-stay = λ image name date content b l t h.
+          add-stays image b l name date content (λ first x. add-bytes (diskOf image) first (vacantSlot (diskOf image)) x content b l t h);
+      remove-bytes-stay = λ image name b l t.
+          remove-stays image b l name (λ first. remove-bytes (diskOf image) first (findName (diskOf image) name) b l t);
+      add-taken = λ image name date content b l e t few. add-given image b l name date content e t few;
+      remove-others = λ image name b l t.
+          remove-kept image b l name (λ first. remove-beside (diskOf image) first (findName (diskOf image) name) b l t);
+      remove-own = λ image name b l e t. remove-frees image b l name e t;
+      history-free = history-frees;
     }

@@ -1,5 +1,5 @@
--- tails-unread (FreeTails.antt): two block images that differ in tails alone get the same answers. All that is read of their disks is the same
--- (OnAnyDisk.Alike), and adds and removes leave disks that differ in tails alone (OnAnyDisk.Unread).
+-- tails-unread (FreeTails.antt): two block images that differ at most in tails get the same answers. All that is read of their disks is the same
+-- (OnAnyDisk.Alike), and adds and removes leave disks that differ at most in tails (OnAnyDisk.Unread).
 use mathlib.Core.Path.{_≡_, refl, sym, ap, ap₂, _∙_, subst}
 use mathlib.Core.List.{List}
 use mathlib.Core.Option.{Option, none, some}
@@ -17,8 +17,8 @@ use Rattle.file_rules.specs.Check.{diskRefusal}
 use Rattle.file_rules.specs.Directory.{nameRight, dirEnd, findName}
 use Rattle.file_rules.specs.Disk.{Disk, diskOf, imageOf}
 use Rattle.file_rules.specs.FirstTrack.{firstTrackResult}
-use Rattle.file_rules.specs.FreeTails.{TailsApart, ImagesApart, ChangedAlike, TailsUnread}
-use Rattle.file_rules.specs.Laws.Base.Disk.{inside-disk, outside-disk, far-disk}
+use Rattle.file_rules.specs.FreeTails.{SameButTails, ImagesSameButTails, ChangedAlike, TailsUnread}
+use Rattle.file_rules.specs.Laws.Base.Disk.{length-image, inside-disk, outside-disk, far-disk}
 use Rattle.file_rules.specs.Laws.Base.OnSound.{sound-refused, sound-passed}
 use Rattle.file_rules.specs.Laws.Base.Sound.{first-system}
 use Rattle.file_rules.specs.Laws.Base.Track.{track-is}
@@ -29,24 +29,27 @@ use Rattle.file_rules.specs.Map.{recordAt}
 use Rattle.file_rules.specs.Sizes.{blockBytes, mapStart, recordBytes}
 use Rattle.file_rules.specs.TrackValues.{judgedFirst}
 
--- the images of disks that differ in tails alone do so
-images-apart : (d e : Disk) → Alike d e → TailsApart (diskOf (imageOf d)) (diskOf (imageOf e))
-images-apart d e a =
-    record {
-      header = λ o l. inside-disk d 0 o (omega arith) (omega arith) ∙ a .apart .header o l ∙ sym (inside-disk e 0 o (omega arith) (omega arith));
-      records = λ b l. like-kept d e _ _ b (a .apart .records b l) (λ i k. sym (in-map d b i l k)) (λ i k. sym (in-map e b i l k));
-      contents = λ b o q. by-order b blocks
-          (λ hb. by-order o blockBytes
-          (λ ho. inside-disk d b o hb ho ∙ a .apart .contents b o q ∙ sym (inside-disk e b o hb ho))
-          (λ h. outside-disk (imageOf d) b o h ∙ sym (outside-disk (imageOf e) b o h)))
-          (λ h. far-disk (imageOf d) b o h ∙ sym (far-disk (imageOf e) b o h));
-    }
+-- the images of disks that differ at most in tails do so
+images-same-but-tails : (d e : Disk) → Alike d e → ImagesSameButTails (imageOf d) (imageOf e)
+images-same-but-tails d e a = (length-image d, length-image e, disks-same)
   where
     in-map : (x : Disk) (b i : ℕ) → b < blocks → i < recordBytes
         → diskOf (imageOf x) 0 (mapStart + recordBytes * b + i) ≡ x 0 (mapStart + recordBytes * b + i)
     in-map x b i l k = inside-disk x 0 (mapStart + recordBytes * b + i) (omega arith) (omega arith)
 
-module _ (x y : List ℕ) (p : ImagesApart x y) where
+    disks-same : SameButTails (diskOf (imageOf d)) (diskOf (imageOf e))
+    disks-same =
+        record {
+          header = λ o l. inside-disk d 0 o (omega arith) (omega arith) ∙ a .sameBut .header o l ∙ sym (inside-disk e 0 o (omega arith) (omega arith));
+          records = λ b l. like-kept d e _ _ b (a .sameBut .records b l) (λ i k. sym (in-map d b i l k)) (λ i k. sym (in-map e b i l k));
+          contents = λ b o q. by-order b blocks
+              (λ hb. by-order o blockBytes
+              (λ ho. inside-disk d b o hb ho ∙ a .sameBut .contents b o q ∙ sym (inside-disk e b o hb ho))
+              (λ h. outside-disk (imageOf d) b o h ∙ sym (outside-disk (imageOf e) b o h)))
+              (λ h. far-disk (imageOf d) b o h ∙ sym (far-disk (imageOf e) b o h));
+        }
+
+module _ (x y : List ℕ) (p : ImagesSameButTails x y) where
   abbrev d : Disk
   d = diskOf x
 
@@ -54,7 +57,7 @@ module _ (x y : List ℕ) (p : ImagesApart x y) where
   e = diskOf y
 
   alike : Alike d e
-  alike = record { apart = p .2; past = λ o h. outside-disk x 0 o h ∙ sym (outside-disk y 0 o h) }
+  alike = record { sameBut = p .2; past = λ o h. outside-disk x 0 o h ∙ sym (outside-disk y 0 o h) }
 
   module _ {A : Type 0} (R : A → A → Type 0) (f g : Reply → A) (act on : Disk → A)
       (refused : (r : Reply) → R (f r) (g r)) (acted : recordAt d 0 ≡ System → R (act d) (on e)) where
@@ -101,7 +104,7 @@ module _ (x y : List ℕ) (p : ImagesApart x y) where
 
   kept : (r : Reply) → ChangedAlike (imageKept x r) (imageKept y r)
   unfolding imageKept
-  kept r = record { answers = refl; images = p .2 }
+  kept r = record { answers = refl; images = p }
 
   add-is : (name : List ℕ) (date : ℕ) (content : List ℕ) → ChangedAlike (add x name date content) (add y name date content)
   unfolding add imaged
@@ -109,7 +112,7 @@ module _ (x y : List ℕ) (p : ImagesApart x y) where
       both-sound ChangedAlike _ _ _ _ kept
       (λ first.
       let w = add-like d e alike first name date content in
-      record { answers = w .0; images = images-apart _ _ (w .1) })
+      record { answers = w .0; images = images-same-but-tails _ _ (w .1) })
 
   remove-is : (name : List ℕ) → ChangedAlike (remove x name) (remove y name)
   unfolding remove imaged
@@ -117,7 +120,7 @@ module _ (x y : List ℕ) (p : ImagesApart x y) where
       both-sound ChangedAlike _ _ _ _ kept
       (λ first.
       let w = remove-like d e alike first name in
-      record { answers = w .0; images = images-apart _ _ (w .1) })
+      record { answers = w .0; images = images-same-but-tails _ _ (w .1) })
 
 -- tails-unread: all of this holds
 pub tails-unread : TailsUnread

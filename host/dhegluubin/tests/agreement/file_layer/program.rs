@@ -79,6 +79,8 @@ fn good_disks() {
     assert_eq!(says(&fresh()), FRESH);
     assert_eq!(says(&three_files()), "free 1413\ngood 1440\nheld 9\n");
     let mut image = fresh();
+    set_record(&mut image, 479, [0xFD, 0, 0]);
+    assert_eq!(says(&image), FRESH);
     reference::add(&mut image, b"all", 0, &vec![0xFF; 734_144]);
     assert_eq!(says(&image), "free 0\ngood 1440\nheld 480\n");
 }
@@ -174,7 +176,7 @@ fn wrong_free_words_are_refused_with_11() {
         assert_eq!(says(&image), "refused 11\n", "free word {free}");
     }
     // A record more or less, with the word as it was.
-    for bytes in [FREE, record(3, 9)] {
+    for bytes in [FREE, [0xFD, 0, 0], record(3, 9)] {
         let mut image = three_files();
         set_record(&mut image, 8, bytes);
         set_record(&mut image, 9, bytes);

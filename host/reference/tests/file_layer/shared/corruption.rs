@@ -43,7 +43,6 @@ fn corrupt(generator: &mut Generator, image: &mut [u8]) {
         1 => set_word(image, 34, generator.below(4)),
         2 => set_word(image, 36, 64 * generator.below(26)),
         3 => set_record(image, block, [0xFD, 0xFF, 0xFF]),
-        13 => set_record(image, block, [0xFD, generator.byte(), generator.byte()]),
         4 => {
             let bytes = [generator.byte(), generator.byte(), generator.byte()];
             set_record(image, block, bytes);
@@ -59,6 +58,7 @@ fn corrupt(generator: &mut Generator, image: &mut [u8]) {
             patch(image, 1, slot, &len.to_be_bytes());
         }
         11 => patch(image, 1, slot + 14, &[0, generator.below(40) as u8]),
+        12 => set_record(image, block, [0xFD, generator.byte(), generator.byte()]),
         _ => {
             let index = generator.below(30);
             patch(image, 1, slot + 16, &name(generator, index));

@@ -4,8 +4,8 @@
 use super::all_calls::all_calls;
 use super::answer::{add, cases, check, first_track, first_track_text, list, read, remove, Parts};
 use super::build::{
-    count_free, fresh, named_files, patch, peek, record, record_of, set_record, set_word,
-    three_files, word, FREE,
+    count_free, entry, fresh, long_directory, named_files, patch, peek, record, record_of,
+    set_record, set_word, three_files, word, FREE,
 };
 use reference::geometry::{BLOCKS, TRACK_LEN};
 use support::noise::{noise, Generator};
@@ -87,13 +87,13 @@ fn deleted_files_leave_their_numbers() {
 #[test]
 fn tails_of_files_that_are_present() {
     let mut image = three_files();
-    for (block, (file, sequence)) in [(2, 0), (2, 1), (2, 2), (3, 3), (0, 0), (0, 1)]
+    for (index, (file, sequence)) in [(2, 0), (2, 1), (2, 2), (3, 3), (0, 0), (0, 1)]
         .into_iter()
         .enumerate()
     {
         let [_, second, third] = record(file, sequence);
-        set_tail(&mut image, 20 + block, [second, third]);
-        patch(&mut image, 20 + block, 0, &[0x66; 1536]);
+        set_tail(&mut image, 20 + index, [second, third]);
+        patch(&mut image, 20 + index, 0, &[0x66; 1536]);
     }
     assert_eq!(all_calls(&image, b"f2"), [0; 4]);
     assert_eq!(read(&image, b"f2", &[0; 1500]).1, [b'2'; 1500]);
@@ -107,25 +107,26 @@ fn tails_of_files_that_are_present() {
         };
         assert_eq!(record_of(&image, block), expected, "block {block}");
     }
-    // Nor are the bytes of such a block a deleted file's that must go.
+    // A block whose tail names the removed file keeps its bytes.
     assert_eq!(peek(&image, 21, 0, 1536), [0x66; 1536]);
 }
 
-/// Every tail is free (§6.9) and counted (§6.4 §7.11), at the first and last
-/// blocks too.
+/// Blocks with each second byte of a tail are free (§6.9) and counted (§6.4),
+/// where the word leaves them out refused (§7.11).
 #[test]
-fn every_tail() {
+fn many_tails() {
     let mut image = fresh();
     for second in 0..=255 {
+        let block = [2, 138, 309, 479][usize::from(second) % 4];
         for third in [0x00, 0x01, 0x50, 0xFE, 0xFF] {
-            let block = [2, 138, 309, 479][usize::from(second) % 4];
             set_tail(&mut image, block, [second, third]);
             assert_eq!(check(&image), [0; 4], "FD {second:02X} {third:02X}");
-            assert_eq!(judged(&image), ([0; 4], [1434, 1440, 2]));
         }
+        assert_eq!(judged(&image), ([0; 4], [1434, 1440, 2]));
     }
-    for less in 1..4 {
-        set_word(&mut image, 20, 1434 - 3 * less);
+    // Blocks 2, 138 and 309 have other tails than FF FF now.
+    for left_out in 1..=3 {
+        set_word(&mut image, 20, 1434 - 3 * left_out);
         assert_eq!(all_calls(&image, b"x"), [11, 0, 0, 0]);
     }
 }
@@ -136,6 +137,7 @@ fn never_at_block_0() {
     for tail in [[0xFF, 0xFF], [0, 0], [0x12, 0x34], [0xFF, 0xFE]] {
         let mut image = three_files();
         set_record(&mut image, 0, [0xFD, tail[0], tail[1]]);
+        // With a free word that does not count block 0, and with one that does.
         for _ in 0..2 {
             assert_eq!(all_calls(&image, b"f2"), [9, 0, 0, 0]);
             assert_eq!(judged(&image), ([9, 0, 0, 0], [0; 3]));
@@ -152,7 +154,10 @@ fn adds_take_the_lowest_and_leave_the_others() {
     let mut generator = Generator::new(5);
     let mut image = three_files();
     random_tails(&mut generator, &mut image);
-    for (index, len) in [0, 1472, 1473, 5000, 40_000].into_iter().enumerate() {
+    for (index, len) in [0, 1472, 1473, 5000, 40_000, 600_000]
+        .into_iter()
+        .enumerate()
+    {
         let mut expected = records(&image);
         let count = (64 + len as usize).div_ceil(1536);
         for (sequence, block) in free_blocks(&image).into_iter().take(count).enumerate() {
@@ -165,14 +170,15 @@ fn adds_take_the_lowest_and_leave_the_others() {
     assert_eq!(check(&image), [0; 4]);
 }
 
-/// So does the directory's new block (§8.10).
+/// The directory's new block is the lowest free one, whatever its tail
+/// (§8.10), before those of the file.
 #[test]
 fn directory_grows_into_a_block_with_a_tail() {
     let names: Vec<[u8; 1]> = (0..23).map(|index| [b'a' + index]).collect();
     let names: Vec<&[u8]> = names.iter().map(|name| name.as_slice()).collect();
     let mut image = named_files(&names);
     random_tails(&mut Generator::new(6), &mut image);
-    // Block 1 is the directory's; that of sequence 1 stood here once.
+    // Tails: sequence 1 of file 0, sequences 0 and 1 of file 24 (018 hex).
     for (block, tail) in [(2, [0x00, 0x01]), (3, [0x80, 0x00]), (4, [0x80, 0x01])] {
         set_tail(&mut image, block, tail);
     }
@@ -183,6 +189,24 @@ fn directory_grows_into_a_block_with_a_tail() {
     assert_eq!(add(&mut image, b"new", 0, &[1; 1500]), [0; 4]);
     assert_eq!(records(&image), expected);
     assert_eq!((word(&image, 34), word(&image, 36)), (1, 64));
+    assert_eq!(all_calls(&image, b"new"), [0; 4]);
+}
+
+/// So it is where the directory's first block is not block 1 (§8.10).
+#[test]
+fn directory_grows_into_block_1() {
+    let names: Vec<[u8; 1]> = (0..23).map(|index| [b'a' + index]).collect();
+    let names: Vec<&[u8]> = names.iter().map(|name| name.as_slice()).collect();
+    let mut image = named_files(&names);
+    let slots = peek(&image, 1, 0, 1536);
+    patch(&mut image, 400, 0, &slots);
+    set_record(&mut image, 400, record(0, 0));
+    set_record(&mut image, 1, [0xFD, 0x00, 0x00]);
+    let mut expected = records(&image);
+    expected[1] = record(0, 1).to_vec();
+    expected[2] = record(24, 0).to_vec();
+    assert_eq!(add(&mut image, b"new", 0, &[1; 1400]), [0; 4]);
+    assert_eq!(records(&image), expected);
     assert_eq!(all_calls(&image, b"new"), [0; 4]);
 }
 
@@ -222,9 +246,69 @@ fn disks_of_tails_are_filled() {
     assert_eq!(judged(&image), ([0; 4], [0, 1440, 480]));
     assert_eq!(add(&mut image, b"more", 0, &[]), [15, 0, 0, 0]);
     assert_eq!(remove(&mut image, b"all"), [0; 4]);
-    assert!(free_blocks(&image)
-        .iter()
-        .all(|&block| record_of(&image, block) == FREE));
+    assert_eq!(judged(&image), ([0; 4], [1434, 1440, 2]));
+    assert!((2..BLOCKS).all(|block| record_of(&image, block) == FREE));
+}
+
+/// `three_files` with its blocks 1 to 8 moved to 472 to 479 by another program:
+/// the old ones are free, and their records keep the other 16 bits.
+fn moved_up() -> Vec<u8> {
+    let mut image = three_files();
+    for block in 1..9 {
+        let bytes = record_of(&image, block);
+        let data = peek(&image, block, 0, 1536);
+        patch(&mut image, 0, 96 + 3 * (471 + block), &bytes);
+        patch(&mut image, 471 + block, 0, &data);
+        patch(&mut image, 0, 96 + 3 * block, &[0xFD]);
+        patch(&mut image, block, 0, &[0x66; 1536]);
+    }
+    image
+}
+
+/// Tails below the blocks of the files that they name say nothing either (§6.9
+/// §6.10), that of block 1 too, and stay on a remove (§8.13).
+#[test]
+fn tails_below_the_files_that_they_name() {
+    let mut image = moved_up();
+    assert_eq!(all_calls(&image, b"f3"), [0; 4]);
+    assert_eq!(judged(&image), ([0; 4], [1413, 1440, 9]));
+    assert_eq!(list(&image, &[0; 192]), list(&three_files(), &[0; 192]));
+    assert_eq!(read(&image, b"f3", &[0; 5000]).1, [b'3'; 5000]);
+    let mut expected = records(&image);
+    for (name, blocks) in [(b"f3", 476..480), (b"f1", 473..474), (b"f2", 474..476)] {
+        for block in blocks {
+            expected[block] = FREE.to_vec();
+        }
+        assert_eq!(remove(&mut image, name), [0; 4]);
+        assert_eq!(records(&image), expected);
+    }
+    assert_eq!(peek(&image, 1, 0, 1536), [0x66; 1536]);
+}
+
+/// No record bears a file number of FD0 to FDF (hex), where the first byte
+/// would be FD: a slot with such a number has no block (§7.22).
+#[test]
+fn free_records_bear_no_file_number() {
+    let mut image = long_directory(170);
+    set_tail(&mut image, 479, [0x20, 0x00]);
+    assert_eq!(all_calls(&image, b"x"), [0; 4]);
+    let slot = 0xFD2;
+    patch(
+        &mut image,
+        1 + slot / 24,
+        64 * (slot % 24),
+        &entry(64, 1, b"x"),
+    );
+    assert_eq!(all_calls(&image, b"x"), [10, slot, 0, 0]);
+}
+
+/// A name that may be present, or one that is refused with 12.
+fn some_name(generator: &mut Generator) -> Vec<u8> {
+    match generator.below(8) {
+        0 => vec![],
+        1 => vec![b'f'; 37],
+        _ => vec![b'f', b'0' + generator.below(6) as u8],
+    }
 }
 
 /// Whether a call may have changed a record so: not at all, from free to a
@@ -234,19 +318,24 @@ fn may_become(was: &[u8], is: &[u8]) -> bool {
     was == is || given || freed
 }
 
-/// No call reads a tail: calls on disks that differ in tails alone give the
-/// same, and leave such disks (§6.9).
+/// No answer depends on a tail: calls on disks that differ in tails alone give
+/// the same, refused ones too, and leave disks that differ in tails alone
+/// (§6.9 by *tails-unread*).
 #[test]
 fn calls_do_not_read_tails() {
     let mut generator = Generator::new(77);
     for case in 0..cases(10) {
         println!("case {case}");
-        let mut image = three_files();
+        let mut image = if case % 2 == 0 {
+            three_files()
+        } else {
+            moved_up()
+        };
         random_tails(&mut generator, &mut image);
         let mut plain = without_tails(&image);
         for _ in 0..16 {
             let before = records(&image);
-            let name = [b'f', b'0' + generator.below(6) as u8];
+            let name = some_name(&mut generator);
             let data = noise(case, generator.below(9000));
             let (one, other) = match generator.below(5) {
                 0..=1 => (

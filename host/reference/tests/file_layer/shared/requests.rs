@@ -148,13 +148,13 @@ fn disks_of_five() {
     FIVE.run_kind("disk", 56, run_disk);
 }
 
-/// No history makes them (§6.9).
+/// Histories, after which every free record is FD FF FF (§9.5).
 #[test]
 fn histories_of_five() {
     FIVE.run_kind("history", 14, run_history);
 }
 
-/// Nor does the model (§9.5).
+/// The model writes FD FF FF too (§9.5).
 #[test]
 fn five_in_the_model() {
     FIVE.run_kind("history", 14, run_in_model);
