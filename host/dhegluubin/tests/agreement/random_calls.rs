@@ -3,7 +3,7 @@
 //!
 //! `DHEG_CASES=100000 cargo test -p dhegluubin random_calls` makes as many.
 
-use crate::file_layer::both as files;
+use crate::file_layer::{both as files, random_tails};
 use crate::sector_layer::both as sectors;
 use crate::sector_layer::build::{empty_tracks, packed, sides, track_0};
 use crate::sector_layer::coded::random::random_bytes as bytes_and_codes;
@@ -90,7 +90,8 @@ fn damage(generator: &mut Generator, bytes: &mut Vec<u8>) {
     }
 }
 
-/// The disk that calls have left so far, or one that is damaged or random.
+/// The disk that calls have left so far, also with other tails in its free
+/// records (§6.9), or one that is damaged or random.
 fn random_image(generator: &mut Generator, disk: &[u8]) -> Vec<u8> {
     match generator.below(8) {
         0 => {
@@ -100,6 +101,11 @@ fn random_image(generator: &mut Generator, disk: &[u8]) -> Vec<u8> {
         1..=4 => {
             let mut image = disk.to_vec();
             damage(generator, &mut image);
+            image
+        }
+        5 => {
+            let mut image = disk.to_vec();
+            random_tails(generator, &mut image);
             image
         }
         _ => disk.to_vec(),

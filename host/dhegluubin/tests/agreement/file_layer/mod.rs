@@ -8,3 +8,4 @@ mod shared;
 
 // What the shared tests ask.
 use both as answer;
+pub use shared::free_tails::random_tails;

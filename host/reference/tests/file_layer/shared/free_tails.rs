@@ -28,7 +28,7 @@ fn records(image: &[u8]) -> Vec<Vec<u8>> {
 
 /// Gives the free records tails: FF FF, numbers of files that may be present,
 /// or any.
-fn random_tails(generator: &mut Generator, image: &mut [u8]) {
+pub fn random_tails(generator: &mut Generator, image: &mut [u8]) {
     for block in free_blocks(image) {
         let [_, second, third] = record(generator.below(26), generator.below(5));
         let tail = match generator.below(3) {

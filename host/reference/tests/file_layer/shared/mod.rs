@@ -17,7 +17,7 @@ mod disk_header;
 mod first_track;
 mod foreign;
 mod format;
-mod free_tails;
+pub mod free_tails;
 mod growth;
 mod histories;
 mod history;
