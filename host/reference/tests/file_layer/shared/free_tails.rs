@@ -210,19 +210,25 @@ fn directory_grows_into_block_1() {
     assert_eq!(all_calls(&image, b"new"), [0; 4]);
 }
 
+/// Removes the files of `three_files`, whose blocks stand so many higher, and
+/// asserts that no record but theirs changes.
+fn assert_removed(image: &mut [u8], higher: usize) {
+    let mut expected = records(image);
+    for (name, blocks) in [(b"f3", 5..9), (b"f1", 2..3), (b"f2", 3..5)] {
+        for block in blocks {
+            expected[block + higher] = FREE.to_vec();
+        }
+        assert_eq!(remove(image, name), [0; 4]);
+        assert_eq!(records(image), expected);
+    }
+}
+
 /// What we free is FD FF FF (§6.9), whatever other free records are (§8.13).
 #[test]
 fn removes_leave_other_tails() {
     let mut image = three_files();
     random_tails(&mut Generator::new(7), &mut image);
-    let mut expected = records(&image);
-    for (name, blocks) in [(b"f3", 5..9), (b"f1", 2..3), (b"f2", 3..5)] {
-        for block in blocks {
-            expected[block] = FREE.to_vec();
-        }
-        assert_eq!(remove(&mut image, name), [0; 4]);
-        assert_eq!(records(&image), expected);
-    }
+    assert_removed(&mut image, 0);
     assert_eq!(all_calls(&image, b"f1"), [0; 4]);
     assert_eq!(judged(&image), ([0; 4], [1434, 1440, 2]));
 }
@@ -274,14 +280,7 @@ fn tails_below_the_files_that_they_name() {
     assert_eq!(judged(&image), ([0; 4], [1413, 1440, 9]));
     assert_eq!(list(&image, &[0; 192]), list(&three_files(), &[0; 192]));
     assert_eq!(read(&image, b"f3", &[0; 5000]).1, [b'3'; 5000]);
-    let mut expected = records(&image);
-    for (name, blocks) in [(b"f3", 476..480), (b"f1", 473..474), (b"f2", 474..476)] {
-        for block in blocks {
-            expected[block] = FREE.to_vec();
-        }
-        assert_eq!(remove(&mut image, name), [0; 4]);
-        assert_eq!(records(&image), expected);
-    }
+    assert_removed(&mut image, 471);
     assert_eq!(peek(&image, 1, 0, 1536), [0x66; 1536]);
 }
 
