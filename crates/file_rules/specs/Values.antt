@@ -30,12 +30,13 @@ pub record-values :
     × (decode (highFirst (0xFC ∷ 0xFF ∷ 0xFF ∷ []) 0 recordBytes) ≡ Other)
     × (decode (highFirst (0xFE ∷ 0x00 ∷ 0x00 ∷ []) 0 recordBytes) ≡ Other)
     × (decode (highFirst (0xFB ∷ 0x00 ∷ 0x00 ∷ []) 0 recordBytes) ≡ Other)
+    × (decode (highFirst (0xFF ∷ 0x00 ∷ 0x00 ∷ []) 0 recordBytes) ≡ Other)
     × (decode (highFirst (0xFF ∷ 0xFF ∷ 0xFF ∷ []) 0 recordBytes) ≡ Other)
     × (tab (encode Free) recordBytes ≡ 0xFD ∷ 0xFF ∷ 0xFF ∷ [])
     × (tab (encode System) recordBytes ≡ 0xF8 ∷ 0x00 ∷ 0x00 ∷ [])
     × (tab (encode (File 0x2A5 0x013)) recordBytes ≡ 0x2A ∷ 0x50 ∷ 0x13 ∷ [])
 unfolding decode encode numberOf highFirst highByte bigEndian elementAt tab
-record-values = (refl, refl, refl, refl, refl, refl, refl, refl, refl, refl, refl, refl, refl)
+record-values = (refl, refl, refl, refl, refl, refl, refl, refl, refl, refl, refl, refl, refl, refl)
 
 -- the entry of the file ab with date 01020304 (hex) and 256 bytes of data: length 64 + 256, length of the name 2, name and date; all else is zero (§6.13)
 unfoldable pub entryRow : List ℕ

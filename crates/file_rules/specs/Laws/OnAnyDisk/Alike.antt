@@ -16,7 +16,7 @@ use Rattle.laws.specs.Laws.Numbers.{big-ext}
 use Rattle.sector_rules.specs.declared.Reply.{Reply}
 use Rattle.sector_rules.specs.Faults.{faultBelow, refusalAt}
 use Rattle.sector_rules.specs.Geometry.{blocks}
-use Rattle.sector_rules.specs.Replies.{refusal}
+use Rattle.sector_rules.specs.Replies.{done, refusal}
 use Rattle.file_rules.specs.declared.Record.{Record}
 use Rattle.file_rules.specs.declared.Record.the-variants.{System}
 use Rattle.file_rules.specs.declared.Entry.{Entry}
@@ -110,7 +110,10 @@ module _ (d e : Disk) (a : Alike d e) where
   -- the counts of the first track are the same
   pub counted-alike : counted d ≡ counted e
   unfolding counted
-  counted-alike = rw (word-alike 20 (omega arith), word-alike 22 (omega arith), free-alike)
+  counted-alike =
+      ap₂ (λ (x y : ℕ). record { reply = done; free = x; good = y; held = count blocks (λ (b : ℕ). not (freeAt d b)) })
+      (word-alike 20 (omega arith)) (word-alike 22 (omega arith))
+      ∙ ap (λ (p : ℕ → Bool). record { reply = done; free = at16 (e 0) 20; good = at16 (e 0) 22; held = count blocks (λ (b : ℕ). not (p b)) }) free-alike
 
   parts-alike : (f n : ℕ) → partsRight d f n ≡ partsRight e f n
   unfolding partsRight

@@ -1,4 +1,4 @@
--- The bytes of free blocks: a block that is free, and that an add does not take, keeps them on add and remove.
+-- The bytes of free blocks: a block that is free, and that an add does not take, keeps them on add and remove; one that a remove frees has zeros.
 -- Rests on which records the steps leave (Kept) and on a sound disk's block 0 (Base.Sound).
 use mathlib.Core.Path.{_≡_, refl, sym, ap, _∙_}
 use mathlib.Core.Logic.{_≢_}
@@ -9,9 +9,9 @@ use native.Mathlib.Omega.{arith}
 use lib.Dec.{eqb}
 use lib.ListN.{length}
 use Rattle.laws.specs.Below.{count, firsts}
-use Rattle.laws.specs.Laws.Cases.{by-cond}
-use Rattle.laws.specs.Laws.Tests.{true≢false}
-use Rattle.laws.specs.Laws.Changes.{upd₂-other}
+use Rattle.laws.specs.Laws.Cases.{by-equal, by-cond}
+use Rattle.laws.specs.Laws.Tests.{true≢false, cond-true}
+use Rattle.laws.specs.Laws.Changes.{upd₂-same, upd₂-other}
 use Rattle.laws.specs.Laws.Firsts.{Avoids}
 use Rattle.sector_rules.specs.Geometry.{blocks}
 use Rattle.file_rules.specs.declared.Record.{Record}
@@ -23,7 +23,8 @@ use Rattle.file_rules.specs.Disk.{Disk}
 use Rattle.file_rules.specs.FreeTails.{SameRecord}
 use Rattle.file_rules.specs.Laws.Base.Records.{free-only}
 use Rattle.file_rules.specs.Laws.Base.Sound.{part-not}
-use Rattle.file_rules.specs.Laws.OnAnyDisk.Kept.{record-same, firsts-beside, grow-beside, grow-system, left-beside, freed-kept}
+use Rattle.file_rules.specs.Laws.Base.Whole.{bears-not-system}
+use Rattle.file_rules.specs.Laws.OnAnyDisk.Kept.{record-same, freed-later, freed-record, firsts-beside, grow-beside, grow-system, left-beside, freed-kept}
 use Rattle.file_rules.specs.Map.{recordAt, isFree, isPart, bears, freeAt, partBlock}
 use Rattle.file_rules.specs.Sizes.{blockSlots}
 use Rattle.file_rules.specs.Written.{storedByte, part, blocksFor, zeros, setBlock, setRecord, setSlot, setWord, setFree, setEnd, stepUpdate}
@@ -143,3 +144,33 @@ module _ (d : Disk) (first : recordAt d 0 ≡ System) (f b : ℕ) (l : b < block
       let free₁ : freeAt d₁ b ≡ true = free-still d d₁ b (freed-kept d first f blocks b (omega arith) l not-borne) t in
       let d₂ : Disk = setSlot d₁ f zeros in
       freed-bytes blocks (omega arith) o ∙ slot-bytes d₁ b l free₁ f zeros o ∙ free-bytes b z d₂ o ∙ update-bytes b z (setFree d₂) o
+
+-- ---- blocks that are freed
+
+module _ (d : Disk) (first : recordAt d 0 ≡ System) (f b : ℕ) (l : b < blocks) (t : bears f (recordAt d b) ≡ true) where
+  pos : b ≢ 0
+  pos z = bears-not-system f (recordAt d b) t (ap (recordAt d) z ∙ first)
+
+  freed-zeros : (n : ℕ) → n ≤ blocks → b < n → (o : ℕ) → freeBlocks n d f b o ≡ 0
+  unfolding freeBlocks freeBlock setRecord setBlock zeros
+  freed-zeros zero h q o = absurd (omega arith)
+  freed-zeros (suc n) h q o =
+      let dn : Disk = freeBlocks n d f in
+      by-equal b n
+      (λ z.
+      let kept : SameRecord d dn n = freed-later d first f n n (omega arith) (omega arith) (omega arith) in
+      let here : bears f (recordAt dn n) ≡ true = ap (bears f) (sym (record-same d dn n kept)) ∙ ap (λ (x : ℕ). bears f (recordAt d x)) (sym z) ∙ t in
+      ap (λ (x : Disk). x b o) (cond-true (setRecord (setBlock dn n zeros) n Free) dn here)
+      ∙ upd₂-other (setBlock dn n zeros) 0 _ b o pos ∙ upd₂-same dn n zeros b o z)
+      (λ z.
+      sym (by-cond (λ (e : Disk). dn b o ≡ e b o) (bears f (recordAt dn n)) _ dn (λ u. given-bytes b pos dn n zeros Free z o) (λ u. refl))
+      ∙ freed-zeros n (omega arith) (omega arith) o)
+
+  -- a remove fills the file's blocks with zeros
+  pub remove-zeros : (o : ℕ) → removeAt d f b o ≡ 0
+  unfolding removeAt freeAt isFree
+  remove-zeros o =
+      let d₁ : Disk = freeBlocks blocks d f in
+      let free₁ : freeAt d₁ b ≡ true = ap isFree (freed-record d first f b l t) in
+      let d₂ : Disk = setSlot d₁ f zeros in
+      sym (slot-bytes d₁ b l free₁ f zeros o ∙ free-bytes b pos d₂ o ∙ update-bytes b pos (setFree d₂) o) ∙ freed-zeros blocks (omega arith) l o

@@ -4,19 +4,19 @@ use mathlib.Core.Path.{_≡_, refl, sym, ap, _∙_, subst}
 use mathlib.Core.Logic.{_≢_}
 use mathlib.Core.Bool.{true, false}
 use mathlib.Core.List.{List, [], _∷_}
-use Prim.Native.Nat.{ℕ, zero, suc, _+_, _*_, _/_, _≤_, _<_}
+use Prim.Native.Nat.{ℕ, zero, suc, _+_, _-_, _*_, _/_, _%_, _≤_, _<_}
 use native.Mathlib.Omega.{arith}
 use lib.Dec.{eqb}
 use lib.ListN.{length}
 use Rattle.laws.specs.Below.{count, firsts}
 use Rattle.laws.specs.Changes.{patch}
-use Rattle.laws.specs.Numbers.{at32, highByte}
+use Rattle.laws.specs.Numbers.{at16, at32, highByte}
 use Rattle.laws.specs.Laws.Cases.{by-equal, by-test, by-cond}
 use Rattle.laws.specs.Laws.Tests.{true≢false, cond-true, cond-false}
-use Rattle.laws.specs.Laws.Changes.{upd₂-same, upd₂-other, patch-above}
-use Rattle.laws.specs.Laws.Count.{count-but-one}
+use Rattle.laws.specs.Laws.Changes.{upd₂-same, upd₂-other, patch-in, patch-above}
+use Rattle.laws.specs.Laws.Count.{count-cong, count-le, count-but-one}
 use Rattle.laws.specs.Laws.Firsts.{Avoids, firsts-most, firsts-fails, firsts-beyond}
-use Rattle.laws.specs.Laws.Numbers.{big-ext}
+use Rattle.laws.specs.Laws.Numbers.{big-ext, high-is}
 use Rattle.sector_rules.specs.Geometry.{blocks}
 use Rattle.file_rules.specs.declared.Record.{Record}
 use Rattle.file_rules.specs.declared.Record.the-variants.{Free, System, File}
@@ -25,7 +25,7 @@ use Rattle.file_rules.specs.Calls.{opensBlock, growDir, endAfter, addAt,
 use Rattle.file_rules.specs.Directory.{entryByte, dirEnd}
 use Rattle.file_rules.specs.Disk.{Disk}
 use Rattle.file_rules.specs.FreeTails.{SameRecord}
-use Rattle.file_rules.specs.Laws.Base.Records.{record-set, record-beside}
+use Rattle.file_rules.specs.Laws.Base.Records.{decode-bytes, record-set, record-beside}
 use Rattle.file_rules.specs.Laws.Base.Sound.{part-not-first}
 use Rattle.file_rules.specs.Laws.Base.Whole.{bears-not-system}
 use Rattle.file_rules.specs.Map.{encode, decode, recordByte, numberAt, recordAt, isFree, bears, freeAt, freeCount, partBlock}
@@ -103,6 +103,31 @@ removed-map : (d : Disk) → recordAt d 0 ≡ System → (k : ℕ) (g : ℕ → 
 removed-map d first k g i a c =
     let d₁ : Disk = setSlot d k g in
     slot-map d first k g i a c ∙ free-map d₁ i a c ∙ update-map (setFree d₁) i a c
+
+-- ---- the free word
+
+-- as it is written last, it counts the records of the disk
+pub word-written : (x : Disk) → at16 (stepUpdate (setFree x) 0) 20 ≡ freeSectors (freeCount (stepUpdate (setFree x)))
+unfolding at16 freeCount
+word-written x =
+    let v : ℕ = freeSectors (freeCount x) in
+    let y : Disk = setFree x in
+    let e : Disk = stepUpdate (setFree x) in
+    let same : count blocks (freeAt x) ≡ count blocks (freeAt e) =
+    count-cong blocks (freeAt x) (freeAt e) (λ b l. free-same x e b (map-records x e (λ i a c. free-map x i a c ∙ update-map y i a c) b l)) in
+    let small : freeSectors (count blocks (freeAt x)) % 65536 ≡ freeSectors (count blocks (freeAt x)) = omega (arith, count-le blocks (freeAt x)) in
+    high-is (λ (i : ℕ). e 0 (20 + i)) 2 v (λ i l. word-bytes-at x i l) ∙ small ∙ ap freeSectors same
+  where
+    word-bytes-at : (x : Disk) (i : ℕ) → i < 2 → stepUpdate (setFree x) 0 (20 + i) ≡ highByte 2 (freeSectors (freeCount x)) i
+    word-bytes-at x i l = unfold stepUpdate setFree setWord in
+        (let v : ℕ = freeSectors (freeCount x) in
+        let y : Disk = setFree x in
+        let at : 20 + i - 20 ≡ i = omega arith in
+        upd₂-same y 0 (patch (y 0) 16 4 (highByte 4 (at32 (y 0) 16 + 1))) 0 (20 + i) refl
+        ∙ patch-above (y 0) 16 4 (highByte 4 (at32 (y 0) 16 + 1)) (20 + i) (omega arith)
+        ∙ upd₂-same x 0 (patch (x 0) 20 2 (highByte 2 v)) 0 (20 + i) refl
+        ∙ patch-in (x 0) 20 2 (highByte 2 v) (20 + i) (omega arith) (omega arith)
+        ∙ ap (highByte 2 v) at)
 
 -- ---- blocks that are given
 
@@ -262,6 +287,15 @@ module _ (d : Disk) (first : recordAt d 0 ≡ System) (f : ℕ) where
   -- freeing the blocks of the file below n leaves each record that does not bear it
   pub freed-kept : (n b : ℕ) → n ≤ blocks → b < blocks → bears f (recordAt d b) ≡ false → SameRecord d (freeBlocks n d f) b
   freed-kept n b h l t = freed-below n b h l .1 t
+
+  -- nor those from n on
+  pub freed-later : (n b : ℕ) → n ≤ blocks → b < blocks → n ≤ b → SameRecord d (freeBlocks n d f) b
+  freed-later n b h l q = freed-below n b h l .0 q
+
+  -- a record that bears it is free then
+  pub freed-record : (b : ℕ) → b < blocks → bears f (recordAt d b) ≡ true → recordAt (freeBlocks blocks d f) b ≡ Free
+  unfolding recordAt numberAt
+  freed-record b l t = decode-bytes (recordByte (freeBlocks blocks d f) b) Free tt (freed-below blocks b (omega arith) l .2 t l)
 
   -- block 0 stays the system's
   pub freed-system : (n : ℕ) → n ≤ blocks → recordAt (freeBlocks n d f) 0 ≡ System

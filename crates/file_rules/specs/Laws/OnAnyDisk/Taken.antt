@@ -1,6 +1,6 @@
 -- The records of the blocks that an add takes: the lowest free ones, in their order, the first for the directory where it grows.
 -- Rests on which records the steps leave (Kept), on counts and on the lowest numbers that pass (laws, Count and Firsts).
-use mathlib.Core.Path.{_≡_, sym, ap, _∙_, subst}
+use mathlib.Core.Path.{_≡_, refl, sym, ap, _∙_, subst}
 use mathlib.Core.Logic.{_≢_}
 use mathlib.Core.Bool.{Bool, true, false}
 use mathlib.Core.List.{List, _∷_}
@@ -18,12 +18,22 @@ use Rattle.file_rules.specs.declared.Record.the-variants.{System, File}
 use Rattle.file_rules.specs.declared.Entry.{Entry}
 use Rattle.file_rules.specs.Calls.{opensBlock, growDir, needed, addAt}
 use Rattle.file_rules.specs.Disk.{Disk}
-use Rattle.file_rules.specs.FreeTails.{SameRecord, takenRecord}
+use Rattle.file_rules.specs.FreeTails.{SameRecord, takesBlock, blocksTaken, takenRecord}
 use Rattle.file_rules.specs.Laws.Base.Records.{decode-bytes, record-set}
 use Rattle.file_rules.specs.Laws.OnAnyDisk.Kept.{free-same, give-beside, firsts-not-first, grow-beside, given-added, grown-added}
 use Rattle.file_rules.specs.Map.{sequences, encode, recordByte, numberAt, recordAt, isFree, freeAt}
 use Rattle.file_rules.specs.Sizes.{blockSlots, recordBytes}
 use Rattle.file_rules.specs.Written.{storedByte, part, blocksFor, zeros, setBlock, setRecord, giveBlocks}
+
+-- what the statement says of growing and of room is what add asks
+pub takes-is : (d : Disk) (k : ℕ) → takesBlock d k ≡ opensBlock d k
+unfolding takesBlock opensBlock
+takes-is d k = refl
+
+-- so it takes as many blocks as it needs
+pub taken-is : (d : Disk) (k size : ℕ) → blocksTaken d k size ≡ needed d k size
+unfolding blocksTaken needed
+taken-is d k size = rw (takes-is d k)
 
 -- the record of block b on a disk is this one, byte for byte
 abbrev pub HasRecord : Disk → ℕ → Record → Type 0
@@ -143,21 +153,21 @@ module _ (d : Disk) (first : recordAt d 0 ≡ System) (k : ℕ) (e : Entry) (con
         file-taken system (sym (free-same d d₁ b kept) ∙ t) (omega arith) i q ∙ ap (λ (s : ℕ). encode (File k s) i) at
 
   -- a free block that is among those which an add needs has the record of its rank
-  pub add-gives-record : recordAt d₁ 0 ≡ System → k / blockSlots < sequences → count b p < needed d k (length content)
+  pub add-gives-record : recordAt d₁ 0 ≡ System → k / blockSlots < sequences → count b p < blocksTaken d k (length content)
       → HasRecord (addAt d k e content) b (takenRecord d k (count b p))
-  unfolding needed takenRecord
+  unfolding blocksTaken takenRecord
   add-gives-record system bound few =
       by-test (opensBlock d k)
       (λ o.
-      let few₁ : count b p < suc n = subst (λ (x : ℕ). count b p < x) (cond-true {b = opensBlock d k} (suc n) n o) few in
+      let few₁ : count b p < suc n = subst (λ (x : ℕ). count b p < x) (cond-true {b = takesBlock d k} (suc n) n (takes-is d k ∙ o)) few in
       by-equal (count b p) 0
-      (λ z. subst (HasRecord (addAt d k e content) b) (sym (cond-true _ _ o ∙ cond-true _ _ (eq-true z))) (first-taken o bound system z))
-      (λ z. subst (HasRecord (addAt d k e content) b) (sym (cond-true _ _ o ∙ cond-false _ _ (eq-false z)))
+      (λ z. subst (HasRecord (addAt d k e content) b) (sym (cond-true _ _ (takes-is d k ∙ o) ∙ cond-true _ _ (eq-true z))) (first-taken o bound system z))
+      (λ z. subst (HasRecord (addAt d k e content) b) (sym (cond-true _ _ (takes-is d k ∙ o) ∙ cond-false _ _ (eq-false z)))
       (later-taken o bound system (omega arith) few₁)))
       (λ o.
-      let few₁ : count b p < n = subst (λ (x : ℕ). count b p < x) (cond-false {b = opensBlock d k} (suc n) n o) few in
+      let few₁ : count b p < n = subst (λ (x : ℕ). count b p < x) (cond-false {b = takesBlock d k} (suc n) n (takes-is d k ∙ o)) few in
       let still : d₁ ≡ d = grown-not o in
-      subst (HasRecord (addAt d k e content) b) (sym (cond-false _ _ o))
+      subst (HasRecord (addAt d k e content) b) (sym (cond-false _ _ (takes-is d k ∙ o)))
       (subst (λ (x : Disk). HasRecord (addAt d k e content) b (File k (count b (freeAt x)))) still
       (file-taken system (ap (λ (x : Disk). freeAt x b) still ∙ t) (subst (λ (x : Disk). count b (freeAt x) < n) (sym still) few₁))))
     where

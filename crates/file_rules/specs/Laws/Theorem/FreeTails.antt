@@ -1,7 +1,7 @@
 -- free-tails (FreeTails.antt). What the calls leave of a record is what their steps leave (OnAnyDisk.Kept), on a sound disk; every refusal leaves
 -- the image. That no history makes another tail is read off the inner model's disk, whose free records are written ones.
-use mathlib.Core.Path.{_≡_, refl, sym, ap, _∙_, subst}
-use mathlib.Core.Bool.{true, not, _&&_}
+use mathlib.Core.Path.{_≡_, refl, sym, ap, ap₂, _∙_, subst}
+use mathlib.Core.Bool.{Bool, true, not, cond, _&&_}
 use mathlib.Core.List.{List}
 use mathlib.Core.Option.{Option, none, some}
 use Prim.Native.Nat.{ℕ, _+_, _-_, _*_, _/_, _≤_, _<_}
@@ -11,28 +11,30 @@ use lib.ListN.{length}
 use Rattle.laws.specs.Below.{count}
 use Rattle.laws.specs.Numbers.{at16, highByte}
 use Rattle.laws.specs.Laws.Cases.{by-order, by-equal, by-test, by-cond}
-use Rattle.laws.specs.Laws.Tests.{true-eq, false-eq}
+use Rattle.laws.specs.Laws.Tests.{lt-false, true-eq, false-eq, cond-true, cond-false}
 use Rattle.laws.specs.Laws.Lowest.{lowest-le}
+use Rattle.laws.specs.Laws.Numbers.{big-ext}
 use Rattle.laws.specs.Laws.Count.{count-cong, count-not}
 use Rattle.sector_rules.specs.Geometry.{blocks, imageBytes}
-use Rattle.sector_rules.specs.Replies.{done}
+use Rattle.sector_rules.specs.Replies.{done, refusal}
 use Rattle.sector_rules.specs.declared.Reply.{Reply}
 use Rattle.file_rules.specs.declared.Record.{Record}
 use Rattle.file_rules.specs.declared.Record.the-variants.{Free, System}
 use Rattle.file_rules.specs.declared.Entry.{Entry}
 use Rattle.file_rules.specs.Arguments.{FormatArguments}
-use Rattle.file_rules.specs.Calls.{DiskChanged, ImageChanged, diskKept, imageKept, wrongLength, onSound, needed, addAt, addSound, imaged, add}
+use Rattle.file_rules.specs.Calls.{DiskChanged, ImageChanged, diskKept, imageKept, wrongLength, onSound, check, needed, addAt, addSound, imaged, add}
 use Rattle.file_rules.specs.Calls.{removeAt, removeSound, remove}
 use Rattle.file_rules.specs.Check.{recordFault, freeRight, diskRefusal}
 use Rattle.file_rules.specs.Directory.{nameRight, entryFor, held, dirEnd, findName, vacantSlot}
 use Rattle.file_rules.specs.Disk.{Disk, diskOf, imageOf}
 use Rattle.file_rules.specs.FirstTrack.{counted}
-use Rattle.file_rules.specs.FreeTails.{SameRecord, MapInBytes, IsWrittenFree, freeByFirst, takenRecord, FreeTails}
+use Rattle.file_rules.specs.FreeTails.{SameRecord, MapInBytes, IsWrittenFree, freeByFirst, blocksTaken, takenRecord, FreeTails}
 use Rattle.file_rules.specs.Histories.{Call, imageEnd}
 use Rattle.file_rules.specs.History.{formatted}
 use Rattle.file_rules.specs.Laws.Base.Disk.{inside-disk, outside-disk}
 use Rattle.file_rules.specs.Laws.Base.Ends.{end-within}
-use Rattle.file_rules.specs.Laws.Base.Judged.{check-passed, nine-wrong, nine-at-zero, word-right, eleven-wrong, track-accepted}
+use Rattle.file_rules.specs.Laws.Base.Judged.{check-long, check-passed, nine-wrong, nine-at-zero, word-right, eleven-wrong, track-accepted}
+use Rattle.file_rules.specs.Laws.Base.Names.{bounds-name}
 use Rattle.file_rules.specs.Laws.Base.OnSound.{sound-length, sound-refused, sound-passed, by-sound}
 use Rattle.file_rules.specs.Laws.Base.Records.{free-only, free-by-byte, begins-free}
 use Rattle.file_rules.specs.Laws.Base.Sound.{first-system, NotDone, refused-number}
@@ -40,12 +42,13 @@ use Rattle.file_rules.specs.Laws.Base.Whole.{with-is, free-is}
 use Rattle.file_rules.specs.Laws.InnerModel.Inner.{Inner, render, innerFormat, innerEnd}
 use Rattle.file_rules.specs.Laws.InnerModel.Invariant.{Inv}
 use Rattle.file_rules.specs.Laws.OnImages.Run.{format-inv, img-disk, end-inv}
-use Rattle.file_rules.specs.Laws.OnAnyDisk.Kept.{grow-system, add-held, add-left, remove-beside, remove-freed}
-use Rattle.file_rules.specs.Laws.OnAnyDisk.FreeBytes.{SameBytes, add-bytes, remove-bytes}
-use Rattle.file_rules.specs.Laws.OnAnyDisk.Taken.{HasRecord, add-gives-record}
+use Rattle.file_rules.specs.Laws.OnAnyDisk.Kept.{free-same, word-written, grow-system, add-held, add-left, remove-beside, remove-freed}
+use Rattle.file_rules.specs.Laws.OnAnyDisk.FreeBytes.{SameBytes, add-bytes, remove-bytes, remove-zeros}
+use Rattle.file_rules.specs.Laws.OnAnyDisk.Taken.{HasRecord, taken-is, add-gives-record}
 use Rattle.file_rules.specs.Laws.Theorem.History.{end-is}
 use Rattle.file_rules.specs.Map.{sequences, numberOf, encode, recordByte, recordAt, isSystem, isOther, bears, freeAt, freeCount}
-use Rattle.file_rules.specs.Sizes.{blockBytes, blockSlots, mapStart, recordBytes, titleMost, freeSectors}
+use Rattle.file_rules.specs.Sizes.{blockBytes, blockSlots, mapStart, recordBytes, nameMost, titleMost, freeSectors}
+use Rattle.file_rules.specs.Written.{setFree, stepUpdate}
 
 -- ---- what stays
 
@@ -112,6 +115,12 @@ module _ (image : List ℕ) (b : ℕ) (l : b < blocks) where
       → SameBytes d (diskOf (remove image name .image)) b
   remove-stays = by-remove image (λ (e : Disk). SameBytes d e b) bytes-image (λ o. refl)
 
+-- as many free blocks as it takes, said as add asks for them
+as-needed : (image content : List ℕ) (b : ℕ) → blocksTaken (diskOf image) (vacantSlot (diskOf image)) (length content) ≤ count b (freeAt (diskOf image))
+    → needed (diskOf image) (vacantSlot (diskOf image)) (length content) ≤ count b (freeAt (diskOf image))
+as-needed image content b =
+    subst (λ (x : ℕ). x ≤ count b (freeAt (diskOf image))) (taken-is (diskOf image) (vacantSlot (diskOf image)) (length content))
+
 -- ---- records that are written
 
 not-done : {X : Type 0} (r : Reply) → NotDone (some r) → r ≡ done → X
@@ -150,17 +159,28 @@ module _ (image : List ℕ) (b : ℕ) (l : b < blocks) where
   written-image : (e : Disk) (r : Record) → HasRecord e b r → HasRecord (diskOf (imageOf e)) b r
   written-image e r h i k = record-image image b l e i k ∙ h i k
 
+  -- what a remove leaves of a block of the file: the free record, and zeros
+  abbrev Cleared : Disk → Type 0
+  Cleared x = IsWrittenFree x b × ((o : ℕ) → x b o ≡ 0)
+
+  cleared-image : (e : Disk) → HasRecord e b Free → ((o : ℕ) → e b o ≡ 0) → Cleared (diskOf (imageOf e))
+  cleared-image e r h = (
+    written-free (diskOf (imageOf e)) b (written-image e Free r),
+    λ o. by-order o blockBytes (λ g. inside-disk e b o l g ∙ h o) (λ g. outside-disk (imageOf e) b o g),
+  )
+
   remove-frees : (name : List ℕ) → remove image name .answer ≡ done → bears (findName before name) (recordAt before b) ≡ true
-      → IsWrittenFree (diskOf (remove image name .image)) b
+      → Cleared (diskOf (remove image name .image))
   unfolding remove removeSound diskKept
   remove-frees name e t =
-      let after : Disk = removeAt before (findName before name) in
-      let Freed : DiskChanged → Type 0 = λ (c : DiskChanged). c .answer ≡ done → IsWrittenFree (diskOf (imageOf (c .diskAfter))) b in
-      when-done image (λ (x : Disk). removeSound x name) (λ (x : List ℕ). IsWrittenFree (diskOf x) b)
-      (λ passed. by-cond Freed (nameRight name) _ _
+      let k : ℕ = findName before name in
+      let Freed : DiskChanged → Type 0 = λ (c : DiskChanged). c .answer ≡ done → Cleared (diskOf (imageOf (c .diskAfter))) in
+      when-done image (λ (x : Disk). removeSound x name) (λ (x : List ℕ). Cleared (diskOf x))
+      (λ passed.
+      let first : recordAt before 0 ≡ System = first-system before passed in
+      by-cond Freed (nameRight name) _ _
       (λ u. by-cond Freed (ltb (findName before name) (dirEnd before)) _ _
-      (λ v q. written-free (diskOf (imageOf after)) b
-      (written-image after Free (remove-freed before (first-system before passed) (findName before name) b l t)))
+      (λ v q. cleared-image (removeAt before k) (remove-freed before first k b l t) (remove-zeros before first k b l t))
       (λ v. not-done _ (λ z. omega arith)))
       (λ u. not-done _ (λ z. omega arith))) e
 
@@ -170,7 +190,7 @@ module _ (image : List ℕ) (b : ℕ) (l : b < blocks) where
   slot-bound passed = omega (arith, end-within before passed, lowest-le (λ (k : ℕ). ltb 0 k && not (held before k)) (dirEnd before))
 
   add-given : (name : List ℕ) (date : ℕ) (content : List ℕ) → add image name date content .answer ≡ done → freeAt before b ≡ true
-      → count b (freeAt before) < needed before (vacantSlot before) (length content)
+      → count b (freeAt before) < blocksTaken before (vacantSlot before) (length content)
       → HasRecord (diskOf (add image name date content .image)) b (takenRecord before (vacantSlot before) (count b (freeAt before)))
   unfolding add addSound diskKept
   add-given name date content e t few =
@@ -228,6 +248,62 @@ module _ (d : Disk) (bytes : MapInBytes d) where
       let others : count blocks (λ (b : ℕ). not (freeAt d b)) ≡ blocks - freeByFirst d = omega (arith, count-not blocks (freeAt d), free-first) in
       rw (word, others)
 
+-- the free word of an image that was written
+word-image : (x : Disk) → MapInBytes (diskOf (imageOf (stepUpdate (setFree x))))
+    → at16 (diskOf (imageOf (stepUpdate (setFree x))) 0) 20 ≡ 3 * freeByFirst (diskOf (imageOf (stepUpdate (setFree x))))
+unfolding at16 freeCount
+word-image x bytes =
+    let e : Disk = stepUpdate (setFree x) in
+    let i : Disk = diskOf (imageOf e) in
+    let same : count blocks (freeAt e) ≡ count blocks (freeAt i) =
+    count-cong blocks (freeAt e) (freeAt i) (λ b l. free-same e i b (λ j k. sym (record-image (imageOf e) b l e j k))) in
+    big-ext (λ (j : ℕ). i 0 (20 + j)) (λ (j : ℕ). e 0 (20 + j)) 2 (λ j l. inside-disk e 0 (20 + j) (omega arith) (omega arith))
+    ∙ word-written x ∙ ap freeSectors (same ∙ free-first i bytes)
+
+abbrev WordRight : List ℕ → Type 0
+WordRight y = MapInBytes (diskOf y) → at16 (diskOf y 0) 20 ≡ 3 * freeByFirst (diskOf y)
+
+module _ (image : List ℕ) where
+  abbrev d₀ : Disk
+  d₀ = diskOf image
+
+  abbrev WordOn : DiskChanged → Type 0
+  WordOn c = c .answer ≡ done → WordRight (imageOf (c .diskAfter))
+
+  add-writes-word : (name : List ℕ) (date : ℕ) (content : List ℕ) → add image name date content .answer ≡ done → WordRight (add image name date content .image)
+  unfolding add addSound addAt diskKept
+  add-writes-word name date content =
+      when-done image (λ (y : Disk). addSound y name date content) WordRight
+      (λ passed. by-cond WordOn (nameRight name) _ _
+      (λ u. by-cond WordOn (ltb (findName d₀ name) (dirEnd d₀)) _ _ (λ v. not-done _ (λ z. omega arith))
+      (λ v. by-cond WordOn (leb (needed d₀ (vacantSlot d₀) (length content)) (freeCount d₀)) _ _ (λ w q. word-image _) (λ w. not-done _ (λ z. omega arith))))
+      (λ u. not-done _ (λ z. omega arith)))
+
+  remove-writes-word : (name : List ℕ) → remove image name .answer ≡ done → WordRight (remove image name .image)
+  unfolding remove removeSound removeAt diskKept
+  remove-writes-word name =
+      when-done image (λ (y : Disk). removeSound y name) WordRight
+      (λ passed. by-cond WordOn (nameRight name) _ _
+      (λ u. by-cond WordOn (ltb (findName d₀ name) (dirEnd d₀)) _ _ (λ v q. word-image _) (λ v. not-done _ (λ z. omega arith)))
+      (λ u. not-done _ (λ z. omega arith)))
+
+  room-is : (name : List ℕ) (date : ℕ) (content : List ℕ) → MapInBytes d₀ → check image ≡ done → 1 ≤ length name → length name ≤ nameMost
+      → findName d₀ name ≡ dirEnd d₀
+      → add image name date content .answer ≡ cond (leb (blocksTaken d₀ (vacantSlot d₀) (length content)) (freeByFirst d₀)) done (refusal 15)
+  unfolding add addSound imaged diskKept
+  room-is name date content bytes e p q new =
+      let long : length image ≡ imageBytes = check-long image (λ z. absurd (omega (arith, z, ap (λ (x : Reply). x .number) e))) in
+      let acts : add image name date content ≡ imaged (addSound d₀ name date content) = sound-passed image _ _ long (check-passed image e) in
+      let asked : Bool = leb (needed d₀ (vacantSlot d₀) (length content)) (freeCount d₀) in
+      let room : asked ≡ leb (blocksTaken d₀ (vacantSlot d₀) (length content)) (freeByFirst d₀) =
+      ap₂ leb (sym (taken-is d₀ (vacantSlot d₀) (length content))) (free-first d₀ bytes) in
+      ap (λ (w : ImageChanged). w .answer) acts
+      ∙ ap (λ (c : DiskChanged). c .answer)
+      (cond-true _ _ (bounds-name name p q) ∙ cond-false _ _ (lt-false {a = findName d₀ name} {b = dirEnd d₀} (omega (arith, new))))
+      ∙ by-test asked
+      (λ t. ap (λ (c : DiskChanged). c .answer) (cond-true _ _ t) ∙ sym (cond-true _ _ (sym room ∙ t)))
+      (λ t. ap (λ (c : DiskChanged). c .answer) (cond-false _ _ t) ∙ sym (cond-false _ _ (sym room ∙ t)))
+
 -- free-tails: all of this holds
 pub free-tails : FreeTails
 free-tails =
@@ -241,12 +317,17 @@ free-tails =
       word-wrong = λ image bytes e. false-eq (sym (word-is (diskOf image) bytes) ∙ eleven-wrong image e);
       track-counts = λ image long bytes e.
           let w = track-accepted image long e in w .0 ∙ counted-is (diskOf image) bytes (w .1);
+      add-room = λ image name date content bytes e p q new. room-is image name date content bytes e p q new;
+      add-word = λ image name date content e. add-writes-word image name date content e;
+      remove-word = λ image name e. remove-writes-word image name e;
       add-others = λ image name date content b l t.
           add-kept image b l name date content (λ first e. add-held (diskOf image) first (vacantSlot (diskOf image)) e content b l t);
       add-free = λ image name date content b l h.
-          add-kept image b l name date content (λ first e. add-left (diskOf image) first (vacantSlot (diskOf image)) e content b l h);
+          add-kept image b l name date content
+          (λ first e. add-left (diskOf image) first (vacantSlot (diskOf image)) e content b l (as-needed image content b h));
       add-bytes-stay = λ image name date content b l t h.
-          add-stays image b l name date content (λ first x. add-bytes (diskOf image) first (vacantSlot (diskOf image)) x content b l t h);
+          add-stays image b l name date content
+          (λ first x. add-bytes (diskOf image) first (vacantSlot (diskOf image)) x content b l t (as-needed image content b h));
       remove-bytes-stay = λ image name b l t.
           remove-stays image b l name (λ first. remove-bytes (diskOf image) first (findName (diskOf image) name) b l t);
       add-taken = λ image name date content b l e t few. add-given image b l name date content e t few;
