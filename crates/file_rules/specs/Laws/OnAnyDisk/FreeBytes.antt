@@ -31,42 +31,42 @@ use Rattle.file_rules.specs.Written.{storedByte, part, blocksFor, zeros,
 use Rattle.file_rules.specs.Written.{giveBlocks, freeBlock, freeBlocks}
 
 -- block b has the same bytes on both disks
-abbrev pub SameBytes : Disk → Disk → ℕ → Type 0
-SameBytes d e b = (o : ℕ) → d b o ≡ e b o
+abbrev pub SameBlock : Disk → Disk → ℕ → Type 0
+SameBlock d e b = (o : ℕ) → d b o ≡ e b o
 
 -- ---- steps on block 0
 
 module _ (b : ℕ) (z : b ≢ 0) where
-  word-bytes : (d : Disk) (o v : ℕ) → SameBytes d (setWord d o v) b
+  word-bytes : (d : Disk) (o v : ℕ) → SameBlock d (setWord d o v) b
   unfolding setWord
   word-bytes d o v i = sym (upd₂-other d 0 _ b i z)
 
-  update-bytes : (d : Disk) → SameBytes d (stepUpdate d) b
+  update-bytes : (d : Disk) → SameBlock d (stepUpdate d) b
   unfolding stepUpdate
   update-bytes d i = sym (upd₂-other d 0 _ b i z)
 
-  free-bytes : (d : Disk) → SameBytes d (setFree d) b
+  free-bytes : (d : Disk) → SameBlock d (setFree d) b
   unfolding setFree
   free-bytes d = word-bytes d 20 _
 
-  end-bytes : (d : Disk) (k end : ℕ) → SameBytes d (endAfter k end d) b
+  end-bytes : (d : Disk) (k end : ℕ) → SameBlock d (endAfter k end d) b
   unfolding endAfter setEnd
   end-bytes d k end =
-      by-cond (λ (e : Disk). SameBytes d e b) (eqb k end) (setEnd d (suc k)) d
+      by-cond (λ (e : Disk). SameBlock d e b) (eqb k end) (setEnd d (suc k)) d
       (λ t i. word-bytes d 34 _ i ∙ word-bytes (setWord d 34 _) 36 _ i) (λ t i. refl)
 
-  given-bytes : (d : Disk) (x : ℕ) (g : ℕ → ℕ) (r : Record) → b ≢ x → SameBytes d (setRecord (setBlock d x g) x r) b
+  given-bytes : (d : Disk) (x : ℕ) (g : ℕ → ℕ) (r : Record) → b ≢ x → SameBlock d (setRecord (setBlock d x g) x r) b
   unfolding setRecord setBlock
   given-bytes d x g r h i = sym (upd₂-other (setBlock d x g) 0 _ b i z ∙ upd₂-other d x g b i h)
 
-  give-bytes : (bs : List ℕ) (d : Disk) (f : ℕ) (c : ℕ → ℕ) (s : ℕ) → Avoids b bs → SameBytes d (giveBlocks d f c s bs) b
+  give-bytes : (bs : List ℕ) (d : Disk) (f : ℕ) (c : ℕ → ℕ) (s : ℕ) → Avoids b bs → SameBlock d (giveBlocks d f c s bs) b
   unfolding giveBlocks
   give-bytes [] d f c s a = λ i. refl
   give-bytes (x ∷ bs) d f c s a =
       λ i. given-bytes d x (part c s) (File f s) (a .0) i ∙ give-bytes bs (setRecord (setBlock d x (part c s)) x (File f s)) f c (suc s) (a .1) i
 
 -- a slot does not lie in a free block
-slot-bytes : (d : Disk) (b : ℕ) → b < blocks → freeAt d b ≡ true → (k : ℕ) (g : ℕ → ℕ) → SameBytes d (setSlot d k g) b
+slot-bytes : (d : Disk) (b : ℕ) → b < blocks → freeAt d b ≡ true → (k : ℕ) (g : ℕ → ℕ) → SameBlock d (setSlot d k g) b
 unfolding setSlot freeAt isPart
 slot-bytes d b l t k g i =
     let free : recordAt d b ≡ Free = free-only (recordAt d b) t in
@@ -95,14 +95,14 @@ module _ (d : Disk) (first : recordAt d 0 ≡ System) (k : ℕ) (x : Entry) (con
   z : b ≢ 0
   z = free-not-zero d first b t
 
-  grow-bytes : (opensBlock d k ≡ true → Avoids b (firsts blocks 1 (freeAt d))) → SameBytes d d₁ b
+  grow-bytes : (opensBlock d k ≡ true → Avoids b (firsts blocks 1 (freeAt d))) → SameBlock d d₁ b
   unfolding growDir
   grow-bytes a =
-      by-cond (λ (e : Disk). SameBytes d e b) (opensBlock d k) _ d
+      by-cond (λ (e : Disk). SameBlock d e b) (opensBlock d k) _ d
       (λ o. give-bytes b z (firsts blocks 1 (freeAt d)) d 0 zeros (k / blockSlots) (a o)) (λ o i. refl)
 
   -- a free block that an add does not take keeps its bytes
-  pub add-bytes : needed d k (length content) ≤ count b (freeAt d) → SameBytes d (addAt d k x content) b
+  pub add-bytes : needed d k (length content) ≤ count b (freeAt d) → SameBlock d (addAt d k x content) b
   unfolding addAt
   add-bytes h o =
       let apart = left-beside d first k x content b l h in
@@ -123,7 +123,7 @@ module _ (d : Disk) (first : recordAt d 0 ≡ System) (f b : ℕ) (l : b < block
   unfolding freeAt bears
   not-borne = ap (bears f) (free-only (recordAt d b) t)
 
-  freed-bytes : (n : ℕ) → n ≤ blocks → SameBytes d (freeBlocks n d f) b
+  freed-bytes : (n : ℕ) → n ≤ blocks → SameBlock d (freeBlocks n d f) b
   unfolding freeBlocks freeBlock
   freed-bytes zero h = λ i. refl
   freed-bytes (suc n) h =
@@ -136,7 +136,7 @@ module _ (d : Disk) (first : recordAt d 0 ≡ System) (f b : ℕ) (l : b < block
       (λ u. refl)
 
   -- a free block keeps its bytes
-  pub remove-bytes : SameBytes d (removeAt d f) b
+  pub remove-bytes : SameBlock d (removeAt d f) b
   unfolding removeAt
   remove-bytes o =
       let z : b ≢ 0 = free-not-zero d first b t in

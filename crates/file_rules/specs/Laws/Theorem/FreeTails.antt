@@ -43,7 +43,7 @@ use Rattle.file_rules.specs.Laws.InnerModel.Inner.{Inner, render, innerF
 use Rattle.file_rules.specs.Laws.InnerModel.Invariant.{Inv}
 use Rattle.file_rules.specs.Laws.OnImages.Run.{format-inv, img-disk, end-inv}
 use Rattle.file_rules.specs.Laws.OnAnyDisk.Kept.{free-same, word-written, grow-system, add-held, add-left, remove-beside, remove-freed}
-use Rattle.file_rules.specs.Laws.OnAnyDisk.FreeBytes.{SameBytes, add-bytes, remove-bytes, remove-zeros}
+use Rattle.file_rules.specs.Laws.OnAnyDisk.FreeBytes.{SameBlock, add-bytes, remove-bytes, remove-zeros}
 use Rattle.file_rules.specs.Laws.OnAnyDisk.Taken.{HasRecord, taken-is, add-gives-record}
 use Rattle.file_rules.specs.Laws.Theorem.History.{end-is}
 use Rattle.file_rules.specs.Map.{sequences, numberOf, encode, recordByte, recordAt, isSystem, isOther, bears, freeAt, freeCount}
@@ -102,18 +102,18 @@ module _ (image : List ℕ) (b : ℕ) (l : b < blocks) where
   remove-kept = by-remove image (λ (e : Disk). SameRecord d e b) (λ e s i k. s i k ∙ sym (record-image e i k)) (λ i k. refl)
 
   -- of a block's bytes
-  bytes-image : (e : Disk) → SameBytes d e b → SameBytes d (diskOf (imageOf e)) b
+  bytes-image : (e : Disk) → SameBlock d e b → SameBlock d (diskOf (imageOf e)) b
   bytes-image e s o =
       by-order o blockBytes
       (λ h. s o ∙ sym (inside-disk e b o l h)) (λ h. outside-disk image b o h ∙ sym (outside-disk (imageOf e) b o h))
 
   add-stays : (name : List ℕ) (date : ℕ) (content : List ℕ)
-      → (recordAt d 0 ≡ System → (x : Entry) → SameBytes d (addAt d (vacantSlot d) x content) b) → SameBytes d (diskOf (add image name date content .image)) b
-  add-stays = by-add image (λ (e : Disk). SameBytes d e b) bytes-image (λ o. refl)
+      → (recordAt d 0 ≡ System → (x : Entry) → SameBlock d (addAt d (vacantSlot d) x content) b) → SameBlock d (diskOf (add image name date content .image)) b
+  add-stays = by-add image (λ (e : Disk). SameBlock d e b) bytes-image (λ o. refl)
 
-  remove-stays : (name : List ℕ) → (recordAt d 0 ≡ System → SameBytes d (removeAt d (findName d name)) b)
-      → SameBytes d (diskOf (remove image name .image)) b
-  remove-stays = by-remove image (λ (e : Disk). SameBytes d e b) bytes-image (λ o. refl)
+  remove-stays : (name : List ℕ) → (recordAt d 0 ≡ System → SameBlock d (removeAt d (findName d name)) b)
+      → SameBlock d (diskOf (remove image name .image)) b
+  remove-stays = by-remove image (λ (e : Disk). SameBlock d e b) bytes-image (λ o. refl)
 
 -- as many free blocks as it takes, said as add asks for them
 as-needed : (image content : List ℕ) (b : ℕ) → blocksTaken (diskOf image) (vacantSlot (diskOf image)) (length content) ≤ count b (freeAt (diskOf image))
@@ -132,19 +132,19 @@ module _ (image : List ℕ) (act : Disk → DiskChanged) (P : List ℕ → Type 
   abbrev call : ImageChanged
   call = onSound image (imageKept image) (λ (x : Disk). imaged (act x))
 
-  abbrev Done : ImageChanged → Type 0
-  Done w = w .answer ≡ done → P (w .image)
+  abbrev IfDone : ImageChanged → Type 0
+  IfDone w = w .answer ≡ done → P (w .image)
 
-  done-by : (long : length image ≡ imageBytes) (v : Option Reply) → diskRefusal (diskOf image) ≡ v → Done call
+  done-by : (long : length image ≡ imageBytes) (v : Option Reply) → diskRefusal (diskOf image) ≡ v → IfDone call
   unfolding imaged imageKept
-  done-by long none e = subst Done (sym (sound-passed image _ _ long e)) (sound e)
-  done-by long (some r) e = subst Done (sym (sound-refused image _ _ long r e)) (not-done r (subst NotDone e (refused-number (diskOf image))))
+  done-by long none e = subst IfDone (sym (sound-passed image _ _ long e)) (sound e)
+  done-by long (some r) e = subst IfDone (sym (sound-refused image _ _ long r e)) (not-done r (subst NotDone e (refused-number (diskOf image))))
 
-  when-done : Done call
+  when-done : IfDone call
   unfolding imageKept
   when-done =
       by-equal (length image) imageBytes (λ long. done-by long (diskRefusal (diskOf image)) refl)
-      (λ short. subst Done (sym (sound-length image _ _ short)) (not-done wrongLength (λ z. omega arith)))
+      (λ short. subst IfDone (sym (sound-length image _ _ short)) (not-done wrongLength (λ z. omega arith)))
 
 -- a record with the bytes of the free one is FD FF FF
 written-free : (e : Disk) (b : ℕ) → HasRecord e b Free → IsWrittenFree e b
