@@ -66,10 +66,10 @@ onSound image refuse act = cond (imageRight image) (unless (diskRefusal (diskOf 
 -- ---- format
 
 -- the records of a fresh disk: block 0 is the system's, block 1 is file 0 with sequence 0 (§8.4)
-unfoldable pub freshOwner : ℕ → Record
-freshOwner zero = System
-freshOwner (suc zero) = File 0 0
-freshOwner (suc (suc b)) = Free
+unfoldable pub freshOwner : FormatArguments → ℕ → Record
+freshOwner args zero = System
+freshOwner args (suc zero) = File 0 0
+freshOwner args (suc (suc b)) = Free
 
 -- the header of a fresh disk: update count 0, free word 3 x (480 - 2), a directory of one slot (§8.4)
 abbrev pub freshHeader : FormatArguments → ℕ → ℕ
@@ -77,7 +77,7 @@ freshHeader args = diskHeaderByte args 0 (freeSectors (blocks - 2)) 1
 
 -- a fresh disk: this header, these records, and zero in all other bytes (§8.4)
 unfoldable pub formatDisk : FormatArguments → Disk
-formatDisk args = diskWith (freshHeader args) freshOwner (λ (r : Record) (o : ℕ). 0)
+formatDisk args = diskWith (freshHeader args) (freshOwner args) (λ (r : Record) (o : ℕ). 0)
 
 -- the call format: 1, 12 where the disk's name is too long, or the image of a fresh disk (§8.4 §7.1 §7.12 §6.15)
 unfoldable pub format : List ℕ → FormatArguments → ImageChanged

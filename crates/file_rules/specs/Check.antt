@@ -117,6 +117,10 @@ refusal10 d = refusalAt 10 (faultBelow slotCount (fileFault d))
 unfoldable pub refusal11 : Disk → Option Reply
 refusal11 d = cond (freeRight d) none (some (refusal 11))
 
+-- the first refusal of 8 and 9, if there is one: with these the calls and the first track begin alike (§7.18 §8.5 §8.14)
+unfoldable pub startRefusal : Disk → Option Reply
+startRefusal d = orElse (refusal8 d) (refusal9 d)
+
 -- the first refusal of 8 to 11, if there is one; nothing else of a disk is judged (§7.18 §7.23)
 unfoldable pub diskRefusal : Disk → Option Reply
-diskRefusal d = orElse (refusal8 d) (orElse (refusal9 d) (orElse (refusal10 d) (refusal11 d)))
+diskRefusal d = orElse (startRefusal d) (orElse (refusal10 d) (refusal11 d))

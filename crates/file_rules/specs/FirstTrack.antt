@@ -16,7 +16,7 @@ use Rattle.file_rules.specs.declared.FirstTrack.{FirstTrack}
 use Rattle.file_rules.specs.Sizes.{firstTrackBytes}
 use Rattle.file_rules.specs.Disk.{Disk, diskOf}
 use Rattle.file_rules.specs.Map.{freeAt}
-use Rattle.file_rules.specs.Check.{refusal8, refusal9, refusal11}
+use Rattle.file_rules.specs.Check.{startRefusal, refusal11}
 use Rattle.file_rules.specs.Calls.{unless, wrongLength}
 
 -- a refusal has no counts (§8.14)
@@ -31,5 +31,5 @@ counted d = record { reply = done; free = at16 (d 0) 20; good = at16 (d 0) 22; h
 unfoldable pub firstTrackResult : List ℕ → FirstTrack
 firstTrackResult track =
     cond (eqb (length track) firstTrackBytes)
-    (unless (orElse (refusal8 (diskOf track)) (orElse (refusal9 (diskOf track)) (refusal11 (diskOf track)))) refusedTrack (counted (diskOf track)))
+    (unless (orElse (startRefusal (diskOf track)) (refusal11 (diskOf track))) refusedTrack (counted (diskOf track)))
     (refusedTrack wrongLength)

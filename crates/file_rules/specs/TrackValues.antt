@@ -12,14 +12,14 @@ use Rattle.sector_rules.specs.Replies.{replyWith}
 use Rattle.file_rules.specs.declared.FirstTrack.{FirstTrack}
 use Rattle.file_rules.specs.Arguments.{FormatArguments}
 use Rattle.file_rules.specs.Calls.{unless, format}
-use Rattle.file_rules.specs.Check.{refusal8, refusal9, refusal11}
+use Rattle.file_rules.specs.Check.{startRefusal, refusal11}
 use Rattle.file_rules.specs.Disk.{Disk, diskOf}
 use Rattle.file_rules.specs.FirstTrack.{refusedTrack, counted, firstTrackResult}
 use Rattle.file_rules.specs.Sizes.{titleMost}
 
 -- what first track gives of a disk by 8, 9 and 11 (§8.14)
 unfoldable pub judgedFirst : Disk → FirstTrack
-judgedFirst d = unless (orElse (refusal8 d) (orElse (refusal9 d) (refusal11 d))) refusedTrack (counted d)
+judgedFirst d = unless (orElse (startRefusal d) (refusal11 d)) refusedTrack (counted d)
 
 -- ---- what is promised
 

@@ -4,11 +4,11 @@ ghost use mathlib.Core.Bool.{_&&_};
 ghost use Prim.Native.Nat.{_+_, _≤_, _<_};
 ghost use lib.Dec.{ltb};
 ghost use lib.ListN.{length};
-ghost use Rattle.sector_rules.specs.Geometry.{imageBytes};
+ghost use Rattle.sector_rules.specs.Geometry.{sectorBytes, imageBytes};
 ghost use Rattle.file_rules.specs.Sizes.{slotCount};
 ghost use Rattle.file_rules.specs.Disk.{diskOf};
 ghost use Rattle.file_rules.specs.Directory.{held, dirEnd};
-ghost use Rattle.file_rules.specs.Check.{entryRight, fileRight, fileFault, refusal10, refusal11, diskRefusal};
+ghost use Rattle.file_rules.specs.Check.{entryRight, fileRight, fileFault, startRefusal, refusal10, refusal11, diskRefusal};
 ghost use Rattle.file_rules.specs.Calls as Calls;
 ghost use Rattle.files.specs.Laws.Judging.Verdict.{verdictOf};
 ghost use Rattle.files.specs.Laws.Loading.Loaded.{MapLoaded};
@@ -130,7 +130,7 @@ fn file_fault(image: &[u8], map: &MapNumbers) -> usize
 }
 
 // Refusal 9: the map (§7.9). Of a loaded map this is `refusal9`.
-pub fn judge_map(map: &MapNumbers) -> Verdict
+fn judge_map(map: &MapNumbers) -> Verdict
     ensures { λ r. ⌜ r ≡ verdictOf (mapRefusal (now (map .entry))) ⌝ }
 {
     let b = map_fault(map);
@@ -163,16 +163,23 @@ pub fn judge_free(image: &[u8], map: &MapNumbers) -> Verdict
     Verdict::Refused(refused(11, 0))
 }
 
+// The judgements 8 and 9, in order (§7.18): with these the calls and the first track begin alike (§8.5).
+pub fn judge_start(image: &[u8], map: &MapNumbers) -> Verdict
+    requires { ⌜ (sectorBytes ≤ length (now image)) × MapLoaded (now map) (diskOf (now image)) ⌝ }
+    ensures { λ r. ⌜ r ≡ verdictOf (startRefusal (diskOf (now (image .entry)))) ⌝ }
+{
+    match judge_header(image) {
+        Verdict::Refused(r) => Verdict::Refused(r),
+        Verdict::Passed => judge_map(map),
+    }
+}
+
 // The judgements 8 to 11, in order (§7.18); nothing else of a disk is judged (§7.23).
 pub fn judge(image: &[u8], map: &MapNumbers) -> Verdict
     requires { ⌜ (length (now image) ≡ imageBytes) × MapLoaded (now map) (diskOf (now image)) ⌝ }
     ensures { λ r. ⌜ r ≡ verdictOf (diskRefusal (diskOf (now (image .entry)))) ⌝ }
 {
-    match judge_header(image) {
-        Verdict::Refused(r) => return Verdict::Refused(r),
-        Verdict::Passed => {}
-    }
-    match judge_map(map) {
+    match judge_start(image, map) {
         Verdict::Refused(r) => return Verdict::Refused(r),
         Verdict::Passed => {}
     }

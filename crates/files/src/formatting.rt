@@ -8,8 +8,8 @@ ghost use Rattle.file_rules.specs.Sizes.{mapStart, titleMost};
 ghost use Rattle.file_rules.specs.Disk.{diskOf, imageOf};
 ghost use Rattle.file_rules.specs.Arguments.{argumentsOf};
 ghost use Rattle.file_rules.specs.Calls as Calls;
-ghost use Rattle.file_rules.specs.Calls.{freshOwner, freshHeader, formatDisk};
-ghost use Rattle.files.specs.Laws.Calling.Fresh.{titled, sized, started, withRecords};
+ghost use Rattle.file_rules.specs.Calls.{freshHeader, formatDisk};
+ghost use Rattle.files.specs.Laws.Calling.Fresh.{titled, sized, started, withRecords, freshRecord};
 use crate::sizes::MAP_START;
 use crate::sizes::SLOT_BYTES;
 use crate::sizes::TITLE_MOST;
@@ -81,7 +81,7 @@ fn header_bytes(name: &[u8], number: u16) -> [u8; MAP_START]
 
 // The record of block b of a fresh disk: block 1 is the directory's first (§8.4).
 fn fresh_record(b: usize) -> Record
-    ensures { λ r. ⌜ r ≡ freshOwner b ⌝ }
+    ensures { λ r. ⌜ r ≡ freshRecord b ⌝ }
 {
     if b == 0 {
         return Record::System;
@@ -95,7 +95,7 @@ fn fresh_record(b: usize) -> Record
 // The map of a fresh disk (§8.4): `setRecord` of `freshOwner` for each block.
 fn write_map(image: &mut [u8])
     requires { ⌜ length (now image) ≡ imageBytes ⌝ }
-    ensures { λ _. ⌜ now (image .exit) ≡ imageOf (withRecords (diskOf (now (image .entry))) freshOwner blocks) ⌝ }
+    ensures { λ _. ⌜ now (image .exit) ≡ imageOf (withRecords (diskOf (now (image .entry))) freshRecord blocks) ⌝ }
 {
     for b in 0..Geometry::BLOCKS {
         set_record(image, b, fresh_record(b));

@@ -5,15 +5,14 @@ ghost use lib.ListN.{length};
 ghost use Rattle.laws.specs.Options.{orElse};
 ghost use Rattle.sector_rules.specs.Geometry.{sectorBytes};
 ghost use Rattle.file_rules.specs.Disk.{diskOf};
-ghost use Rattle.file_rules.specs.Check.{refusal8, refusal9, refusal11};
+ghost use Rattle.file_rules.specs.Check.{startRefusal, refusal11};
 ghost use Rattle.file_rules.specs.FirstTrack as Tracks;
 ghost use Rattle.files.specs.Laws.Judging.Verdict.{verdictOf};
 ghost use Rattle.files.specs.Laws.Loading.Loaded.{MapLoaded};
 use crate::Verdict;
 use crate::checking::judge_free;
-use crate::checking::judge_map;
+use crate::checking::judge_start;
 use crate::header::head_word;
-use crate::header::judge_header;
 use crate::map::count_free;
 use crate::map::load_map;
 use crate::sizes::MapNumbers;
@@ -53,13 +52,9 @@ fn counted_track(track: &[u8], map: &MapNumbers) -> FirstTrack
 // The judgements 8, 9 and 11, in order (§8.14).
 fn judge_track(track: &[u8], map: &MapNumbers) -> Verdict
     requires { ⌜ (sectorBytes ≤ length (now track)) × MapLoaded (now map) (diskOf (now track)) ⌝ }
-    ensures { λ r. ⌜ r ≡ verdictOf (orElse (refusal8 (diskOf (now (track .entry)))) (orElse (refusal9 (diskOf (now (track .entry)))) (refusal11 (diskOf (now (track .entry)))))) ⌝ }
+    ensures { λ r. ⌜ r ≡ verdictOf (orElse (startRefusal (diskOf (now (track .entry)))) (refusal11 (diskOf (now (track .entry))))) ⌝ }
 {
-    match judge_header(track) {
-        Verdict::Refused(r) => return Verdict::Refused(r),
-        Verdict::Passed => {}
-    }
-    match judge_map(map) {
+    match judge_start(track, map) {
         Verdict::Refused(r) => Verdict::Refused(r),
         Verdict::Passed => judge_free(track, map),
     }

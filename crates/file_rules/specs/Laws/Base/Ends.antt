@@ -26,7 +26,7 @@ use Rattle.file_rules.specs.declared.Record.the-variants.{Free, System, 
 use Rattle.file_rules.specs.Check.{partsRight, fileRight, fileFault, refusal8, refusal9, refusal10, refusal11, diskRefusal}
 use Rattle.file_rules.specs.Directory.{dirBytes, dirEnd}
 use Rattle.file_rules.specs.Disk.{Disk}
-use Rattle.file_rules.specs.Laws.Base.Sound.{or-none-left, or-none-right}
+use Rattle.file_rules.specs.Laws.Base.Sound.{sound-ten}
 use Rattle.file_rules.specs.Map.{recordAt, isPart, within}
 use Rattle.file_rules.specs.Sizes.{slotCount, blocksOf}
 
@@ -102,9 +102,5 @@ dir-right d h = not-false (fileRight d 0) (lowest-all (λ (f : ℕ). not (fileRi
 
 -- a sound disk's directory has no more slots than fit all blocks
 pub end-within : (d : Disk) → diskRefusal d ≡ none → dirEnd d ≤ slotCount
-unfolding diskRefusal dirEnd quotientUp
-end-within d e =
-    let a : orElse (refusal9 d) (orElse (refusal10 d) (refusal11 d)) ≡ none = or-none-right (refusal8 d) _ e in
-    let b : orElse (refusal10 d) (refusal11 d) ≡ none = or-none-right (refusal9 d) _ a in
-    let c : refusal10 d ≡ none = or-none-left (refusal10 d) (refusal11 d) b in
-    omega (arith, parts-most d 0 (blocksOf (dirBytes d)) (dir-right d (files-right d c)))
+unfolding dirEnd quotientUp
+end-within d e = omega (arith, parts-most d 0 (blocksOf (dirBytes d)) (dir-right d (files-right d (sound-ten d e))))

@@ -21,11 +21,11 @@ use Rattle.sector_rules.specs.Replies.{replyWith, done, refusal}
 use Rattle.file_rules.specs.declared.FirstTrack.{FirstTrack}
 use Rattle.file_rules.specs.Calls.{unless, check}
 use Rattle.file_rules.specs.Check.{diskHeaderFault, recordFault, mapFault, fileFault, freeRight}
-use Rattle.file_rules.specs.Check.{refusal8, refusal9, refusal10, refusal11, diskRefusal}
+use Rattle.file_rules.specs.Check.{refusal8, refusal9, startRefusal, refusal10, refusal11, diskRefusal}
 use Rattle.file_rules.specs.Disk.{Disk, diskOf}
 use Rattle.file_rules.specs.FirstTrack.{refusedTrack, counted, firstTrackResult}
 use Rattle.file_rules.specs.Laws.Base.OnSound.{sound-length, sound-refused, sound-passed}
-use Rattle.file_rules.specs.Laws.Base.Sound.{or-none-right, NotDone, not-done-or, not-done-at, not-done-eleven, refused-number}
+use Rattle.file_rules.specs.Laws.Base.Sound.{or-none-right, sound-eleven, NotDone, not-done-or, not-done-eleven, not-done-start, refused-number}
 use Rattle.file_rules.specs.Laws.Base.Track.{track-is}
 use Rattle.file_rules.specs.Map.{recordAt}
 use Rattle.file_rules.specs.Sizes.{slotCount}
@@ -91,24 +91,36 @@ module _ (image : List ℕ) where
   check-refused : (r : Reply) → r .number ≢ 0 → r .number ≢ 1 → check image ≡ r → diskRefusal d ≡ some r
   check-refused r n m e = refused-by (check-long (λ z. m (ap (λ (x : Reply). x .number) (sym e) ∙ z))) r n e (diskRefusal d) refl
 
-  after-eight : (r : Reply) → r .number ≢ 8 → diskRefusal d ≡ some r → orElse (refusal9 d) (orElse (refusal10 d) (refusal11 d)) ≡ some r
-  unfolding diskRefusal refusal8
-  after-eight r n e = or-second (refusal8 d) _ r e (other-number 8 (refusal8 d) r (at-number 8 (diskHeaderFault d)) n)
+  nine-number : Numbered 9 (refusal9 d)
+  unfolding refusal9
+  nine-number = at-number 9 (faultBelow blocks (mapFault d))
 
-  ten-not : (r : Reply) → r .number ≢ 10 → refusal10 d ≢ some r
+  ten-number : Numbered 10 (refusal10 d)
   unfolding refusal10
-  ten-not r n = other-number 10 (refusal10 d) r (at-number 10 (faultBelow slotCount (fileFault d))) n
+  ten-number = at-number 10 (faultBelow slotCount (fileFault d))
 
   eleven-number : Numbered 11 (refusal11 d)
   unfolding refusal11
   eleven-number = by-test (freeRight d)
       (λ t. subst (Numbered 11) (sym (cond-true none (some (refusal 11)) t)) tt) (λ t. subst (Numbered 11) (sym (cond-false none (some (refusal 11)) t)) refl)
 
+  -- a refusal of neither 10 nor 11 is one that a judgement begins with
+  start-given : (r : Reply) → r .number ≢ 10 → r .number ≢ 11 → diskRefusal d ≡ some r → startRefusal d ≡ some r
+  unfolding diskRefusal
+  start-given r n m e =
+      or-first (startRefusal d) _ r e
+      (λ z. other-number 11 (refusal11 d) r eleven-number m (or-second (refusal10 d) _ r z (other-number 10 (refusal10 d) r ten-number n)))
+
+  -- of these, one that is not 8 is 9's
+  nine-of-start : (r : Reply) → r .number ≢ 8 → startRefusal d ≡ some r → refusal9 d ≡ some r
+  unfolding startRefusal refusal8
+  nine-of-start r n e = or-second (refusal8 d) (refusal9 d) r e (other-number 8 (refusal8 d) r (at-number 8 (diskHeaderFault d)) n)
+
   nine-given : (b : ℕ) → check image ≡ replyWith 9 b 0 0 → refusal9 d ≡ some (replyWith 9 b 0 0)
   nine-given b e =
       let r : Reply = replyWith 9 b 0 0 in
-      or-first (refusal9 d) _ r (after-eight r (λ z. omega arith) (check-refused r (λ z. omega arith) (λ z. omega arith) e))
-      (λ z. other-number 11 (refusal11 d) r eleven-number (λ y. omega arith) (or-second (refusal10 d) _ r z (ten-not r (λ y. omega arith))))
+      nine-of-start r (λ z. omega arith)
+      (start-given r (λ z. omega arith) (λ z. omega arith) (check-refused r (λ z. omega arith) (λ z. omega arith) e))
 
   -- 9 names a block whose record is wrong
   pub nine-wrong : (b : ℕ) → check image ≡ replyWith 9 b 0 0 → recordFault b (recordAt d b) ≡ true
@@ -125,7 +137,7 @@ module _ (image : List ℕ) where
 
   -- where the header is right and the record of block 0 is wrong, 9 names it
   pub nine-at-zero : length image ≡ imageBytes → refusal8 d ≡ none → recordFault 0 (recordAt d 0) ≡ true → check image ≡ replyWith 9 0 0 0
-  unfolding check diskRefusal orElse refusal9 faultBelow mapFault
+  unfolding check diskRefusal startRefusal orElse refusal9 faultBelow mapFault
   nine-at-zero long right wrong =
       let at : mapFault d ≡ 0 = omega (arith, lowest-here (λ (j : ℕ). recordFault j (recordAt d j)) blocks 0 wrong) in
       let nine : refusal9 d ≡ some (replyWith 9 0 0 0) = ap (λ (m : ℕ). refusalAt 9 (faultBelow blocks m)) at in
@@ -138,36 +150,37 @@ module _ (image : List ℕ) where
 
   -- the free word of a sound disk is right
   pub word-right : diskRefusal d ≡ none → freeRight d ≡ true
+  word-right e = passed-eleven (sound-eleven d e)
+
+  -- a refusal of neither 8, 9 nor 10 is 11's
+  eleven-given : (r : Reply) → r .number ≢ 8 → r .number ≢ 9 → r .number ≢ 10 → diskRefusal d ≡ some r → refusal11 d ≡ some r
   unfolding diskRefusal
-  word-right e =
-      let after8 : orElse (refusal9 d) (orElse (refusal10 d) (refusal11 d)) ≡ none = or-none-right (refusal8 d) _ e in
-      passed-eleven (or-none-right (refusal10 d) _ (or-none-right (refusal9 d) _ after8))
+  eleven-given r n m k e =
+      let rest : orElse (refusal10 d) (refusal11 d) ≡ some r =
+      or-second (startRefusal d) _ r e (λ z. other-number 9 (refusal9 d) r nine-number m (nine-of-start r n z)) in
+      or-second (refusal10 d) _ r rest (other-number 10 (refusal10 d) r ten-number k)
 
   -- where 11 is given, it is wrong
   pub eleven-wrong : check image ≡ refusal 11 → freeRight d ≡ false
-  unfolding refusal11 refusal9
+  unfolding refusal11
   eleven-wrong e =
       let r : Reply = refusal 11 in
-      let after8 : orElse (refusal9 d) (orElse (refusal10 d) (refusal11 d)) ≡ some r =
-      after-eight r (λ z. omega arith) (check-refused r (λ z. omega arith) (λ z. omega arith) e) in
-      let after9 : orElse (refusal10 d) (refusal11 d) ≡ some r =
-      or-second (refusal9 d) _ r after8 (other-number 9 (refusal9 d) r (at-number 9 (faultBelow blocks (mapFault d))) (λ z. omega arith)) in
-      let given : refusal11 d ≡ some r = or-second (refusal10 d) _ r after9 (ten-not r (λ z. omega arith)) in
+      let given : refusal11 d ≡ some r =
+      eleven-given r (λ z. omega arith) (λ z. omega arith) (λ z. omega arith) (check-refused r (λ z. omega arith) (λ z. omega arith) e) in
       by-test (freeRight d) (λ t. none-some r (sym (cond-true none (some (refusal 11)) t) ∙ given)) (λ t. t)
 
   -- ---- the first track
 
-  track-by : (v : Option Reply) → orElse (refusal8 d) (orElse (refusal9 d) (refusal11 d)) ≡ v → judgedFirst d .reply ≡ done
+  track-by : (v : Option Reply) → orElse (startRefusal d) (refusal11 d) ≡ v → judgedFirst d .reply ≡ done
       → (judgedFirst d ≡ counted d) × (freeRight d ≡ true)
-  unfolding judgedFirst unless refusal8 refusal9
+  unfolding judgedFirst unless
   track-by none e p =
       let counts : judgedFirst d ≡ counted d = rw e in
-      (counts, passed-eleven (or-none-right (refusal9 d) _ (or-none-right (refusal8 d) _ e)))
+      (counts, passed-eleven (or-none-right (startRefusal d) (refusal11 d) e))
   track-by (some r) e p =
       let refused : judgedFirst d ≡ refusedTrack r = rw e in
       let number : NotDone (some r) =
-      subst NotDone e (not-done-or _ _ (not-done-at 8 (λ z. omega arith) (diskHeaderFault d))
-      (not-done-or _ _ (not-done-at 9 (λ z. omega arith) (faultBelow blocks (mapFault d))) (not-done-eleven d))) in
+      subst NotDone e (not-done-or _ _ (not-done-start d) (not-done-eleven d)) in
       absurd (number (ap (λ (x : FirstTrack). x .reply .number) (sym refused) ∙ ap (λ (x : Reply). x .number) p))
 
   -- an accepted first track gives the counts, and its free word is right
@@ -176,5 +189,5 @@ module _ (image : List ℕ) where
   track-accepted long e =
       let is : firstTrackResult (take 9216 image) ≡ judgedFirst d = track-is image long in
       let w : (judgedFirst d ≡ counted d) × (freeRight d ≡ true) =
-      track-by (orElse (refusal8 d) (orElse (refusal9 d) (refusal11 d))) refl (ap (λ (x : FirstTrack). x .reply) (sym is) ∙ e) in
+      track-by (orElse (startRefusal d) (refusal11 d)) refl (ap (λ (x : FirstTrack). x .reply) (sym is) ∙ e) in
       (is ∙ w .0, w .1)

@@ -22,7 +22,8 @@ use Rattle.file_rules.specs.declared.Record.{Record}
 use Rattle.file_rules.specs.declared.Record.the-variants.{Free, System, File, Other}
 use Rattle.file_rules.specs.Map.{recordAt, isSystem, isPart, partBlock}
 use Rattle.file_rules.specs.Sizes.{slotCount}
-use Rattle.file_rules.specs.Check.{diskHeaderFault, recordFault, mapFault, fileFault, freeRight, refusal8, refusal9, refusal10, refusal11, diskRefusal}
+use Rattle.file_rules.specs.Check.{diskHeaderFault, recordFault, mapFault, fileFault, freeRight, refusal8, refusal9, refusal10, refusal11}
+use Rattle.file_rules.specs.Check.{startRefusal, diskRefusal}
 
 -- ---- a disk without a refusal
 
@@ -56,12 +57,34 @@ first-passed d e =
     let z : _≡_ {A = ℕ} 0 1 = cc in absurd (omega arith))
     (λ h. system-only (recordAt d 0) (lowest-all (λ (j : ℕ). recordFault j (recordAt d j)) blocks h 0 (omega arith)))
 
--- so is that of a sound disk
-pub first-system : (d : Disk) → diskRefusal d ≡ none → recordAt d 0 ≡ System
-unfolding diskRefusal
-first-system d e =
-    let a : orElse (refusal9 d) (orElse (refusal10 d) (refusal11 d)) ≡ none = or-none-right (refusal8 d) _ e in
-    first-passed d (or-none-left (refusal9 d) (orElse (refusal10 d) (refusal11 d)) a)
+-- ---- each judgement that was passed
+
+-- a disk on which neither 8 nor 9 is found passes 9
+pub start-nine : (d : Disk) → startRefusal d ≡ none → refusal9 d ≡ none
+unfolding startRefusal
+start-nine d e = or-none-right (refusal8 d) (refusal9 d) e
+
+module _ (d : Disk) (sound : diskRefusal d ≡ none) where
+  -- a sound disk passes what a judgement begins with
+  pub sound-start : startRefusal d ≡ none
+  unfolding diskRefusal
+  sound-start = or-none-left (startRefusal d) (orElse (refusal10 d) (refusal11 d)) sound
+
+  after-start : orElse (refusal10 d) (refusal11 d) ≡ none
+  unfolding diskRefusal
+  after-start = or-none-right (startRefusal d) (orElse (refusal10 d) (refusal11 d)) sound
+
+  -- and 10
+  pub sound-ten : refusal10 d ≡ none
+  sound-ten = or-none-left (refusal10 d) (refusal11 d) after-start
+
+  -- and 11
+  pub sound-eleven : refusal11 d ≡ none
+  sound-eleven = or-none-right (refusal10 d) (refusal11 d) after-start
+
+  -- record 0 of a sound disk is the system's
+  pub first-system : recordAt d 0 ≡ System
+  first-system = first-passed d (start-nine d sound-start)
 
 -- a block whose record is not a part of a file is not the block of that part
 pub part-not : (d : Disk) (f s b : ℕ) → b < blocks → isPart f s (recordAt d b) ≡ false → partBlock d f s ≢ b
@@ -99,11 +122,15 @@ pub not-done-eleven : (d : Disk) → NotDone (refusal11 d)
 unfolding refusal11
 not-done-eleven d = by-cond NotDone (freeRight d) _ _ (λ t. tt) (λ t e. omega arith)
 
+-- and what a judgement begins with
+pub not-done-start : (d : Disk) → NotDone (startRefusal d)
+unfolding startRefusal refusal8 refusal9
+not-done-start d =
+    not-done-or _ _ (not-done-at 8 (λ e. omega arith) (diskHeaderFault d)) (not-done-at 9 (λ e. omega arith) (faultBelow blocks (mapFault d)))
+
 -- what 8 to 11 refuse gets another number than 0
 pub refused-number : (d : Disk) → NotDone (diskRefusal d)
-unfolding diskRefusal refusal8 refusal9 refusal10
+unfolding diskRefusal refusal10
 refused-number d =
-    not-done-or _ _ (not-done-at 8 (λ e. omega arith) (diskHeaderFault d))
-    (not-done-or _ _ (not-done-at 9 (λ e. omega arith) (faultBelow blocks (mapFault d)))
-    (not-done-or _ _ (not-done-at 10 (λ e. omega arith) (faultBelow slotCount (fileFault d)))
-    (not-done-eleven d)))
+    not-done-or _ _ (not-done-start d)
+    (not-done-or _ _ (not-done-at 10 (λ e. omega arith) (faultBelow slotCount (fileFault d))) (not-done-eleven d))

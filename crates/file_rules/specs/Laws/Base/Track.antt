@@ -11,7 +11,7 @@ use lib.Seq.{getD-take}
 use Rattle.laws.specs.Laws.Cases.{by-order}
 use Rattle.laws.specs.Laws.Tests.{eq-true, cond-true}
 use Rattle.sector_rules.specs.Geometry.{blocks, imageBytes}
-use Rattle.file_rules.specs.Check.{lengthRight, dimensionsFault, diskHeaderFault, mapFault, freeRight, refusal8, refusal9, refusal11}
+use Rattle.file_rules.specs.Check.{lengthRight, dimensionsFault, diskHeaderFault, mapFault, freeRight, refusal8, refusal9, startRefusal, refusal11}
 use Rattle.file_rules.specs.Directory.{dirBytes}
 use Rattle.file_rules.specs.Disk.{Disk, imagePlace, diskOf}
 use Rattle.file_rules.specs.FirstTrack.{counted, firstTrackResult}
@@ -22,7 +22,7 @@ use Rattle.file_rules.specs.TrackValues.{judgedFirst}
 
 -- only block 0 is judged
 block-alone : (d : Disk) → judgedFirst d ≡ judgedFirst (λ (b : ℕ). d 0)
-unfolding judgedFirst refusal8 refusal9 refusal11 diskHeaderFault dimensionsFault lengthRight dirBytes mapFault recordAt numberAt freeRight freeCount freeAt
+unfolding judgedFirst startRefusal refusal8 refusal9 refusal11 diskHeaderFault dimensionsFault lengthRight dirBytes mapFault recordAt numberAt freeRight freeCount freeAt
     counted
 block-alone d = refl
 

@@ -328,7 +328,7 @@ agree (c ∷ cs) m o v r =
 
 -- after a format lists and owners agree
 pub fresh-listed : (args : FormatArguments)
-    → BlocksListed (modelFormat args .slots) (modelFormat args .dir) freshOwner (partsOf (innerFormat args))
+    → BlocksListed (modelFormat args .slots) (modelFormat args .dir) (freshOwner args) (partsOf (innerFormat args))
 unfolding modelFormat innerFormat partsOf dirBlocks heldBlocks emptySlots listedBlocks takenBy freshOwner
 fresh-listed args = record { sizes = sizes; each = each }
   where
@@ -338,12 +338,12 @@ fresh-listed args = record { sizes = sizes; each = each }
 
     each : (k s : ℕ) → s < partsOf (innerFormat args) k
         → (getD (listedBlocks (modelFormat args .slots) (modelFormat args .dir) k) s 0 < blocks)
-        × (freshOwner (getD (listedBlocks (modelFormat args .slots) (modelFormat args .dir) k) s 0) ≡ File k s)
+        × (freshOwner args (getD (listedBlocks (modelFormat args .slots) (modelFormat args .dir) k) s 0) ≡ File k s)
     each zero zero h = (omega arith, refl)
     each zero (suc s) h = absurd (omega arith)
     each (suc k) s h = absurd (omega arith)
 
 -- after a format the inner model is the model with the owners of a fresh disk
-pub start-is : (args : FormatArguments) → innerFormat args ≡ withOwner (modelFormat args) freshOwner
+pub start-is : (args : FormatArguments) → innerFormat args ≡ withOwner (modelFormat args) (freshOwner args)
 unfolding innerFormat modelFormat withOwner emptySlots fileOf
 start-is args = refl

@@ -66,7 +66,7 @@ emptySlots k = none
 
 -- the inner model after a format: no file, and block 1 is the directory's
 unfoldable pub innerFormat : FormatArguments → Inner
-innerFormat args = record { arguments = args; updates = 0; peak = 0; slots = emptySlots; owner = freshOwner }
+innerFormat args = record { arguments = args; updates = 0; peak = 0; slots = emptySlots; owner = freshOwner args }
 
 -- the slot of the file with that name, or the first past the peak
 unfoldable pub innerFind : Inner → List ℕ → ℕ

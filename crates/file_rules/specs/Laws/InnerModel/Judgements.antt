@@ -24,7 +24,7 @@ use Rattle.file_rules.specs.declared.Record.{Record}
 use Rattle.file_rules.specs.declared.Record.the-variants.{Free, System, File, Other}
 use Rattle.file_rules.specs.Check.{diskHeaderFault}
 use Rattle.file_rules.specs.Check.{recordFault, mapFault, partsRight, noRecordBears, newName}
-use Rattle.file_rules.specs.Check.{entryRight, fileRight, fileFault, freeRight, refusal8, refusal9, refusal10, refusal11, diskRefusal}
+use Rattle.file_rules.specs.Check.{entryRight, fileRight, fileFault, freeRight, refusal8, refusal9, startRefusal, refusal10, refusal11, diskRefusal}
 use Rattle.file_rules.specs.Directory.{nameEq, slotEntry, slotName, held, dirBytes, dirEnd}
 use Rattle.file_rules.specs.Disk.{Disk}
 use Rattle.file_rules.specs.Laws.InnerModel.Inner.{Inner, header, render}
@@ -172,5 +172,5 @@ module _ (m : Inner) (v : Inv m) where
 
   -- the check of the inner model's disk finds no fault
   pub disk-refusal-none : diskRefusal d ≡ none
-  unfolding diskRefusal orElse
+  unfolding diskRefusal startRefusal orElse
   disk-refusal-none = rw (eight-right, nine-right, ten-right, eleven-right)

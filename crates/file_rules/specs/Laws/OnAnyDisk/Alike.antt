@@ -22,14 +22,14 @@ use Rattle.file_rules.specs.declared.Record.the-variants.{System}
 use Rattle.file_rules.specs.declared.Entry.{Entry}
 use Rattle.file_rules.specs.Calls.{opensBlock, needed, entries, dataOf}
 use Rattle.file_rules.specs.Check.{recordFault, mapFault, partsRight, noRecordBears, newName, entryRight, fileRight, fileFault, freeRight}
-use Rattle.file_rules.specs.Check.{refusal8, refusal9, refusal10, refusal11, diskRefusal}
+use Rattle.file_rules.specs.Check.{refusal8, refusal9, startRefusal, refusal10, refusal11, diskRefusal}
 use Rattle.file_rules.specs.Directory.{nameOf, entryOf, slotByte, slotEntry, slotName, held, dirBytes, dirEnd, findName, vacantSlot}
 use Rattle.file_rules.specs.Disk.{Disk}
 use Rattle.file_rules.specs.FirstTrack.{counted}
 use Rattle.file_rules.specs.FreeTails.{SameOrBothFree, sameBytes, bothFree, SameButTails}
 use Rattle.file_rules.specs.Laws.Base.Header.{judged-alike}
 use Rattle.file_rules.specs.Laws.Base.Records.{begins-free}
-use Rattle.file_rules.specs.Laws.Base.Sound.{first-passed, part-not-first}
+use Rattle.file_rules.specs.Laws.Base.Sound.{first-passed, start-nine, part-not-first}
 use Rattle.file_rules.specs.Laws.OnAnyDisk.Kept.{record-same}
 use Rattle.file_rules.specs.Map.{recordAt, isFree, bears, isPart, within, freeAt, freeCount, partBlock, fileByte}
 use Rattle.file_rules.specs.Sizes.{blockBytes, slotBytes, blockSlots, slotCount, mapStart, recordBytes, blocksOf, freeSectors}
@@ -91,17 +91,22 @@ module _ (d e : Disk) (a : Alike d e) where
   unfolding dirEnd
   end-alike = ap (λ (n : ℕ). n / slotBytes) dir-alike
 
-  -- 8, 9 and 11 judge alike
-  pub eight-alike : refusal8 d ≡ refusal8 e
+  -- 8 judges alike
+  eight-alike : refusal8 d ≡ refusal8 e
   unfolding refusal8
   eight-alike = ap (refusalAt 8) (judged-alike d e (λ o h. a .sameBut .header o (omega arith)) (λ o g h. a .sameBut .header o (omega arith)))
 
   -- 9
-  pub nine-alike : refusal9 d ≡ refusal9 e
+  nine-alike : refusal9 d ≡ refusal9 e
   unfolding refusal9 mapFault
   nine-alike = ap (λ (r : ℕ → Record). refusalAt 9 (faultBelow blocks (lowest (λ (b : ℕ). recordFault b (r b)) blocks))) records-alike
 
-  -- 11
+  -- what a judgement begins with is alike
+  pub start-alike : startRefusal d ≡ startRefusal e
+  unfolding startRefusal
+  start-alike = ap₂ orElse eight-alike nine-alike
+
+  -- 11 judges alike
   pub eleven-alike : refusal11 d ≡ refusal11 e
   unfolding refusal11 freeRight
   eleven-alike =
@@ -193,16 +198,16 @@ module _ (d e : Disk) (a : Alike d e) where
     unfolding dataOf
     data-alike k = rw (files-alike, entry-alike)
 
-  after-nine : (v : Option Reply) → refusal9 e ≡ v
-      → orElse (refusal9 d) (orElse (refusal10 d) (refusal11 d)) ≡ orElse (refusal9 e) (orElse (refusal10 e) (refusal11 e))
+  by-start : (v : Option Reply) → startRefusal e ≡ v
+      → orElse (startRefusal d) (orElse (refusal10 d) (refusal11 d)) ≡ orElse (startRefusal e) (orElse (refusal10 e) (refusal11 e))
   unfolding orElse
-  after-nine none q = rw (nine-alike, ten-alike (first-passed d (nine-alike ∙ q)), eleven-alike)
-  after-nine (some r) q = rw (nine-alike, q)
+  by-start none q = rw (start-alike, ten-alike (first-passed d (start-nine d (start-alike ∙ q))), eleven-alike)
+  by-start (some r) q = rw (start-alike, q)
 
   -- 8 to 11 judge alike
   pub refusal-alike : diskRefusal d ≡ diskRefusal e
   unfolding diskRefusal
-  refusal-alike = ap₂ orElse eight-alike (after-nine (refusal9 e) refl)
+  refusal-alike = by-start (startRefusal e) refl
 
   -- an add needs the same blocks
   pub opens-alike : (k : ℕ) → opensBlock d k ≡ opensBlock e k

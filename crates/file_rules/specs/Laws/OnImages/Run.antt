@@ -64,31 +64,31 @@ blank (File (suc f) s) o = by-test (ltb o blockBytes) (λ t. cond-true _ _ t) (�
 pub format-is : (args : FormatArguments) → formatDisk args ≡ render (innerFormat args)
 unfolding formatDisk render innerFormat header freeWord fileBlocks dirBlocks sum heldBlocks emptySlots
 format-is args =
-    with-only (freshHeader args) freshOwner (content emptySlots emptySlots) (formatDisk args)
-    (with-same (formatDisk args) (freshHeader args) freshOwner (λ (r : Record) (o : ℕ). 0)
-    (with-is (freshHeader args) freshOwner (λ (r : Record) (o : ℕ). 0))
-    (freshHeader args) freshOwner (content emptySlots emptySlots)
-    (λ o l. refl) (λ b l. refl) (λ b o i j l. sym (blank (freshOwner b) o)))
+    with-only (freshHeader args) (freshOwner args) (content emptySlots emptySlots) (formatDisk args)
+    (with-same (formatDisk args) (freshHeader args) (freshOwner args) (λ (r : Record) (o : ℕ). 0)
+    (with-is (freshHeader args) (freshOwner args) (λ (r : Record) (o : ℕ). 0))
+    (freshHeader args) (freshOwner args) (content emptySlots emptySlots)
+    (λ o l. refl) (λ b l. refl) (λ b o i j l. sym (blank (freshOwner args b) o)))
 
-fresh-valid : (b : ℕ) → Valid (freshOwner b)
+fresh-valid : (args : FormatArguments) (b : ℕ) → Valid (freshOwner args b)
 unfolding freshOwner
-fresh-valid zero = tt
-fresh-valid (suc zero) = (omega arith, omega arith)
-fresh-valid (suc (suc b)) = tt
+fresh-valid args zero = tt
+fresh-valid args (suc zero) = (omega arith, omega arith)
+fresh-valid args (suc (suc b)) = tt
 
-fresh-system : (b : ℕ) → freshOwner b ≡ System → b ≡ 0
+fresh-system : (args : FormatArguments) (b : ℕ) → freshOwner args b ≡ System → b ≡ 0
 unfolding freshOwner isSystem
-fresh-system zero e = refl
-fresh-system (suc zero) e = true≢false (isSystem System) refl (ap isSystem (sym e))
-fresh-system (suc (suc b)) e = true≢false (isSystem System) refl (ap isSystem (sym e))
+fresh-system args zero e = refl
+fresh-system args (suc zero) e = true≢false (isSystem System) refl (ap isSystem (sym e))
+fresh-system args (suc (suc b)) e = true≢false (isSystem System) refl (ap isSystem (sym e))
 
-fresh-file : (b f s : ℕ) → freshOwner b ≡ File f s → (b ≡ 1) × (f ≡ 0) × (s ≡ 0)
+fresh-file : (args : FormatArguments) (b f s : ℕ) → freshOwner args b ≡ File f s → (b ≡ 1) × (f ≡ 0) × (s ≡ 0)
 unfolding freshOwner isSystem isFree
-fresh-file zero f s e = true≢false (isSystem System) refl (ap isSystem e)
-fresh-file (suc zero) f s e = (refl, cc, cc)
-fresh-file (suc (suc b)) f s e = true≢false (isFree Free) refl (ap isFree e)
+fresh-file args zero f s e = true≢false (isSystem System) refl (ap isSystem e)
+fresh-file args (suc zero) f s e = (refl, cc, cc)
+fresh-file args (suc (suc b)) f s e = true≢false (isFree Free) refl (ap isFree e)
 
-fresh-part : (args : FormatArguments) (f s : ℕ) → s < partsOf (innerFormat args) f → (b : ℕ) × (b < blocks) × (freshOwner b ≡ File f s)
+fresh-part : (args : FormatArguments) (f s : ℕ) → s < partsOf (innerFormat args) f → (b : ℕ) × (b < blocks) × (freshOwner args b ≡ File f s)
 unfolding freshOwner partsOf innerFormat dirBlocks heldBlocks emptySlots
 fresh-part args zero s h = (1, omega arith, ap (File 0) (omega arith))
 fresh-part args (suc f) s h = absurd (omega arith)
@@ -100,14 +100,14 @@ format-inv args =
     record {
       own =
           record {
-            own-valid = λ b l. fresh-valid b;
+            own-valid = λ b l. fresh-valid args b;
             own-zero = refl;
-            own-system = λ b l e. fresh-system b e;
+            own-system = λ b l e. fresh-system args b e;
             own-below = λ b f s l e.
-                let w : (b ≡ 1) × (f ≡ 0) × (s ≡ 0) = fresh-file b f s e in
+                let w : (b ≡ 1) × (f ≡ 0) × (s ≡ 0) = fresh-file args b f s e in
                 subst (λ (g : ℕ). s < partsOf (innerFormat args) g) (sym (w .1)) (omega (arith, w .2));
             own-part = λ f s h. fresh-part args f s h;
-            own-once = λ b b′ f s l l′ e e′. fresh-file b f s e .0 ∙ sym (fresh-file b′ f s e′ .0);
+            own-once = λ b b′ f s l l′ e e′. fresh-file args b f s e .0 ∙ sym (fresh-file args b′ f s e′ .0);
           };
       slot-zero = refl;
       slot-past = λ k h. refl;

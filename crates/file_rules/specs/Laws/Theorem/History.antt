@@ -150,13 +150,13 @@ module _ (args : FormatArguments) (calls : List Call) where
 
   with-model : (os ≡ modelOuts b₀ calls) × (render m ≡ modelDisk (modelEnd b₀ calls)) × (m .peak ≡ modelEnd b₀ calls .peak)
   with-model =
-      let e : m₀ ≡ withOwner b₀ freshOwner = start-is args in
-      let w : Inv (withOwner b₀ freshOwner) = subst Inv e (format-inv args) in
-      let l : BlocksListed (b₀ .slots) (b₀ .dir) freshOwner (partsOf (withOwner b₀ freshOwner)) =
-      subst (λ (z : Inner). BlocksListed (b₀ .slots) (b₀ .dir) freshOwner (partsOf z)) e (fresh-listed args) in
-      let h : (innerOuts (withOwner b₀ freshOwner) calls ≡ modelOuts b₀ calls)
-      × (render (innerEnd (withOwner b₀ freshOwner) calls) ≡ modelDisk (modelEnd b₀ calls))
-      × (innerEnd (withOwner b₀ freshOwner) calls .peak ≡ modelEnd b₀ calls .peak) = agree calls b₀ freshOwner w l in (
+      let e : m₀ ≡ withOwner b₀ (freshOwner args) = start-is args in
+      let w : Inv (withOwner b₀ (freshOwner args)) = subst Inv e (format-inv args) in
+      let l : BlocksListed (b₀ .slots) (b₀ .dir) (freshOwner args) (partsOf (withOwner b₀ (freshOwner args))) =
+      subst (λ (z : Inner). BlocksListed (b₀ .slots) (b₀ .dir) (freshOwner args) (partsOf z)) e (fresh-listed args) in
+      let h : (innerOuts (withOwner b₀ (freshOwner args)) calls ≡ modelOuts b₀ calls)
+      × (render (innerEnd (withOwner b₀ (freshOwner args)) calls) ≡ modelDisk (modelEnd b₀ calls))
+      × (innerEnd (withOwner b₀ (freshOwner args)) calls .peak ≡ modelEnd b₀ calls .peak) = agree calls b₀ (freshOwner args) w l in (
         ap (λ (z : Inner). innerOuts z calls) e ∙ h .0,
         ap (λ (z : Inner). render (innerEnd z calls)) e ∙ h .1,
         ap (λ (z : Inner). innerEnd z calls .peak) e ∙ h .2,

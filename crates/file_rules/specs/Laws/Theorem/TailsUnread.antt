@@ -22,7 +22,7 @@ use Rattle.file_rules.specs.Laws.Base.Disk.{length-image, inside-disk, o
 use Rattle.file_rules.specs.Laws.Base.OnSound.{sound-refused, sound-passed}
 use Rattle.file_rules.specs.Laws.Base.Sound.{first-system}
 use Rattle.file_rules.specs.Laws.Base.Track.{track-is}
-use Rattle.file_rules.specs.Laws.OnAnyDisk.Alike.{Alike, end-alike, find-alike, entries-alike, data-alike, eight-alike, nine-alike, eleven-alike}
+use Rattle.file_rules.specs.Laws.OnAnyDisk.Alike.{Alike, end-alike, find-alike, entries-alike, data-alike, start-alike, eleven-alike}
 use Rattle.file_rules.specs.Laws.OnAnyDisk.Alike.{counted-alike, refusal-alike}
 use Rattle.file_rules.specs.Laws.OnAnyDisk.Unread.{like-kept, add-like, remove-like}
 use Rattle.file_rules.specs.Map.{recordAt}
@@ -97,7 +97,7 @@ module _ (x y : List ℕ) (p : ImagesSameButTails x y) where
 
   judged-first : judgedFirst d ≡ judgedFirst e
   unfolding judgedFirst
-  judged-first = rw (eight-alike d e alike, nine-alike d e alike, eleven-alike d e alike, counted-alike d e alike)
+  judged-first = rw (start-alike d e alike, eleven-alike d e alike, counted-alike d e alike)
 
   track-same : firstTrackResult (take 9216 x) ≡ firstTrackResult (take 9216 y)
   track-same = track-is x (p .0) ∙ judged-first ∙ sym (track-is y (p .1))

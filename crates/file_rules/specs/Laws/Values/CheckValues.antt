@@ -26,7 +26,7 @@ use Rattle.file_rules.specs.Arguments.{FormatArguments}
 use Rattle.file_rules.specs.Calls.{ImageChanged, unless, imageRight, onSound, freshOwner, freshHeader, formatDisk, check}
 use Rattle.file_rules.specs.Check.{diskHeaderFault, recordFault, mapFault}
 use Rattle.file_rules.specs.Check.{partsRight, noRecordBears, newName, entryRight, fileRight, fileFault}
-use Rattle.file_rules.specs.Check.{refusal9, refusal10, refusal11, diskRefusal}
+use Rattle.file_rules.specs.Check.{refusal9, startRefusal, refusal10, refusal11, diskRefusal}
 use Rattle.file_rules.specs.Directory.{lowered, nameEq, entryOf, entryByte, nameOf, entryFor, slotByte, slotEntry, slotName, held, dirBytes, dirEnd}
 use Rattle.file_rules.specs.Disk.{Disk, imagePlace, imageOf, setByte}
 use Rattle.file_rules.specs.Laws.Base.Disk.{first-place, length-image, disk-image, image-set}
@@ -92,7 +92,7 @@ replyAfterHeader d = unless (orElse (refusal9 d) (orElse (refusal10 d) (refusal1
 
 -- where the header is right, they decide
 past-header : (d : Disk) → diskHeaderFault d ≡ Sound → judgedReply d ≡ replyAfterHeader d
-unfolding judgedReply replyAfterHeader diskRefusal orElse
+unfolding judgedReply replyAfterHeader diskRefusal startRefusal orElse
 past-header d e = rw (header-none d e) refl
 
 -- a disk has the header of a fresh one
@@ -102,7 +102,7 @@ HasFreshHeader args d = (o : ℕ) → o < mapStart → d 0 o ≡ freshHeader arg
 -- a fresh disk has its header
 pub fresh-header : (args : FormatArguments) → HasFreshHeader args (formatDisk args)
 unfolding formatDisk
-fresh-header args = with-is (freshHeader args) freshOwner (λ (r : Record) (o : ℕ). 0) .head
+fresh-header args = with-is (freshHeader args) (freshOwner args) (λ (r : Record) (o : ℕ). 0) .head
 
 -- a disk with letters and fields of a fresh header passes 8
 pub fresh-passes : (args : FormatArguments) (d : Disk) → ((o : ℕ) → o < 4 → d 0 o ≡ freshHeader args o)

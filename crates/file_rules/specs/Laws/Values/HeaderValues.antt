@@ -25,7 +25,7 @@ use Rattle.sector_rules.specs.Replies.{done, refusal}
 use Rattle.file_rules.specs.Arguments.{FormatArguments, argumentsOf}
 use Rattle.file_rules.specs.Calls.{ImageChanged, imageKept, unless, imageRight, onSound, freshOwner, formatDisk, format, check}
 use Rattle.file_rules.specs.Check.{diskSignature, lengthRight, dimensionsFault, diskHeaderFault}
-use Rattle.file_rules.specs.Check.{mapFault, fileFault, freeRight, refusal8, refusal9, refusal10, refusal11, diskRefusal}
+use Rattle.file_rules.specs.Check.{mapFault, fileFault, freeRight, refusal8, refusal9, startRefusal, refusal10, refusal11, diskRefusal}
 use Rattle.file_rules.specs.Directory.{dirBytes}
 use Rattle.file_rules.specs.Disk.{Disk, blockOf, offsetOf, diskOf, imageOf}
 use Rattle.file_rules.specs.Laws.Base.Disk.{first-byte, first-block, first-offset}
@@ -41,7 +41,7 @@ faultPlace (At o) = o
 faultPlace Sound = 96
 
 by-fault : (f g h : Fault) (b : Bool)
-    → placeNamed 8 96 (unless (orElse (refusalAt 8 f) (orElse (refusalAt 9 g) (orElse (refusalAt 10 h) (cond b none (some (refusal 11)))))) (λ (r : Reply). r)
+    → placeNamed 8 96 (unless (orElse (orElse (refusalAt 8 f) (refusalAt 9 g)) (orElse (refusalAt 10 h) (cond b none (some (refusal 11))))) (λ (r : Reply). r)
     done) ≡ faultPlace f
 unfolding placeNamed unless orElse
 by-fault (At o) g h b = refl
@@ -51,7 +51,7 @@ by-fault Sound Sound Sound true = refl
 by-fault Sound Sound Sound false = refl
 
 named-is : (image : List ℕ) → length image ≡ imageBytes → placeNamed 8 96 (check image) ≡ faultPlace (diskHeaderFault (diskOf image))
-unfolding check onSound imageRight diskRefusal refusal8 refusal9 refusal10 refusal11
+unfolding check onSound imageRight diskRefusal startRefusal refusal8 refusal9 refusal10 refusal11
 named-is image long =
     ap (placeNamed 8 96) (cond-true _ _ (eq-true long))
     ∙ by-fault (diskHeaderFault (diskOf image)) (faultBelow blocks (mapFault (diskOf image))) (faultBelow slotCount (fileFault (diskOf image)))

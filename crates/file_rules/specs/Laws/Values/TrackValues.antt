@@ -21,7 +21,7 @@ use Rattle.file_rules.specs.declared.FirstTrack.{FirstTrack}
 use Rattle.file_rules.specs.Arguments.{FormatArguments}
 use Rattle.file_rules.specs.Calls.{ImageChanged, unless, freshOwner, formatDisk, format}
 use Rattle.file_rules.specs.Check.{diskHeaderFault, recordFault, mapFault, freeRight}
-use Rattle.file_rules.specs.Check.{refusal9, refusal11}
+use Rattle.file_rules.specs.Check.{refusal9, startRefusal, refusal11}
 use Rattle.file_rules.specs.Laws.Values.CheckValues.{NothingOutside, fresh-nothing-outside, set-nothing-outside, set-is}
 use Rattle.file_rules.specs.Laws.Values.CheckValues.{HasFreshHeader, fresh-header, fresh-passes}
 use Rattle.file_rules.specs.Disk.{Disk, imageOf, setByte}
@@ -49,7 +49,7 @@ trackAfterHeader d = unless (orElse (refusal9 d) (refusal11 d)) refusedTrack (co
 
 -- where the header is right, they decide
 past-header : (d : Disk) → diskHeaderFault d ≡ Sound → judgedFirst d ≡ trackAfterHeader d
-unfolding judgedFirst trackAfterHeader orElse
+unfolding judgedFirst trackAfterHeader startRefusal orElse
 past-header d e = rw (header-none d e) refl
 
 -- ---- a formatted disk

@@ -8,14 +8,13 @@ use lib.ListN.{length}
 use borrow.Author.Needs.{needs}
 use Rattle.sector_rules.specs.Geometry.{blocks, imageBytes}
 use Rattle.file_rules.specs.Disk.{diskOf, imageOf}
-use Rattle.file_rules.specs.Calls.{freshOwner}
 use Rattle.files.specs.Laws.Writing.Steps.{FitsRecord}
-use Rattle.files.specs.Laws.Calling.Fresh.{withRecords, records-none, records-more, fresh-fits}
+use Rattle.files.specs.Laws.Calling.Fresh.{withRecords, freshRecord, records-none, records-more, fresh-fits}
 use Rattle.files.proofs.formatting.write_map.Statement.{statement}
 use Rattle.files.proofs.formatting.write_map.Tie as tie
 
 abbrev Inv-loop : tie.InvT-loop
-Inv-loop image₀ b₀ image b = (b ≤ blocks) × (length image ≡ imageBytes) × (image ≡ imageOf (withRecords (diskOf image₀) freshOwner b))
+Inv-loop image₀ b₀ image b = (b ≤ blocks) × (length image ≡ imageBytes) × (image ≡ imageOf (withRecords (diskOf image₀) freshRecord b))
 
 abbrev μ-loop : tie.MeasureT-loop
 μ-loop image₀ b₀ image b = blocks - b

@@ -229,26 +229,39 @@ module _ (d : Disk) (owner : ℕ → Record) where
       patch-below (withRecords d owner n 0) (mapStart + recordBytes * n) recordBytes (encode (owner n)) (mapStart + recordBytes * b + i) (omega arith)
       ∙ records-at n b i (omega arith) k)
 
+-- the record that is written for block b
+unfoldable pub freshRecord : ℕ → Record
+freshRecord zero = System
+freshRecord (suc zero) = File 0 0
+freshRecord (suc (suc b)) = Free
+
+-- it is that of the fresh disk
+fresh-is : (args : FormatArguments) (b : ℕ) → freshRecord b ≡ freshOwner args b
+unfolding freshRecord freshOwner
+fresh-is args zero = refl
+fresh-is args (suc zero) = refl
+fresh-is args (suc (suc b)) = refl
+
 -- record 0 of a fresh disk is the system's
-pub fresh-zero : (b : ℕ) → b ≡ 0 → System ≡ freshOwner b
-unfolding freshOwner
-fresh-zero b e = ap freshOwner (sym e)
+pub fresh-zero : (b : ℕ) → b ≡ 0 → System ≡ freshRecord b
+unfolding freshRecord
+fresh-zero b e = ap freshRecord (sym e)
 
 -- record 1 of a fresh disk is the directory's first
-pub fresh-one : (b : ℕ) → b ≡ 1 → File 0 0 ≡ freshOwner b
-unfolding freshOwner
-fresh-one b e = ap freshOwner (sym e)
+pub fresh-one : (b : ℕ) → b ≡ 1 → File 0 0 ≡ freshRecord b
+unfolding freshRecord
+fresh-one b e = ap freshRecord (sym e)
 
 -- all other records of a fresh disk are free
-pub fresh-free : (b : ℕ) → b ≢ 0 → b ≢ 1 → Free ≡ freshOwner b
-unfolding freshOwner
+pub fresh-free : (b : ℕ) → b ≢ 0 → b ≢ 1 → Free ≡ freshRecord b
+unfolding freshRecord
 fresh-free zero p q = absurd (p refl)
 fresh-free (suc zero) p q = absurd (q refl)
 fresh-free (suc (suc b)) p q = refl
 
 -- the records of a fresh disk fit their three bytes
-pub fresh-fits : (b : ℕ) → FitsRecord (freshOwner b)
-unfolding freshOwner
+pub fresh-fits : (b : ℕ) → FitsRecord (freshRecord b)
+unfolding freshRecord
 fresh-fits zero = tt
 fresh-fits (suc zero) = (omega arith, omega arith)
 fresh-fits (suc (suc b)) = tt
@@ -269,27 +282,28 @@ module _ (args : FormatArguments) where
   abbrev headed : Disk
   headed = patched nothing 0 0 mapStart H
 
-  fresh-inside : EqualInside (withRecords headed freshOwner blocks) (formatDisk args)
+  fresh-inside : EqualInside (withRecords headed freshRecord blocks) (formatDisk args)
   unfolding formatDisk
   fresh-inside b o hb ho =
-      let whole = with-is H freshOwner (λ (r : Record) (o : ℕ). 0) in
+      let whole = with-is H (freshOwner args) (λ (r : Record) (o : ℕ). 0) in
       by-equal b 0
-      (λ z. subst (λ (x : ℕ). withRecords headed freshOwner blocks x o ≡ diskWith H freshOwner (λ (r : Record) (o : ℕ). 0) x o) (sym z)
+      (λ z. subst (λ (x : ℕ). withRecords headed freshRecord blocks x o ≡ diskWith H (freshOwner args) (λ (r : Record) (o : ℕ). 0) x o) (sym z)
       (by-order o mapStart
       (λ h.
       let k : o - 0 ≡ o = omega arith in
-      records-head headed freshOwner blocks o h
+      records-head headed freshRecord blocks o h
       ∙ upd₂-same nothing 0 (patch (nothing 0) 0 mapStart H) 0 o refl
       ∙ patch-in (nothing 0) 0 mapStart H o (omega arith) (omega arith)
       ∙ ap H k
       ∙ sym (whole .head o h))
       (λ h.
       let e : mapStart + recordBytes * ((o - mapStart) / 3) + (o - mapStart) % 3 ≡ o = omega arith in
-      subst (λ (x : ℕ). withRecords headed freshOwner blocks 0 x ≡ diskWith H freshOwner (λ (r : Record) (o : ℕ). 0) 0 x) e
-      (records-at headed freshOwner blocks ((o - mapStart) / 3) ((o - mapStart) % 3) (omega arith) (omega arith)
+      subst (λ (x : ℕ). withRecords headed freshRecord blocks 0 x ≡ diskWith H (freshOwner args) (λ (r : Record) (o : ℕ). 0) 0 x) e
+      (records-at headed freshRecord blocks ((o - mapStart) / 3) ((o - mapStart) % 3) (omega arith) (omega arith)
+      ∙ ap (λ (r : Record). encode r ((o - mapStart) % 3)) (fresh-is args ((o - mapStart) / 3))
       ∙ sym (whole .map ((o - mapStart) / 3) ((o - mapStart) % 3) (omega arith) (omega arith))))))
       (λ z.
-      records-other headed freshOwner blocks b o z
+      records-other headed freshRecord blocks b o z
       ∙ upd₂-other nothing 0 (patch (nothing 0) 0 mapStart H) b o z
       ∙ sym (whole .block b o (omega arith) hb ho))
 
@@ -297,15 +311,15 @@ module _ (args : FormatArguments) where
   pub fresh-written : (l₀ l₁ l₂ l₃ h : List ℕ) → length l₀ ≡ imageBytes → l₁ ≡ overlay l₀ 0 imageBytes (λ (i : ℕ). 0)
       → h ≡ tab H mapStart
       → l₂ ≡ imageOf (patched (diskOf l₁) 0 0 (length h) (λ (i : ℕ). getD h i 0))
-      → l₃ ≡ imageOf (withRecords (diskOf l₂) freshOwner blocks)
+      → l₃ ≡ imageOf (withRecords (diskOf l₂) freshRecord blocks)
       → l₃ ≡ imageOf (formatDisk args)
   fresh-written l₀ l₁ l₂ l₃ h e e₁ eh e₂ e₃ =
       let q₁ : l₁ ≡ imageOf nothing = e₁ ∙ overlay-all l₀ imageBytes (λ (i : ℕ). 0) e ∙ zero-image in
       let q₂ : l₂ ≡ imageOf headed =
       inside-step (λ (d : Disk). patched d 0 0 mapStart H) (λ d x n. inside-patched d x n 0 0 mapStart H) l₁ l₂ nothing q₁
       (e₂ ∙ patched-row (diskOf l₁) 0 0 h mapStart H eh) in
-      inside-step (λ (d : Disk). withRecords d freshOwner blocks) (λ d x n. inside-records d x n freshOwner blocks) l₂ l₃ headed q₂ e₃
-      ∙ image-cong (withRecords headed freshOwner blocks) (formatDisk args) fresh-inside
+      inside-step (λ (d : Disk). withRecords d freshRecord blocks) (λ d x n. inside-records d x n freshRecord blocks) l₂ l₃ headed q₂ e₃
+      ∙ image-cong (withRecords headed freshRecord blocks) (formatDisk args) fresh-inside
 
 -- ---- the call
 

@@ -14,7 +14,6 @@ use Rattle.laws.specs.Lists.{tab}
 use Rattle.laws.specs.Changes.{patch, put}
 use Rattle.laws.specs.Below.{all, count, lowest}
 use Rattle.laws.specs.Numbers.{quotientUp}
-use Rattle.laws.specs.Options.{orElse}
 use Rattle.laws.specs.Laws.Cases.{by-order, by-test}
 use Rattle.laws.specs.Laws.Tests.{lt-true, lt-false, le-false, true-le, eq-false, true-eq, true≢false, cond-true, cond-false, and-true}
 use Rattle.laws.specs.Laws.Tests.{and-false-left, and-left, and-right}
@@ -27,12 +26,12 @@ use Rattle.sector_rules.specs.Geometry.{blocks, imageBytes}
 use Rattle.sector_rules.specs.Replies.{replyWith, done, refusal}
 use Rattle.sector_rules.specs.declared.Reply.{Reply}
 use Rattle.file_rules.specs.Calls.{DiskChanged, ImageChanged, diskKept, imageKept, opensBlock, needed, addAt, addSound, removeAt, removeSound, imaged}
-use Rattle.file_rules.specs.Check.{partsRight, entryRight, fileRight, fileFault, newName, refusal8, refusal9, refusal10, refusal11, diskRefusal}
+use Rattle.file_rules.specs.Check.{partsRight, entryRight, fileRight, fileFault, newName, diskRefusal}
 use Rattle.file_rules.specs.Directory.{nameRight, entryFor, slotEntry, held, dirEnd, findName, vacantSlot}
 use Rattle.file_rules.specs.Disk.{Disk, diskOf, imageOf}
 use Rattle.file_rules.specs.Laws.Base.Disk.{image-disk}
 use Rattle.files.specs.Laws.Loading.Records.{decode-none}
-use Rattle.file_rules.specs.Laws.Base.Sound.{or-none-left, or-none-right}
+use Rattle.file_rules.specs.Laws.Base.Sound.{sound-ten}
 use Rattle.file_rules.specs.Laws.Base.Ends.{files-right, end-within}
 use Rattle.files.specs.Laws.Writing.Steps.{overlay-tab, put-row}
 use Rattle.file_rules.specs.Map.{decode, recordAt, isPart, within, freeAt, freeCount, fileBound, sequences}
@@ -43,12 +42,9 @@ use Rattle.file_rules.specs.Written.{blocksFor}
 
 -- on a sound disk every file number is sound
 pub file-sound : (d : Disk) → diskRefusal d ≡ none → (f : ℕ) → f < slotCount → fileRight d f ≡ true
-unfolding diskRefusal fileFault
+unfolding fileFault
 file-sound d passed f h =
-    let after8 : orElse (refusal9 d) (orElse (refusal10 d) (refusal11 d)) ≡ none = or-none-right (refusal8 d) _ passed in
-    let after9 : orElse (refusal10 d) (refusal11 d) ≡ none = or-none-right (refusal9 d) _ after8 in
-    let passed10 : refusal10 d ≡ none = or-none-left (refusal10 d) (refusal11 d) after9 in
-    not-false (fileRight d f) (lowest-all (λ (k : ℕ). not (fileRight d k)) slotCount (files-right d passed10) f h)
+    not-false (fileRight d f) (lowest-all (λ (k : ℕ). not (fileRight d k)) slotCount (files-right d (sound-ten d passed)) f h)
 
 -- a sequence of a sound file has one block
 parts-one : (d : Disk) (f n : ℕ) → partsRight d f n ≡ true → (s : ℕ) → s < n → count blocks (λ (b : ℕ). isPart f s (recordAt d b)) ≡ 1

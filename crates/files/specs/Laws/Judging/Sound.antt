@@ -30,13 +30,13 @@ use Rattle.file_rules.specs.Disk.{Disk, diskOf}
 use Rattle.file_rules.specs.Map.{freeCount, recordAt, bears, isPart, within}
 use Rattle.file_rules.specs.Directory.{nameEq, nameOf, entryOf, slotEntry, slotName, held, dirBytes, dirEnd}
 use Rattle.file_rules.specs.Check.{recordFault, partsRight, noRecordBears, newName, entryRight, fileRight, fileFault}
-use Rattle.file_rules.specs.Check.{freeRight, refusal8, refusal9, refusal10, refusal11, diskRefusal}
+use Rattle.file_rules.specs.Check.{freeRight, refusal9, refusal10, refusal11}
 use Rattle.files.specs.Laws.Loading.Loaded.{loadedRecord, MapLoaded, record-loaded, fault-loaded}
 use Rattle.files.specs.Laws.Loading.Chains.{Chained, noRecordBearsIn}
 use Rattle.files.specs.Laws.Loading.Slots.{Located}
 use Rattle.files.specs.Laws.Loading.Parts.{partsIn}
 use Rattle.files.specs.Laws.Loading.Loops.{all-cong}
-use Rattle.files.specs.Laws.Judging.Verdict.{verdictOf, verdict-or-some, verdict-or-none}
+use Rattle.files.specs.Laws.Judging.Verdict.{verdictOf}
 
 -- ---- a file's parts
 
@@ -210,28 +210,3 @@ module _ (d : Disk) (w c : ℕ) (ew : w ≡ at16 (d 0) 20) (ec : c ≡ freeCount
   pub refused-free : w ≢ freeSectors c → Refused (refusal 11) ≡ verdictOf (refusal11 d)
   unfolding refusal11 verdictOf
   refused-free h = ap verdictOf (sym (cond-false none (some (refusal 11)) (sym free-is ∙ eq-false h)))
-
--- ---- the judgements in order
-
-module _ (d : Disk) where
-  -- refusal 8 is the disk's refusal
-  pub disk-refusal-header : (r : Reply) → Refused r ≡ verdictOf (refusal8 d) → Refused r ≡ verdictOf (diskRefusal d)
-  unfolding diskRefusal
-  disk-refusal-header r e = verdict-or-some (refusal8 d) _ r e
-
-  module _ (a : Passed ≡ verdictOf (refusal8 d)) where
-    -- after 8 passed, refusal 9 is the disk's
-    pub disk-refusal-map : (r : Reply) → Refused r ≡ verdictOf (refusal9 d) → Refused r ≡ verdictOf (diskRefusal d)
-    unfolding diskRefusal
-    disk-refusal-map r e = verdict-or-some (refusal9 d) _ r e ∙ sym (verdict-or-none (refusal8 d) _ a)
-
-    module _ (b : Passed ≡ verdictOf (refusal9 d)) where
-      -- after 8 and 9 passed, refusal 10 is the disk's
-      pub disk-refusal-files : (r : Reply) → Refused r ≡ verdictOf (refusal10 d) → Refused r ≡ verdictOf (diskRefusal d)
-      unfolding diskRefusal
-      disk-refusal-files r e = verdict-or-some (refusal10 d) _ r e ∙ sym (verdict-or-none (refusal9 d) _ b) ∙ sym (verdict-or-none (refusal8 d) _ a)
-
-      -- after 8 to 10 passed, the verdict of 11 is the disk's
-      pub disk-refusal-free : (v : Verdict) → v ≡ verdictOf (refusal11 d) → Passed ≡ verdictOf (refusal10 d) → v ≡ verdictOf (diskRefusal d)
-      unfolding diskRefusal
-      disk-refusal-free v e c = e ∙ sym (verdict-or-none (refusal10 d) _ c) ∙ sym (verdict-or-none (refusal9 d) _ b) ∙ sym (verdict-or-none (refusal8 d) _ a)

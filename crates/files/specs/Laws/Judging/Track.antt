@@ -18,15 +18,14 @@ use Rattle.sector_rules.specs.declared.Reply.{Reply}
 use Rattle.sector_rules.specs.Replies.{done}
 use Rattle.sector_rules.specs.Geometry.{blocks}
 use Rattle.file_rules.specs.declared.FirstTrack.{FirstTrack}
-use Rattle.files.specs.declared.Verdict.{Verdict}
 use Rattle.files.specs.declared.Verdict.the-variants.{Passed, Refused}
 use Rattle.file_rules.specs.Sizes.{firstTrackBytes}
 use Rattle.file_rules.specs.Disk.{Disk, diskOf}
 use Rattle.file_rules.specs.Map.{freeAt, freeCount}
-use Rattle.file_rules.specs.Check.{refusal8, refusal9, refusal11}
+use Rattle.file_rules.specs.Check.{startRefusal, refusal11}
 use Rattle.file_rules.specs.Calls.{unless, wrongLength}
 use Rattle.file_rules.specs.FirstTrack.{refusedTrack, counted, firstTrackResult}
-use Rattle.files.specs.Laws.Judging.Verdict.{verdictOf, verdict-or-some, verdict-or-none, verdict-some, verdict-none}
+use Rattle.files.specs.Laws.Judging.Verdict.{verdictOf, verdict-some, verdict-none}
 
 -- those that pass a test and those that do not are all
 count-both : (n : ℕ) (p : ℕ → Bool) → count n p + count n (λ (i : ℕ). not (p i)) ≡ n
@@ -45,26 +44,9 @@ counted-is d r c f g er ec ef eg =
     let h : blocks - c ≡ count blocks (λ (b : ℕ). not (freeAt d b)) = omega (arith, count-both blocks (freeAt d)) in
     rw (er, ef, eg, h)
 
--- ---- the judgements in order
-
-module _ (d : Disk) where
-  abbrev judgedTrack : Option Reply
-  judgedTrack = orElse (refusal8 d) (orElse (refusal9 d) (refusal11 d))
-
-  -- refusal 8 is the first track's
-  pub track-header : (r : Reply) → Refused r ≡ verdictOf (refusal8 d) → Refused r ≡ verdictOf judgedTrack
-  track-header r e = verdict-or-some (refusal8 d) (orElse (refusal9 d) (refusal11 d)) r e
-
-  module _ (a : Passed ≡ verdictOf (refusal8 d)) where
-    -- after 8 passed, refusal 9 is the first track's
-    pub track-map : (r : Reply) → Refused r ≡ verdictOf (refusal9 d) → Refused r ≡ verdictOf judgedTrack
-    track-map r e =
-        verdict-or-some (refusal9 d) (refusal11 d) r e ∙ sym (verdict-or-none (refusal8 d) (orElse (refusal9 d) (refusal11 d)) a)
-
-    -- after 8 and 9 passed, the verdict of 11 is the first track's
-    pub track-free : (v : Verdict) → v ≡ verdictOf (refusal11 d) → Passed ≡ verdictOf (refusal9 d) → v ≡ verdictOf judgedTrack
-    track-free v e b =
-        e ∙ sym (verdict-or-none (refusal9 d) (refusal11 d) b) ∙ sym (verdict-or-none (refusal8 d) (orElse (refusal9 d) (refusal11 d)) a)
+-- what the first track is judged by
+abbrev judgedTrack : Disk → Option Reply
+judgedTrack d = orElse (startRefusal d) (refusal11 d)
 
 -- ---- the call
 

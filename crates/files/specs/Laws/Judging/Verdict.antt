@@ -30,13 +30,13 @@ unfoldable pub verdictOf : Option Reply → Verdict
 verdictOf none = Passed
 verdictOf (some r) = Refused r
 
--- a first refusal is the verdict of both judgements
+-- of two judgements in order, a refusal of the first is the verdict
 pub verdict-or-some : (a b : Option Reply) (r : Reply) → Refused r ≡ verdictOf a → Refused r ≡ verdictOf (orElse a b)
 unfolding verdictOf orElse
 verdict-or-some none b r e = let z : _≡_ {A = ℕ} 0 1 = cc in absurd (omega arith)
 verdict-or-some (some x) b r e = e
 
--- where the first judgement passes, the second is the verdict
+-- where the first passes, it is the second's
 pub verdict-or-none : (a b : Option Reply) → Passed ≡ verdictOf a → verdictOf (orElse a b) ≡ verdictOf b
 unfolding verdictOf orElse
 verdict-or-none none b e = refl
