@@ -9,8 +9,9 @@
  *
  * - It answers with a number and three places. Number 0 means done. Every other number is a
  *   refusal, which says what is wrong, with places that say where: see enum dheg_number. Tests run
- *   from number 1 upwards, only that dheg_unpack has 18 right after 3 and dheg_rewrite 12 right after
- *   1, and the first that fails is the answer. A place that is not named is 0.
+ *   from number 1 upwards, only that dheg_unpack has 18 right after 3, dheg_rewrite 12 right after 1,
+ *   and every function that judges 9 has 19 right after it; the first that fails is the answer. A
+ *   place that is not named is 0.
  * - A refused call changes nothing: every lent byte is as it was.
  * - Any contents and any lengths may be passed; what cannot be done is refused.
  * - File names are equal if they have the same length and the same bytes, where a capital letter
@@ -18,9 +19,10 @@
  *   as another. So `Reel_one` and `REEL_ONE` are one name. A disk keeps the spelling that the file was
  *   added with. Disk names are not compared.
  * - Memory is lent for the time of the call. No pointer is kept, nothing is allocated, nothing
- *   stays to be freed. A pointer must be good for the length after it; where that is 0 the pointer
- *   is not used and may be NULL. Memory that a call writes must not overlap anything else that is
- *   lent to the same call. No alignment is asked for.
+ *   stays to be freed. A pointer must be good for the length or count after it; where that is 0 the
+ *   pointer is not used and may be NULL. Memory that a call writes must not overlap anything else
+ *   that is lent to the same call. Bytes may be lent at any address; a list of uint16_t must be
+ *   aligned as that type asks.
  * - It uses at most DHEG_STACK_LEN bytes of stack.
  * - It keeps no state between calls and has none in common with other calls. Several threads may
  *   call at the same time, each on its own memory; memory that is only read may be shared.
@@ -86,20 +88,23 @@ enum dheg_number {
     DHEG_NO_DATA_FIELD = 6,
     /* The CRC of its data is wrong. */
     DHEG_DATA_CRC = 7,
-    /* The disk header is wrong. `first` is the offset of the lowest wrong field: 0, 22, 24, 26, 28,
-     * 30, 32, 34 (the directory's length), 38, 40 or 58. */
+    /* The disk header is wrong. `first` is the offset of the lowest wrong field: 0, 24, 26, 28, 30,
+     * 32, 34 (the directory's length), 38, 40 or 58. The free word at 20 is judged by 11, the good
+     * word at 22 by 19. */
     DHEG_DISK_HEADER = 8,
     /* A map record is of no kind, or of a kind that its block cannot have. `first` is the lowest
-     * such block. A record is free if its first byte is FD (hex), whatever the two after it are; so
-     * FD is wrong only at block 0. */
+     * such block. A record is free if its first byte is FD (hex), whatever the two after it are, and
+     * bad if it is FE FF FF; so these are wrong only at block 0. FE with any other two bytes after it
+     * is of no kind. */
     DHEG_MAP_RECORD = 9,
     /* The directory is not sound. `first` is the lowest file number at fault, 0 for the directory
      * itself. Of two files with equal names the one with the higher number is at fault. */
     DHEG_DIRECTORY = 10,
     /* The free-sector word is not three times the free records. */
     DHEG_FREE_WORD = 11,
-    /* A file name has not 1 to 36 bytes, a disk name has over 10, the data of a sector have not 512,
-     * or a block, track, side or sector number is out of range. */
+    /* A file name has not 1 to 36 bytes, a disk name has over 10, a list of bad blocks has block 0,
+     * block 1 or a number over 479, the data of a sector have not 512 bytes, or a block, track, side
+     * or sector number is out of range. */
     DHEG_ARGUMENT = 12,
     /* A file has the name to add, in this or another spelling. `first` is its slot. */
     DHEG_NAME_PRESENT = 13,
@@ -116,7 +121,10 @@ enum dheg_number {
      * an F3 with a count over 7, or an F2 or F3 that lacks bytes of its own. `first` is the track,
      * `second` the side, `third` the place of the code among the bytes of its side, from 0: the first
      * by track, then side, then place. */
-    DHEG_WRONG_CODE = 18
+    DHEG_WRONG_CODE = 18,
+    /* The good-sector word is not 1440 less three times the bad records. It comes right after 9, so
+     * before 10 and 11. */
+    DHEG_GOOD_WORD = 19
 };
 
 /* An answer. */
@@ -129,7 +137,7 @@ typedef struct {
     dheg_reply reply;
     size_t free; /* free sectors, by the header */
     size_t good; /* good sectors, by the header */
-    size_t held; /* blocks whose record is not free, those of header and directory among them */
+    size_t held; /* blocks whose record is not free: those of header, directory and files, bad ones */
 } dheg_first_track_result;
 
 /*
@@ -217,7 +225,8 @@ dheg_reply dheg_place(size_t block, size_t sector);
 
 /*
  * Writes an empty disk over a block image of 737,280 bytes, whatever that held; no old byte stays.
- * The name has 0 to 10 bytes; the number is kept in the header.
+ * The name has 0 to 10 bytes; the number is kept in the header. It is dheg_format_bad with no bad
+ * block.
  *
  * Done: all of `image` is written; the places are 0. Refused: nothing is changed, and
  *
@@ -231,15 +240,36 @@ dheg_reply dheg_format(uint8_t *image, size_t image_len, const uint8_t *name, si
                        uint16_t number);
 
 /*
- * Judges a block image: its length, the disk header, the map, the directory and the free word.
- * dheg_list, dheg_read, dheg_add and dheg_remove judge the same before anything else.
+ * Writes an empty disk over a block image, as dheg_format does, on which the blocks in `bad` are bad:
+ * no file is given one of them, and neither dheg_add nor dheg_remove writes to them. `bad` has
+ * `bad_count` block numbers, 2 to 479: any count of them, in any order, and the same block any number
+ * of times.
  *
- * Done: the disk is sound; the places are 0. Refused:
+ * Done: all of `image` is written; the places are 0. The map records of the blocks in `bad` are FE FF
+ * FF (hex), and their bytes are zero. With B for the number of different blocks among them the free
+ * word is 3 x (478 - B) and the good word 1440 - 3 x B. Refused: nothing is changed, and
+ *
+ *   1      `first`: 2 `image` has not 737,280 bytes
+ *   12     the name has over 10 bytes, or a number in `bad` is 0, 1 or over 479; no place is named
+ *
+ * `name` and `bad` are only read; `bad` is aligned as uint16_t asks, and may be NULL where `bad_count`
+ * is 0. All three are used until the call returns; no state is kept, and other threads may call at
+ * the same time on other memory.
+ */
+dheg_reply dheg_format_bad(uint8_t *image, size_t image_len, const uint8_t *name, size_t name_len,
+                           uint16_t number, const uint16_t *bad, size_t bad_count);
+
+/*
+ * Judges a block image: its length, the disk header, the map, the good word, the directory and the
+ * free word. dheg_list, dheg_read, dheg_add and dheg_remove judge the same before anything else.
+ *
+ * Done: the disk is sound; the places are 0. Refused, in this order:
  *
  *   1      `first`: 2 `image` has not 737,280 bytes
  *   8      `first`: offset of the lowest wrong field of the disk header (34: directory's length)
  *   9      `first`: lowest block whose map record is wrong; one that begins with FD (hex) is free,
- *          whatever its other two bytes are, and wrong only at block 0
+ *          whatever its other two bytes are, and FE FF FF is bad, both wrong only at block 0
+ *   19     the good word is not 1440 less three times the bad records; no place is named
  *   10     `first`: lowest file number at fault, 0 for the directory itself; of two files with equal
  *          names, in whatever spelling, the one with the higher number is at fault
  *   11     the free word is not three times the free records; no place is named
@@ -257,8 +287,8 @@ dheg_reply dheg_check(const uint8_t *image, size_t image_len);
  * Done: `first` is the count of bytes written; those after them are left as they were. An exact fit
  * is enough; an empty list fits an empty buffer. Refused: nothing is changed, and
  *
- *   1, 8 to 11   as dheg_check says
- *   16           `first`: bytes needed; `out` has fewer
+ *   1, 8, 9, 19, 10, 11   as dheg_check says, in this order
+ *   16                    `first`: bytes needed; `out` has fewer
  *
  * `image` is only read. Both are used until the call returns; no state is kept, and other threads
  * may call at the same time with another `out`, on the same `image` if none of them writes to it.
@@ -272,10 +302,10 @@ dheg_reply dheg_list(const uint8_t *image, size_t image_len, uint8_t *out, size_
  * Done: `first` is the count of bytes written; those after them are left as they were. An exact fit
  * is enough; an empty file fits an empty buffer. Refused: nothing is changed, and
  *
- *   1, 8 to 11   as dheg_check says
- *   12           the name has not 1 to 36 bytes; no place is named
- *   14           no file has the name; no place is named
- *   16           `first`: bytes needed; `out` has fewer
+ *   1, 8, 9, 19, 10, 11   as dheg_check says, in this order
+ *   12                    the name has not 1 to 36 bytes; no place is named
+ *   14                    no file has the name; no place is named
+ *   16                    `first`: bytes needed; `out` has fewer
  *
  * `image` and `name` are only read. All three are used until the call returns; no state is kept, and
  * other threads may call at the same time with another `out`, on the same `image` if none of them
@@ -292,12 +322,13 @@ dheg_reply dheg_read(const uint8_t *image, size_t image_len, const uint8_t *name
  *
  * Done: map records, the slot, the blocks taken, update count, free word and the directory's length
  * are written to `image`; the places are 0. Free records whose blocks are not taken stay as they
- * are, all three bytes. Refused: nothing is changed, and
+ * are, all three bytes; so do bad blocks, their records and the good word. Refused: nothing is
+ * changed, and
  *
- *   1, 8 to 11   as dheg_check says
- *   12           the name has not 1 to 36 bytes; no place is named
- *   13           `first`: slot of the file that has the name; its spelling stays
- *   15           too few blocks are free; no place is named
+ *   1, 8, 9, 19, 10, 11   as dheg_check says, in this order
+ *   12                    the name has not 1 to 36 bytes; no place is named
+ *   13                    `first`: slot of the file that has the name; its spelling stays
+ *   15                    too few blocks are free; no place is named
  *
  * `name` and `data` are only read. All three are used until the call returns; no state is kept, and
  * other threads may call at the same time on other memory.
@@ -310,12 +341,12 @@ dheg_reply dheg_add(uint8_t *image, size_t image_len, const uint8_t *name, size_
  * are written FD FF FF (hex). A to Z in the name count as a to z.
  *
  * Done: map records, the slot, the file's blocks, update count and free word are written to `image`;
- * the places are 0. Records that were free before stay as they are, all three bytes. Refused:
- * nothing is changed, and
+ * the places are 0. Records that were free before stay as they are, all three bytes; so do bad
+ * blocks, their records and the good word. Refused: nothing is changed, and
  *
- *   1, 8 to 11   as dheg_check says
- *   12           the name has not 1 to 36 bytes; no place is named
- *   14           no file has the name; no place is named
+ *   1, 8, 9, 19, 10, 11   as dheg_check says, in this order
+ *   12                    the name has not 1 to 36 bytes; no place is named
+ *   14                    no file has the name; no place is named
  *
  * `name` is only read. Both are used until the call returns; no state is kept, and other threads may
  * call at the same time on other memory.
@@ -326,11 +357,12 @@ dheg_reply dheg_remove(uint8_t *image, size_t image_len, const uint8_t *name, si
  * Judges the first track of a block image, 9,216 bytes, and counts its blocks. The directory is not
  * looked at.
  *
- * Done: the three counts are given; the places are 0. Refused: the counts are 0, and
+ * Done: the three counts are given; the places are 0. Refused: the counts are 0, and, in this order,
  *
  *   1      `first`: 2 `track` has not 9,216 bytes
  *   8      `first`: offset of the lowest wrong field of the disk header (34: directory's length)
  *   9      `first`: lowest block whose map record is wrong, as dheg_check says
+ *   19     the good word is not 1440 less three times the bad records; no place is named
  *   11     the free word is not three times the free records; no place is named
  *
  * `track` is only read, until the call returns; no state is kept, and several threads may judge the

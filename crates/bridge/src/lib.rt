@@ -1,5 +1,6 @@
 // The C interface, the calls of docs/RULES.md, section 8: each function calls one of the layers and nothing more, and
 // its contract is that function's. A slice is a pointer and a length.
+ghost use mathlib.Core.List.{[]};
 ghost use mathlib.Core.Path.{_≡_};
 ghost use lib.ListN.{length};
 ghost use Rattle.sector_rules.specs.Geometry.{placeReply};
@@ -50,12 +51,20 @@ pub extern "C" fn dheg_place(block: usize, sector: usize) -> Reply
     sectors::place(block, sector)
 }
 
-// The call format (§8.4).
+// The call format without bad blocks (§8.4).
 #[no_mangle]
 pub extern "C" fn dheg_format(image: &mut [u8], name: &[u8], number: u16) -> Reply
-    ensures { λ r. ⌜ (r ≡ Calls.format (now (image .entry)) (argumentsOf (now (name .entry)) number) .answer) × (now (image .exit) ≡ Calls.format (now (image .entry)) (argumentsOf (now (name .entry)) number) .image) ⌝ }
+    ensures { λ r. ⌜ (r ≡ Calls.format (now (image .entry)) (argumentsOf (now (name .entry)) number []) .answer) × (now (image .exit) ≡ Calls.format (now (image .entry)) (argumentsOf (now (name .entry)) number []) .image) ⌝ }
 {
     files::format(image, name, number)
+}
+
+// The call format with a list of bad blocks (§8.4).
+#[no_mangle]
+pub extern "C" fn dheg_format_bad(image: &mut [u8], name: &[u8], number: u16, bad: &[u16]) -> Reply
+    ensures { λ r. ⌜ (r ≡ Calls.format (now (image .entry)) (argumentsOf (now (name .entry)) number (now (bad .entry))) .answer) × (now (image .exit) ≡ Calls.format (now (image .entry)) (argumentsOf (now (name .entry)) number (now (bad .entry))) .image) ⌝ }
+{
+    files::format_bad(image, name, number, bad)
 }
 
 // The call check (§8.5).

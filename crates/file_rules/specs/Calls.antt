@@ -14,9 +14,9 @@ pub use Rattle.sector_rules.specs.Replies.{wrongLength}
 unfoldable pub use Rattle.sector_rules.specs.Replies.{unless}
 use Rattle.sector_rules.specs.Geometry.{blocks, imageBytes}
 use Rattle.file_rules.specs.declared.Record.{Record}
-use Rattle.file_rules.specs.declared.Record.the-variants.{Free, System, File}
+use Rattle.file_rules.specs.declared.Record.the-variants.{Free, Bad, System, File}
 use Rattle.file_rules.specs.declared.Entry.{Entry}
-use Rattle.file_rules.specs.Arguments.{FormatArguments}
+use Rattle.file_rules.specs.Arguments.{FormatArguments, listed, badListRight, badBlocks}
 use Rattle.file_rules.specs.Sizes.{slotBytes, blockSlots, titleMost, freeSectors}
 use Rattle.file_rules.specs.Disk.{Disk, diskOf, imageOf}
 use Rattle.file_rules.specs.Map.{freeAt, freeCount, fileByte}
@@ -59,36 +59,37 @@ imageRight image = eqb (length image) imageBytes
 
 -- ---- the calls that judge a disk first
 
--- 1 (§7.1), then 8 to 11, refused in the way of the call; what the call does on a sound disk comes after (§8.5)
+-- 1 (§7.1), then 8, 9, 19, 10 and 11, refused in the way of the call; what the call does on a sound disk comes after (§8.5)
 unfoldable pub onSound : {A : Type 0} → List ℕ → (Reply → A) → (Disk → A) → A
 onSound image refuse act = cond (imageRight image) (unless (diskRefusal (diskOf image)) refuse (act (diskOf image))) (refuse wrongLength)
 
 -- ---- format
 
--- the records of a fresh disk: block 0 is the system's, block 1 is file 0 with sequence 0 (§8.4)
+-- the records of a fresh disk: block 0 is the system's, block 1 is file 0 with sequence 0, those of the list are bad (§8.4)
 unfoldable pub freshOwner : FormatArguments → ℕ → Record
 freshOwner args zero = System
 freshOwner args (suc zero) = File 0 0
-freshOwner args (suc (suc b)) = Free
+freshOwner args (suc (suc b)) = cond (listed (suc (suc b)) (args .bad)) Bad Free
 
--- the header of a fresh disk: update count 0, free word 3 x (480 - 2), a directory of one slot (§8.4)
+-- the header of a fresh disk: update count 0, free word 3 x (480 - 2 - B), a directory of one slot (§8.4)
 abbrev pub freshHeader : FormatArguments → ℕ → ℕ
-freshHeader args = diskHeaderByte args 0 (freeSectors (blocks - 2)) 1
+freshHeader args = diskHeaderByte args 0 (freeSectors (blocks - 2 - badBlocks (args .bad))) 1
 
 -- a fresh disk: this header, these records, and zero in all other bytes (§8.4)
 unfoldable pub formatDisk : FormatArguments → Disk
 formatDisk args = diskWith (freshHeader args) (freshOwner args) (λ (r : Record) (o : ℕ). 0)
 
--- the call format: 1, 12 where the disk's name is too long, or the image of a fresh disk (§8.4 §7.1 §7.12 §6.15)
+-- the call format: 1, 12 where the disk's name is too long or the list has a number that cannot be a bad block's, or the image of a fresh disk
+-- (§8.4 §7.1 §7.12 §6.15)
 unfoldable pub format : List ℕ → FormatArguments → ImageChanged
 format image args =
     cond (imageRight image)
-    (cond (leb (length (args .title)) titleMost) (record { answer = done; image = imageOf (formatDisk args) }) (imageKept image (refusal 12)))
+    (cond (leb (length (args .title)) titleMost && badListRight (args .bad)) (record { answer = done; image = imageOf (formatDisk args) }) (imageKept image (refusal 12)))
     (imageKept image wrongLength)
 
 -- ---- check
 
--- the call check: 1 and 8 to 11 alone (§8.5)
+-- the call check: 1, 8, 9, 19, 10 and 11 alone (§8.5)
 unfoldable pub check : List ℕ → Reply
 check image = onSound image (λ (r : Reply). r) (λ (d : Disk). done)
 
@@ -110,7 +111,7 @@ entries d (suc n) = entries d n ++ cond (held d n) (tab (slotByte d n) slotBytes
 unfoldable pub listSound : Disk → List ℕ → Outcome
 listSound d buf = deliver (entries d (dirEnd d)) buf
 
--- the call list: 1 and 8 to 11 first (§8.6 §8.5)
+-- the call list: 1 and the judgement of the disk first (§8.6 §8.5)
 unfoldable pub list : List ℕ → List ℕ → Outcome
 list image buf = onSound image (bufferKept buf) (λ (d : Disk). listSound d buf)
 
@@ -125,7 +126,7 @@ readSound d name buf =
     (cond (ltb (findName d name) (dirEnd d)) (deliver (dataOf d (findName d name)) buf) (bufferKept buf (refusal 14)))
     (bufferKept buf (refusal 12))
 
--- the call read: 1 and 8 to 11 first (§8.7 §8.5)
+-- the call read: 1 and the judgement of the disk first (§8.7 §8.5)
 unfoldable pub read : List ℕ → List ℕ → List ℕ → Outcome
 read image name buf = onSound image (bufferKept buf) (λ (d : Disk). readSound d name buf)
 
@@ -169,7 +170,7 @@ addSound d name date content =
 unfoldable pub imaged : DiskChanged → ImageChanged
 imaged c = record { answer = c .answer; image = imageOf (c .diskAfter) }
 
--- the call add: 1 and 8 to 11 first (§8.9 §8.5)
+-- the call add: 1 and the judgement of the disk first (§8.9 §8.5)
 unfoldable pub add : List ℕ → List ℕ → ℕ → List ℕ → ImageChanged
 add image name date content = onSound image (imageKept image) (λ (d : Disk). imaged (addSound d name date content))
 
@@ -187,6 +188,6 @@ removeSound d name =
     (diskKept d (refusal 14)))
     (diskKept d (refusal 12))
 
--- the call remove: 1 and 8 to 11 first (§8.13 §8.5)
+-- the call remove: 1 and the judgement of the disk first (§8.13 §8.5)
 unfoldable pub remove : List ℕ → List ℕ → ImageChanged
 remove image name = onSound image (imageKept image) (λ (d : Disk). imaged (removeSound d name))

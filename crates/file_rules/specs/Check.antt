@@ -1,4 +1,4 @@
--- What check, list, read, add and remove judge after 1 and before their own refusals: 8 to 11 (docs/RULES.md, sections 6 and 7).
+-- What check, list, read, add and remove judge after 1 and before their own refusals: 8, 9, 19, 10 and 11 (docs/RULES.md, sections 6 and 7).
 -- Assumes nothing: these are definitions.
 use mathlib.Core.Bool.{Bool, not, cond, _&&_, _||_}
 use mathlib.Core.List.{List, [], _∷_}
@@ -15,9 +15,9 @@ use Rattle.sector_rules.specs.Replies.{refusal}
 use Rattle.sector_rules.specs.Faults.{wrongAt, orFault, faultBelow, refusalAt}
 use Rattle.sector_rules.specs.Geometry.{tracks, sectors, blockSectors, trackOffset, trackSectors, allSectors, blocks, sidePlace, backward}
 use Rattle.file_rules.specs.declared.Record.{Record}
-use Rattle.file_rules.specs.Sizes.{blockBytes, slotBytes, slotCount, nameMost, blocksOf, freeSectors}
+use Rattle.file_rules.specs.Sizes.{blockBytes, slotBytes, slotCount, nameMost, blocksOf, freeSectors, goodSectors}
 use Rattle.file_rules.specs.Disk.{Disk}
-use Rattle.file_rules.specs.Map.{recordAt, isSystem, isOther, bears, isPart, within, freeCount}
+use Rattle.file_rules.specs.Map.{recordAt, isSystem, isOther, bears, isPart, within, freeCount, badCount}
 use Rattle.file_rules.specs.Directory.{nameEq, slotEntry, slotName, held, dirBytes, dirEnd}
 
 -- ---- 8: the header
@@ -30,16 +30,15 @@ diskSignature = 0x51 ∷ 0x4C ∷ 0x35 ∷ 0x41 ∷ []
 unfoldable pub lengthRight : Disk → Bool
 lengthRight d = ltb (at16 (d 0) 36) blockBytes && (eqb (dirBytes d % slotBytes) 0 && leb slotBytes (dirBytes d))
 
--- fields 22 to 32: good and all sectors, 9, 18, 80, 3 (§6.5)
+-- fields 24 to 32: all sectors, 9, 18, 80, 3 (§6.5)
 unfoldable pub dimensionsFault : Disk → Fault
 dimensionsFault d =
-    orFault (wrongAt 22 (eqb (at16 (d 0) 22) allSectors))
-    (orFault (wrongAt 24 (eqb (at16 (d 0) 24) allSectors))
+    orFault (wrongAt 24 (eqb (at16 (d 0) 24) allSectors))
     (orFault (wrongAt 26 (eqb (at16 (d 0) 26) sectors))
     (orFault (wrongAt 28 (eqb (at16 (d 0) 28) trackSectors))
-    (orFault (wrongAt 30 (eqb (at16 (d 0) 30) tracks)) (wrongAt 32 (eqb (at16 (d 0) 32) blockSectors))))))
+    (orFault (wrongAt 30 (eqb (at16 (d 0) 30) tracks)) (wrongAt 32 (eqb (at16 (d 0) 32) blockSectors)))))
 
--- the lowest wrong field; bytes 4 to 21 and 76 to 95 are not judged here (§6.1 §6.2 §6.7 §7.8)
+-- the lowest wrong field; bytes 4 to 23 and 76 to 95 are not judged here (§6.1 §6.2 §6.7 §7.8)
 unfoldable pub diskHeaderFault : Disk → Fault
 diskHeaderFault d =
     orFault (wrongAt 0 (bytesAre (d 0) 0 diskSignature))
@@ -57,6 +56,12 @@ recordFault b r = cond (eqb b 0) (not (isSystem r)) (isSystem r || isOther r)
 -- the lowest block whose record is wrong, or the number of blocks (§7.9)
 unfoldable pub mapFault : Disk → ℕ
 mapFault d = lowest (λ (b : ℕ). recordFault b (recordAt d b)) blocks
+
+-- ---- 19: the good word
+
+-- the good word is 1440 - 3 x the bad records (§6.18 §7.26)
+unfoldable pub goodRight : Disk → Bool
+goodRight d = eqb (at16 (d 0) 22) (goodSectors (badCount d))
 
 -- ---- 10: the directory
 
@@ -109,6 +114,10 @@ refusal8 d = refusalAt 8 (diskHeaderFault d)
 unfoldable pub refusal9 : Disk → Option Reply
 refusal9 d = refusalAt 9 (faultBelow blocks (mapFault d))
 
+-- 19 with no place, if the good word is wrong (§7.26)
+unfoldable pub refusal19 : Disk → Option Reply
+refusal19 d = cond (goodRight d) none (some (refusal 19))
+
 -- 10 with the lowest file number that is not sound, if there is one (§7.10)
 unfoldable pub refusal10 : Disk → Option Reply
 refusal10 d = refusalAt 10 (faultBelow slotCount (fileFault d))
@@ -117,10 +126,10 @@ refusal10 d = refusalAt 10 (faultBelow slotCount (fileFault d))
 unfoldable pub refusal11 : Disk → Option Reply
 refusal11 d = cond (freeRight d) none (some (refusal 11))
 
--- the first refusal of 8 and 9, if there is one: with these the calls and the first track begin alike (§7.18 §8.5 §8.14)
+-- the first refusal of 8, 9 and 19, if there is one: with these the calls and the first track begin alike (§7.18 §7.26 §8.5 §8.14)
 unfoldable pub startRefusal : Disk → Option Reply
-startRefusal d = orElse (refusal8 d) (refusal9 d)
+startRefusal d = orElse (refusal8 d) (orElse (refusal9 d) (refusal19 d))
 
--- the first refusal of 8 to 11, if there is one; nothing else of a disk is judged (§7.18 §7.23)
+-- the first refusal of 8, 9, 19, 10 and 11, if there is one; nothing else of a disk is judged (§7.18 §7.23)
 unfoldable pub diskRefusal : Disk → Option Reply
 diskRefusal d = orElse (startRefusal d) (orElse (refusal10 d) (refusal11 d))

@@ -1,4 +1,4 @@
--- The judgement of track 0 alone: 1, 8, 9 and 11, and three counts (docs/RULES.md, section 8).
+-- The judgement of track 0 alone: 1, 8, 9, 19 and 11, and three counts (docs/RULES.md, section 8).
 -- Assumes nothing: these are definitions.
 use mathlib.Core.Bool.{cond, not}
 use mathlib.Core.List.{List}
@@ -23,7 +23,7 @@ use Rattle.file_rules.specs.Calls.{unless, wrongLength}
 abbrev pub refusedTrack : Reply → FirstTrack
 refusedTrack r = record { reply = r; free = 0; good = 0; held = 0 }
 
--- the free word, the good sectors of the header, and the number of records that are not free (§8.14)
+-- the free word, the good word, and the number of records that are not free, bad ones among them (§8.14)
 unfoldable pub counted : Disk → FirstTrack
 counted d = record { reply = done; free = at16 (d 0) 20; good = at16 (d 0) 22; held = count blocks (λ (b : ℕ). not (freeAt d b)) }
 

@@ -17,7 +17,7 @@ use Rattle.sector_rules.specs.Geometry.{blocks, imageBytes}
 use Rattle.sector_rules.specs.Replies.{replyWith, done, refusal}
 use Rattle.file_rules.specs.declared.Record.{Record}
 use Rattle.file_rules.specs.declared.Record.the-variants.{File}
-use Rattle.file_rules.specs.Arguments.{FormatArguments}
+use Rattle.file_rules.specs.Arguments.{FormatArguments, EachCanBeBad}
 use Rattle.file_rules.specs.Calls.{ImageChanged, check, list, read, add, remove}
 use Rattle.file_rules.specs.Check.{refusal8}
 use Rattle.file_rules.specs.Directory.{dirEnd, findName, vacantSlot}
@@ -121,7 +121,7 @@ pub record FreeTails : Type 0 where
       → at16 (diskOf (remove image name .image) 0) 20 ≡ 3 * freeByFirst (diskOf (remove image name .image))
   -- after every history each free record is FD FF FF (§6.9 §9.5)
   pub history-free : (old : List ℕ) (args : FormatArguments) (calls : List Call) → length old ≡ imageBytes → length (args .title) ≤ titleMost
-      → (b : ℕ) → b < blocks → freeAt (diskOf (imageEnd (formatted old args) calls)) b ≡ true → IsWrittenFree (diskOf (imageEnd (formatted old args) calls)) b
+      → EachCanBeBad (args .bad) → (b : ℕ) → b < blocks → freeAt (diskOf (imageEnd (formatted old args) calls)) b ≡ true → IsWrittenFree (diskOf (imageEnd (formatted old args) calls)) b
 
 -- ---- what is promised: tails that are not read
 

@@ -2,6 +2,7 @@
 -- and what the check says of an image in whose header one byte is one more or one less (§7.8).
 -- Computed, so that each number of the header and each offset that 8 names is stated twice: in the definitions by rule, here by value.
 -- Assumes nothing: these are definitions. The proof is `disk-header-values` in Laws/Values/HeaderValues.antt.
+use mathlib.Core.Bool.{true}
 use mathlib.Core.List.{List, [], _∷_, _++_}
 use mathlib.Core.Path.{_≡_, _∙_}
 use Prim.Native.Nat.{ℕ, _+_, _-_, _*_, _/_, _%_, _≤_, _<_}
@@ -11,7 +12,7 @@ use Rattle.sector_rules.specs.declared.Fault.{Fault}
 use Rattle.sector_rules.specs.Geometry.{blocks, imageBytes}
 use Rattle.sector_rules.specs.HeaderValues.{placeNamed, oneMore, oneLess, changedAt, changedFrom}
 use Rattle.sector_rules.specs.Replies.{done, refusal}
-use Rattle.file_rules.specs.Arguments.{FormatArguments, argumentsOf}
+use Rattle.file_rules.specs.Arguments.{FormatArguments, argumentsOf, listed, EachCanBeBad}
 use Rattle.file_rules.specs.Calls.{format, check}
 
 -- a disk's name of nine bytes (§6.2)
@@ -35,23 +36,28 @@ diskFieldNamed start rest = placeNamed 8 96 (check (start ++ rest))
 
 -- ---- what is promised
 
--- by value: the header that format writes, what 8 names where bytes of it are one more or one less, and the names that 12 refuses (§6.7 §7.8 §7.12 §8.4)
+-- by value: the header that format writes, what 8 names where bytes of it are one more or one less, and the names and lists that 12 refuses
+-- (§6.7 §7.8 §7.12 §8.4)
 pub record DiskHeaderValues : Type 0 where
   -- what format writes: the header, and then the records of blocks 0, 1 and 2: the system's, file 0 with sequence 0, free
   pub format-header : (old : List ℕ) → length old ≡ imageBytes
-      → take 105 (format old (argumentsOf title 0x1234) .image) ≡ diskHeader ++ (0xF8 ∷ 0x00 ∷ 0x00 ∷ 0x00 ∷ 0x00 ∷ 0x00 ∷ 0xFD ∷ 0xFF ∷ 0xFF ∷ [])
+      → take 105 (format old (argumentsOf title 0x1234 []) .image) ≡ diskHeader ++ (0xF8 ∷ 0x00 ∷ 0x00 ∷ 0x00 ∷ 0x00 ∷ 0x00 ∷ 0xFD ∷ 0xFF ∷ 0xFF ∷ [])
+  -- with three bad blocks, of which one stands in the list twice: free word 1425, good word 1431; then block 2 is bad, and block 3 free (§6.18 §8.4)
+  pub format-bad : (old : List ℕ) → length old ≡ imageBytes
+      → take 108 (format old (argumentsOf title 0x1234 (100 ∷ 2 ∷ 479 ∷ 2 ∷ [])) .image)
+      ≡ set (set diskHeader 21 0x91) 23 0x97 ++ (0xF8 ∷ 0x00 ∷ 0x00 ∷ 0x00 ∷ 0x00 ∷ 0x00 ∷ 0xFE ∷ 0xFF ∷ 0xFF ∷ 0xFD ∷ 0xFF ∷ 0xFF ∷ [])
   -- the check of an image that begins with the header, one byte of which is one more: the offset that 8 names, or 96. It accepts the lengths of a directory
-  -- with 256 blocks more or one more (34, 35), and with five slots (36), and judges neither 4 to 21 nor 76 to 95
+  -- with 256 blocks more or one more (34, 35), and with five slots (36), and judges neither 4 to 23 nor 76 to 95
   pub one-more : (rest : List ℕ) → 96 + length rest ≡ imageBytes → tab (λ (o : ℕ). diskFieldNamed (changedAt oneMore diskHeader o) rest) 96
-      ≡ replicate 4 0 ++ (replicate 18 96 ++ ((22 ∷ 22 ∷ 24 ∷ 24 ∷ 26 ∷ 26 ∷ 28 ∷ 28 ∷ 30 ∷ 30 ∷ 32 ∷ 32 ∷ 96 ∷ 96 ∷ 96 ∷ 34 ∷ 38 ∷ 38 ∷ [])
+      ≡ replicate 4 0 ++ (replicate 20 96 ++ ((24 ∷ 24 ∷ 26 ∷ 26 ∷ 28 ∷ 28 ∷ 30 ∷ 30 ∷ 32 ∷ 32 ∷ 96 ∷ 96 ∷ 96 ∷ 34 ∷ 38 ∷ 38 ∷ [])
       ++ (replicate 18 40 ++ (replicate 18 58 ++ replicate 20 96))))
   -- one less
   pub one-less : (rest : List ℕ) → 96 + length rest ≡ imageBytes → tab (λ (o : ℕ). diskFieldNamed (changedAt oneLess diskHeader o) rest) 96
-      ≡ replicate 4 0 ++ (replicate 18 96 ++ ((22 ∷ 22 ∷ 24 ∷ 24 ∷ 26 ∷ 26 ∷ 28 ∷ 28 ∷ 30 ∷ 30 ∷ 32 ∷ 32 ∷ 96 ∷ 96 ∷ 34 ∷ 34 ∷ 38 ∷ 38 ∷ [])
+      ≡ replicate 4 0 ++ (replicate 20 96 ++ ((24 ∷ 24 ∷ 26 ∷ 26 ∷ 28 ∷ 28 ∷ 30 ∷ 30 ∷ 32 ∷ 32 ∷ 96 ∷ 96 ∷ 34 ∷ 34 ∷ 38 ∷ 38 ∷ [])
       ++ (replicate 18 40 ++ (replicate 18 58 ++ replicate 20 96))))
   -- each byte from o on one less: the lowest wrong field is named
   pub all-less : (rest : List ℕ) → 96 + length rest ≡ imageBytes → tab (λ (o : ℕ). diskFieldNamed (changedFrom oneLess diskHeader o) rest) 96
-      ≡ replicate 4 0 ++ (replicate 18 22 ++ ((22 ∷ 22 ∷ 24 ∷ 24 ∷ 26 ∷ 26 ∷ 28 ∷ 28 ∷ 30 ∷ 30 ∷ 32 ∷ 32 ∷ 34 ∷ 34 ∷ 34 ∷ 34 ∷ 38 ∷ 38 ∷ [])
+      ≡ replicate 4 0 ++ (replicate 20 24 ++ ((24 ∷ 24 ∷ 26 ∷ 26 ∷ 28 ∷ 28 ∷ 30 ∷ 30 ∷ 32 ∷ 32 ∷ 34 ∷ 34 ∷ 34 ∷ 34 ∷ 38 ∷ 38 ∷ [])
       ++ (replicate 18 40 ++ (replicate 18 58 ++ replicate 20 96))))
   -- accepted are the header as it is, and with a directory of 23 slots, or of one block; refused is one of no slot, and one of 24 or 25 slots as bytes over
   pub accepted : (rest : List ℕ) → 96 + length rest ≡ imageBytes
@@ -60,6 +66,11 @@ pub record DiskHeaderValues : Type 0 where
   pub length-refused : (rest : List ℕ) → 96 + length rest ≡ imageBytes
       → (diskFieldNamed (set diskHeader 37 0) rest ≡ 34) × (diskFieldNamed (set (set diskHeader 36 0x06) 37 0) rest ≡ 34)
       × (diskFieldNamed (set diskHeader 36 0x06) rest ≡ 34)
-  -- a disk's name has ten bytes at most
-  pub title-accepted : (old : List ℕ) (args : FormatArguments) → length old ≡ imageBytes → length (args .title) ≤ 10 → format old args .answer ≡ done
+  -- a disk's name has ten bytes at most, and bad blocks are blocks 2 to 479
+  pub format-accepted : (old : List ℕ) (args : FormatArguments) → length old ≡ imageBytes → length (args .title) ≤ 10 → EachCanBeBad (args .bad)
+      → format old args .answer ≡ done
   pub title-refused : (old : List ℕ) (args : FormatArguments) → length old ≡ imageBytes → 11 ≤ length (args .title) → format old args .answer ≡ refusal 12
+  pub low-refused : (old : List ℕ) (args : FormatArguments) (b : ℕ) → length old ≡ imageBytes → listed b (args .bad) ≡ true → b ≤ 1
+      → format old args .answer ≡ refusal 12
+  pub high-refused : (old : List ℕ) (args : FormatArguments) (b : ℕ) → length old ≡ imageBytes → listed b (args .bad) ≡ true → 480 ≤ b
+      → format old args .answer ≡ refusal 12

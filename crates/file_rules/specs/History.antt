@@ -12,13 +12,13 @@ use Rattle.laws.specs.Numbers.{at16}
 use Rattle.sector_rules.specs.Geometry.{blocks, imageBytes}
 use Rattle.sector_rules.specs.Replies.{done, refusal}
 use Rattle.file_rules.specs.declared.Record.the-variants.{File}
-use Rattle.file_rules.specs.Arguments.{FormatArguments}
+use Rattle.file_rules.specs.Arguments.{FormatArguments, EachCanBeBad}
 use Rattle.file_rules.specs.Calls.{Outcome, format, check, read, add}
 use Rattle.file_rules.specs.Directory.{entryByte, slotByte, held, dirEnd}
 use Rattle.file_rules.specs.Disk.{Disk, blockOf, offsetOf, diskOf, imageOf}
 use Rattle.file_rules.specs.Histories.{Call, imageOuts, imageEnd, modelOuts, modelEnd, filesLeft, mostPresent, blocksOfFiles, fileNamed, IsPresent}
 use Rattle.file_rules.specs.Map.{recordAt}
-use Rattle.file_rules.specs.Model.{NamedFile, entryFrom, dirBlocks, usable, freeWord, modelDisk, modelFormat, resultOf}
+use Rattle.file_rules.specs.Model.{NamedFile, entryFrom, dirBlocks, differentBlocks, usable, freeWord, modelDisk, modelFormat, resultOf}
 use Rattle.file_rules.specs.Sizes.{blockBytes, slotBytes, blockSlots, titleMost}
 use Rattle.file_rules.specs.Written.{blocksFor}
 
@@ -55,13 +55,15 @@ pub record Holds (args : FormatArguments) (calls : List Call)
       → (x : NamedFile) × IsPresent x files × HasEntry (diskOf image) k x
   -- P, which the model counts as its peak, is the greatest number of them present at once
   pub peak-is : modelEnd (modelFormat args) calls .peak ≡ most
-  -- the free word is 3 x (479 - D - S), and D + S is at most 479
-  pub free-word : at16 (diskOf image 0) 20 ≡ freeWord most (blocksOfFiles files)
-  pub no-less : dirBlocks most + blocksOfFiles files ≤ usable
+  -- the free word is 3 x (479 - B - D - S), and B + D + S is at most 479
+  pub free-word : at16 (diskOf image 0) 20 ≡ freeWord (differentBlocks (args .bad)) most (blocksOfFiles files)
+  pub no-less : differentBlocks (args .bad) + (dirBlocks most + blocksOfFiles files) ≤ usable
   -- an add with a new name of 1 to 36 bytes is refused, with 15, exactly when with its file counted the word would fall below zero
   pub add-gives : (x : NamedFile) → 1 ≤ length (x .name) → length (x .name) ≤ 36 → fileNamed (x .name) files ≡ none
       → add image (x .name) (x .date) (x .content) .answer
-      ≡ cond (leb (dirBlocks (max most (suc (length files))) + (blocksOfFiles files + blocksFor (length (x .content)))) usable) done (refusal 15)
+      ≡ cond
+      (leb (differentBlocks (args .bad) + (dirBlocks (max most (suc (length files))) + (blocksOfFiles files + blocksFor (length (x .content))))) usable)
+      done (refusal 15)
   -- every byte outside header, map, directory slots of present files and those files is zero (§9.8). Blocks and offsets reach every byte of the image: its byte
   -- i is the disk's byte at block `blockOf i`, offset `offsetOf i` (EveryByte, below; the law image-disk says it of whole images)
   pub zero-else : (b o : ℕ) → (Belongs (diskOf image) files b o → ⊥) → diskOf image b o ≡ 0
@@ -73,7 +75,7 @@ formatted old args = format old args .image
 -- history: an accepted format of an image that held anything, then the calls, each on the image that the one before left (§9.1)
 abbrev pub EveryHistory : Type 0
 EveryHistory =
-    (old : List ℕ) (args : FormatArguments) (calls : List Call) → length old ≡ imageBytes → length (args .title) ≤ titleMost
+    (old : List ℕ) (args : FormatArguments) (calls : List Call) → length old ≡ imageBytes → length (args .title) ≤ titleMost → EachCanBeBad (args .bad)
     → (format old args .answer ≡ done)
     × Holds args calls
     (imageEnd (formatted old args) calls)
@@ -84,7 +86,7 @@ EveryHistory =
 -- history-check: after every history check accepts the image, so that none of 1 and 8 to 11 is found (§9.5)
 abbrev pub HistoryCheck : Type 0
 HistoryCheck =
-    (old : List ℕ) (args : FormatArguments) (calls : List Call) → length old ≡ imageBytes → length (args .title) ≤ titleMost
+    (old : List ℕ) (args : FormatArguments) (calls : List Call) → length old ≡ imageBytes → length (args .title) ≤ titleMost → EachCanBeBad (args .bad)
     → check (imageEnd (formatted old args) calls) ≡ done
 
 -- every-byte: byte i of an image is the byte of its disk at the block and offset that i belongs to (§1.3 §1.6)

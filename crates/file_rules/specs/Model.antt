@@ -1,6 +1,7 @@
 -- The model (docs/RULES.md, section 9). What the caller gives to format and calls is all that it knows; it never sees an image.
 -- It shares with the calls the sizes, what an Outcome is, and the layout: header, entry, record and file bytes (diskHeaderByte, entryFor, entryByte,
--- diskWith, storedByte, part), isFree of a record, blocksFor as the number of blocks of a file (§6.17), and equality of names. The decisions are its own.
+-- diskWith, storedByte, part), isFree of a record, whether a block is in the list of bad ones, blocksFor as the number of blocks of a file (§6.17), and equality of
+-- names. The decisions are its own.
 -- Assumes nothing: these are definitions.
 use mathlib.Core.Bool.{Bool, false, not, cond, _&&_}
 use mathlib.Core.List.{List, [], _∷_, _++_}
@@ -17,8 +18,8 @@ use Rattle.sector_rules.specs.Replies.{replyWith, done, refusal}
 use Rattle.sector_rules.specs.declared.Reply.{Reply}
 use Rattle.file_rules.specs.declared.Entry.{Entry}
 use Rattle.file_rules.specs.declared.Record.{Record}
-use Rattle.file_rules.specs.declared.Record.the-variants.{Free, System, File, Other}
-use Rattle.file_rules.specs.Arguments.{FormatArguments}
+use Rattle.file_rules.specs.declared.Record.the-variants.{Free, Bad, System, File, Other}
+use Rattle.file_rules.specs.Arguments.{FormatArguments, listed}
 use Rattle.file_rules.specs.Calls.{Outcome}
 use Rattle.file_rules.specs.Directory.{nameEq, entryByte, entryFor}
 use Rattle.file_rules.specs.Disk.{Disk}
@@ -89,13 +90,18 @@ blocksPresent m = sum (suc (m .peak)) (λ (k : ℕ). heldBlocks (fileOf (m .slot
 unfoldable pub dirBlocks : ℕ → ℕ
 dirBlocks peak = suc (peak / blockSlots)
 
--- blocks that directory and files can have: all but block 0 (§9.7)
+-- B: how many different blocks a list has; one that stands there again later is not counted before (§9.7)
+unfoldable pub differentBlocks : List ℕ → ℕ
+differentBlocks [] = 0
+differentBlocks (x ∷ xs) = cond (listed x xs) (differentBlocks xs) (suc (differentBlocks xs))
+
+-- blocks that bad blocks, directory and files can have: all but block 0 (§9.7)
 abbrev pub usable : ℕ
 usable = blocks - 1
 
--- the free word: 3 x (479 - D - S) (§9.7)
-unfoldable pub freeWord : ℕ → ℕ → ℕ
-freeWord peak taken = blockSectors * (usable - (dirBlocks peak + taken))
+-- the free word: 3 x (479 - B - D - S) (§9.7)
+unfoldable pub freeWord : ℕ → ℕ → ℕ → ℕ
+freeWord bad peak taken = blockSectors * (usable - (bad + (dirBlocks peak + taken)))
 
 -- ---- the model's image
 
@@ -116,6 +122,7 @@ dirByte entries s o = slotOf (entries (s * blockSlots + o / slotBytes)) (o % slo
 -- byte o of a block with this record, where the directory has these entries and the files are these (§9.5)
 unfoldable pub content : (ℕ → HeldFile) → (ℕ → HeldFile) → Record → ℕ → ℕ
 content entries files Free o = 0
+content entries files Bad o = 0
 content entries files System o = 0
 content entries files Other o = 0
 content entries files (File zero s) o = dirByte entries s o
@@ -136,18 +143,23 @@ unfoldable pub slotRecord : (ℕ → Option FilledSlot) → ℕ → ℕ → Reco
 slotRecord slots zero b = Free
 slotRecord slots (suc k) b = orRecord k (position b 0 (takenBy (slots k))) (slotRecord slots k b)
 
--- the record of block b: that of block 0 is the system's, the directory's have file 0 (§9.5)
-unfoldable pub modelRecord : (ℕ → Option FilledSlot) → List ℕ → ℕ → ℕ → Record
-modelRecord slots dir peak b = cond (eqb b 0) System (orRecord 0 (position b 0 dir) (slotRecord slots (suc peak) b))
+-- the record of block b: that of block 0 is the system's, those of the list are bad, the directory's have file 0 (§9.5)
+unfoldable pub modelRecord : List ℕ → (ℕ → Option FilledSlot) → List ℕ → ℕ → ℕ → Record
+modelRecord bad slots dir peak b =
+    cond (eqb b 0) System (cond (listed b bad) Bad (orRecord 0 (position b 0 dir) (slotRecord slots (suc peak) b)))
+
+-- B of the format that the model began with (§9.7)
+abbrev pub modelBad : Model → ℕ
+modelBad m = differentBlocks (m .arguments .bad)
 
 -- byte o of the header, with the free word by the files present (§9.5)
 unfoldable pub modelHeader : Model → ℕ → ℕ
-modelHeader m = diskHeaderByte (m .arguments) (m .updates) (freeWord (m .peak) (blocksPresent m)) (suc (m .peak))
+modelHeader m = diskHeaderByte (m .arguments) (m .updates) (freeWord (modelBad m) (m .peak) (blocksPresent m)) (suc (m .peak))
 
 -- the disk of the model's image: header and map, each slot's entry, each file at its blocks (§9.5)
 unfoldable pub modelDisk : Model → Disk
 modelDisk m =
-    diskWith (modelHeader m) (modelRecord (m .slots) (m .dir) (m .peak))
+    diskWith (modelHeader m) (modelRecord (m .arguments .bad) (m .slots) (m .dir) (m .peak))
     (content (λ (k : ℕ). fileOf (m .slots k)) (λ (k : ℕ). fileOf (m .slots k)))
 
 -- ---- format
@@ -223,19 +235,19 @@ wrap n = n % 4294967296
 unfoldable pub peakThen : Model → ℕ
 peakThen m = max (m .peak) (suc (presentIn m))
 
--- whether directory and files, with this file counted, take no more than the usable blocks (§9.7)
+-- whether bad blocks, directory and files, with this file counted, are no more than the usable blocks (§9.7)
 unfoldable pub fits : Model → NamedFile → Bool
-fits m x = leb (dirBlocks (peakThen m) + (blocksPresent m + blocksFor (length (x .content)))) usable
+fits m x = leb (modelBad m + (dirBlocks (peakThen m) + (blocksPresent m + blocksFor (length (x .content))))) usable
 
--- whether no slot and not the directory has block b (§8.11 §9.4)
-unfoldable pub freeIn : (ℕ → Option FilledSlot) → List ℕ → ℕ → ℕ → Bool
-freeIn slots dir peak b = isFree (modelRecord slots dir peak b)
+-- whether no slot and not the directory has block b, and it is not bad (§8.11 §9.4)
+unfoldable pub freeIn : List ℕ → (ℕ → Option FilledSlot) → List ℕ → ℕ → ℕ → Bool
+freeIn bad slots dir peak b = isFree (modelRecord bad slots dir peak b)
 
 -- the directory's blocks once a file more is present: a new one is the lowest free (§8.10 §9.4)
 unfoldable pub dirThen : Model → List ℕ
 dirThen m =
     cond (ltb (dirBlocks (m .peak)) (dirBlocks (peakThen m)))
-    (m .dir ++ firsts blocks 1 (freeIn (m .slots) (m .dir) (m .peak))) (m .dir)
+    (m .dir ++ firsts blocks 1 (freeIn (m .arguments .bad) (m .slots) (m .dir) (m .peak))) (m .dir)
 
 -- the model with the file x in slot k; its blocks are the lowest free, in sequence (§8.11 §9.4)
 unfoldable pub fill : Model → ℕ → NamedFile → Model
@@ -246,7 +258,7 @@ fill m k x =
       peak = peakThen m;
       slots =
           upd (m .slots) k
-          (some (record { file = x; taken = firsts blocks (blocksFor (length (x .content))) (freeIn (m .slots) (dirThen m) (m .peak)) }));
+          (some (record { file = x; taken = firsts blocks (blocksFor (length (x .content))) (freeIn (m .arguments .bad) (m .slots) (dirThen m) (m .peak)) }));
       dir = dirThen m;
     }
 

@@ -1,8 +1,8 @@
 -- The numbers of the file layer, each once (docs/RULES.md, section 6); those of the disk kind are the sector layer's.
 -- Assumes nothing: these are definitions.
-use Prim.Native.Nat.{ℕ, _*_, _/_, _%_}
+use Prim.Native.Nat.{ℕ, _-_, _*_, _/_, _%_}
 use Rattle.laws.specs.Numbers.{quotientUp}
-use Rattle.sector_rules.specs.Geometry.{sectorBytes, blockSectors, trackSectors, blocks}
+use Rattle.sector_rules.specs.Geometry.{sectorBytes, blockSectors, trackSectors, allSectors, blocks}
 
 -- bytes of a block (§1.1)
 abbrev pub blockBytes : ℕ
@@ -39,6 +39,10 @@ slotCount = blocks * blockSlots
 -- the free word for so many free blocks (§6.4)
 abbrev pub freeSectors : ℕ → ℕ
 freeSectors n = blockSectors * n
+
+-- the good word for so many bad blocks (§6.18)
+abbrev pub goodSectors : ℕ → ℕ
+goodSectors n = allSectors - blockSectors * n
 
 -- where the map begins in block 0 (§6.8)
 abbrev pub mapStart : ℕ

@@ -9,7 +9,7 @@ use Rattle.laws.specs.Changes.{patch}
 use Rattle.laws.specs.Lists.{tab, elementAt}
 use Rattle.laws.specs.Numbers.{at16, at32, bigEndian, highFirst, highByte}
 use Rattle.sector_rules.specs.Values.{placements, definedSectors, tableSectors, placement-values}
-use Rattle.file_rules.specs.declared.Record.the-variants.{Free, System, File, Other}
+use Rattle.file_rules.specs.declared.Record.the-variants.{Free, Bad, System, File, Other}
 use Rattle.file_rules.specs.Directory.{entryOf, entryByte, nameOf, entryFor}
 use Rattle.file_rules.specs.Map.{decode, numberOf, encode}
 use Rattle.file_rules.specs.Sizes.{slotBytes, recordBytes}
@@ -19,7 +19,7 @@ pub values-to-check : (definedSectors placements ≡ tableSectors placements) ×
 unfolding decode highFirst bigEndian elementAt
 values-to-check = (placement-values, refl)
 
--- record-values: a record of each kind by its three bytes, as it is read, free with three tails and of no kind beside it, and as it is written
+-- record-values: a record of each kind by its three bytes, as it is read, free with three tails, bad, and of no kind beside them, and as it is written
 pub record-values :
     (decode (highFirst (0xFD ∷ 0xFF ∷ 0xFF ∷ []) 0 recordBytes) ≡ Free)
     × (decode (highFirst (0xF8 ∷ 0x00 ∷ 0x00 ∷ []) 0 recordBytes) ≡ System)
@@ -28,15 +28,18 @@ pub record-values :
     × (decode (highFirst (0xFD ∷ 0xFF ∷ 0xFE ∷ []) 0 recordBytes) ≡ Free)
     × (decode (highFirst (0xFD ∷ 0x00 ∷ 0x00 ∷ []) 0 recordBytes) ≡ Free)
     × (decode (highFirst (0xFC ∷ 0xFF ∷ 0xFF ∷ []) 0 recordBytes) ≡ Other)
+    × (decode (highFirst (0xFE ∷ 0xFF ∷ 0xFF ∷ []) 0 recordBytes) ≡ Bad)
+    × (decode (highFirst (0xFE ∷ 0xFF ∷ 0xFE ∷ []) 0 recordBytes) ≡ Other)
     × (decode (highFirst (0xFE ∷ 0x00 ∷ 0x00 ∷ []) 0 recordBytes) ≡ Other)
     × (decode (highFirst (0xFB ∷ 0x00 ∷ 0x00 ∷ []) 0 recordBytes) ≡ Other)
     × (decode (highFirst (0xFF ∷ 0x00 ∷ 0x00 ∷ []) 0 recordBytes) ≡ Other)
     × (decode (highFirst (0xFF ∷ 0xFF ∷ 0xFF ∷ []) 0 recordBytes) ≡ Other)
     × (tab (encode Free) recordBytes ≡ 0xFD ∷ 0xFF ∷ 0xFF ∷ [])
+    × (tab (encode Bad) recordBytes ≡ 0xFE ∷ 0xFF ∷ 0xFF ∷ [])
     × (tab (encode System) recordBytes ≡ 0xF8 ∷ 0x00 ∷ 0x00 ∷ [])
     × (tab (encode (File 0x2A5 0x013)) recordBytes ≡ 0x2A ∷ 0x50 ∷ 0x13 ∷ [])
 unfolding decode encode numberOf highFirst highByte bigEndian elementAt tab
-record-values = (refl, refl, refl, refl, refl, refl, refl, refl, refl, refl, refl, refl, refl, refl)
+record-values = (refl, refl, refl, refl, refl, refl, refl, refl, refl, refl, refl, refl, refl, refl, refl, refl, refl)
 
 -- the entry of the file ab with date 01020304 (hex) and 256 bytes of data: length 64 + 256, length of the name 2, name and date; all else is zero (§6.13)
 unfoldable pub entryRow : List ℕ

@@ -2,9 +2,10 @@
 use sector_rules::BlockNumber;
 use sector_rules::Reply;
 
-// A map record: its block is free, the system's, a file's with its sequence, or the record is of no kind (§6.9).
+// A map record: its block is free, bad, the system's, a file's with its sequence, or the record is of no kind (§6.9).
 pub enum Record {
     Free,
+    Bad,
     System,
     File(u16, u16),
     Other,
@@ -29,8 +30,8 @@ pub struct Entry {
     pub date: u32,
 }
 
-// What first track gives: the reply, and where that is 0 the free word, the good sectors of the header and the number
-// of records that are not free (§8.14).
+// What first track gives: the reply, and where that is 0 the free word, the good word and the number of records that
+// are not free (§8.14).
 #[repr(C)]
 pub struct FirstTrack {
     pub reply: Reply,

@@ -1,4 +1,4 @@
-// Whether the disk is sound: the judgements 8 to 11 that check, list, read, add and remove make first.
+// Whether the disk is sound: the judgements 8, 9, 19, 10 and 11 that check, list, read, add and remove make first.
 ghost use mathlib.Core.Path.{_≡_};
 ghost use mathlib.Core.Bool.{_&&_};
 ghost use Prim.Native.Nat.{_+_, _≤_, _<_};
@@ -8,7 +8,7 @@ ghost use Rattle.sector_rules.specs.Geometry.{sectorBytes, imageBytes};
 ghost use Rattle.file_rules.specs.Sizes.{slotCount};
 ghost use Rattle.file_rules.specs.Disk.{diskOf};
 ghost use Rattle.file_rules.specs.Directory.{held, dirEnd};
-ghost use Rattle.file_rules.specs.Check.{entryRight, fileRight, fileFault, startRefusal, refusal10, refusal11, diskRefusal};
+ghost use Rattle.file_rules.specs.Check.{entryRight, fileRight, fileFault, refusal19, startRefusal, refusal10, refusal11, diskRefusal};
 ghost use Rattle.file_rules.specs.Calls as Calls;
 ghost use Rattle.files.specs.Laws.Judging.Verdict.{verdictOf};
 ghost use Rattle.files.specs.Laws.Loading.Loaded.{MapLoaded};
@@ -27,6 +27,7 @@ use crate::header::dir_bytes;
 use crate::header::dir_end;
 use crate::header::head_word;
 use crate::header::judge_header;
+use crate::map::count_bad;
 use crate::map::count_free;
 use crate::map::load_map;
 use crate::map::map_fault;
@@ -140,6 +141,17 @@ fn judge_map(map: &MapNumbers) -> Verdict
     Verdict::Passed
 }
 
+// Refusal 19: the good word (§6.18 §7.26).
+fn judge_good(image: &[u8], map: &MapNumbers) -> Verdict
+    requires { ⌜ MapLoaded (now map) (diskOf (now image)) ⌝ }
+    ensures { λ r. ⌜ r ≡ verdictOf (refusal19 (diskOf (now (image .entry)))) ⌝ }
+{
+    if head_word(image, 22) == Geometry::ALL_SECTORS - Geometry::BLOCK_SECTORS * count_bad(map) {
+        return Verdict::Passed;
+    }
+    Verdict::Refused(refused(19, 0))
+}
+
 // Refusal 10: the directory and the files (§7.10).
 fn judge_files(image: &[u8], map: &MapNumbers) -> Verdict
     requires { ⌜ (length (now image) ≡ imageBytes) × MapLoaded (now map) (diskOf (now image)) ⌝ }
@@ -163,18 +175,22 @@ pub fn judge_free(image: &[u8], map: &MapNumbers) -> Verdict
     Verdict::Refused(refused(11, 0))
 }
 
-// The judgements 8 and 9, in order (§7.18): with these the calls and the first track begin alike (§8.5).
+// The judgements 8, 9 and 19, in order (§7.18 §7.26): with these the calls and the first track begin alike (§8.5).
 pub fn judge_start(image: &[u8], map: &MapNumbers) -> Verdict
     requires { ⌜ (sectorBytes ≤ length (now image)) × MapLoaded (now map) (diskOf (now image)) ⌝ }
     ensures { λ r. ⌜ r ≡ verdictOf (startRefusal (diskOf (now (image .entry)))) ⌝ }
 {
     match judge_header(image) {
+        Verdict::Refused(r) => return Verdict::Refused(r),
+        Verdict::Passed => {}
+    }
+    match judge_map(map) {
         Verdict::Refused(r) => Verdict::Refused(r),
-        Verdict::Passed => judge_map(map),
+        Verdict::Passed => judge_good(image, map),
     }
 }
 
-// The judgements 8 to 11, in order (§7.18); nothing else of a disk is judged (§7.23).
+// The judgements 8, 9, 19, 10 and 11, in order (§7.18); nothing else of a disk is judged (§7.23).
 pub fn judge(image: &[u8], map: &MapNumbers) -> Verdict
     requires { ⌜ (length (now image) ≡ imageBytes) × MapLoaded (now map) (diskOf (now image)) ⌝ }
     ensures { λ r. ⌜ r ≡ verdictOf (diskRefusal (diskOf (now (image .entry)))) ⌝ }
@@ -189,7 +205,7 @@ pub fn judge(image: &[u8], map: &MapNumbers) -> Verdict
     }
 }
 
-// The call check (§8.5): done, or the first refusal of 1 (§7.1) and 8 to 11. After a history it is done (§9.5).
+// The call check (§8.5): done, or the first refusal of 1 (§7.1), 8, 9, 19, 10 and 11. After a history it is done (§9.5).
 pub fn check(image: &[u8]) -> Reply
     ensures { λ r. ⌜ r ≡ Calls.check (now (image .entry)) ⌝ }
 {

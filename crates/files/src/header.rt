@@ -68,9 +68,8 @@ fn dimensions_fault(image: &[u8]) -> Fault
     let track = word_fault(image, 28, Geometry::TRACK_SECTORS);
     let side = word_fault(image, 26, Geometry::SECTORS);
     let total = word_fault(image, 24, Geometry::ALL_SECTORS);
-    let good = word_fault(image, 22, Geometry::ALL_SECTORS);
     let rest = or_fault(side, or_fault(track, or_fault(tracks, block)));
-    or_fault(good, or_fault(total, rest))
+    or_fault(total, rest)
 }
 
 // The lowest wrong field of the header: letters (§6.1), sizes, length, track offset and tables (§6.7). Its fields stand

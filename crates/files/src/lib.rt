@@ -21,13 +21,14 @@ mod track;
 pub use adding::add;
 pub use checking::check;
 pub use formatting::format;
+pub use formatting::format_bad;
 pub use listing::list;
 pub use reading::read;
 pub use removing::remove;
 use sector_rules::Reply;
 pub use track::first_track;
 
-// What the judgements 8 to 11 say: all passed, or the refusal.
+// What the judgements 8, 9, 19, 10 and 11 say: all passed, or the refusal.
 pub enum Verdict {
     Passed,
     Refused(Reply),

@@ -5,10 +5,11 @@ ghost use lib.ListN.{length};
 ghost use Rattle.laws.specs.Below.{lowest, count};
 ghost use Rattle.sector_rules.specs.Geometry.{blocks};
 ghost use Rattle.file_rules.specs.Disk.{diskOf};
-ghost use Rattle.file_rules.specs.Map.{numberAt, isFree, isPart};
+ghost use Rattle.file_rules.specs.Map.{numberAt, isFree, isBad, isPart};
 ghost use Rattle.file_rules.specs.Check.{recordFault};
-ghost use Rattle.files.specs.Laws.Loading.Loaded.{loadedRecord, recordWithBlock, MapLoaded};
+ghost use Rattle.files.specs.Laws.Loading.Loaded.{loadedRecord, recordWithBlock, isCounted, MapLoaded};
 use crate::blocks::block_byte;
+use crate::records::is_bad;
 use crate::records::is_free;
 use crate::records::is_part;
 use crate::records::record_fault;
@@ -17,6 +18,7 @@ use crate::sizes::MAP_START;
 use crate::sizes::MapNumbers;
 use crate::sizes::RECORD_BYTES;
 use file_rules::MapRecord;
+use file_rules::Record;
 use sector_rules::BlockNumber;
 use sectors::Geometry;
 
@@ -71,19 +73,43 @@ pub fn map_fault(map: &MapNumbers) -> usize
     Geometry::BLOCKS
 }
 
-// How many records are free (§6.4): `freeCount`.
-pub fn count_free(map: &MapNumbers) -> usize
-    ensures { λ r. ⌜ (r ≡ count blocks (λ (b : ℕ). isFree (loadedRecord (now (map .entry)) b))) × (r ≤ blocks) ⌝ }
+// Whether a record is one of those that are counted: the bad ones, or the free ones.
+fn is_counted(record: Record, bad: bool) -> bool
+    ensures { λ r. ⌜ r ≡ isCounted bad «record» ⌝ }
+{
+    if bad {
+        return is_bad(record);
+    }
+    is_free(record)
+}
+
+// How many records are bad, or how many are free.
+fn count_records(map: &MapNumbers, bad: bool) -> usize
+    ensures { λ r. ⌜ (r ≡ count blocks (λ (b : ℕ). isCounted bad (loadedRecord (now (map .entry)) b))) × (r ≤ blocks) ⌝ }
 {
     let mut n = 0;
     for b in 0..Geometry::BLOCKS {
         let m = map_record(map, BlockNumber(b));
         let record = m.record;
-        if is_free(record) {
+        if is_counted(record, bad) {
             n += 1;
         }
     }
     n
+}
+
+// How many records are free (§6.4): `freeCount`.
+pub fn count_free(map: &MapNumbers) -> usize
+    ensures { λ r. ⌜ (r ≡ count blocks (λ (b : ℕ). isFree (loadedRecord (now (map .entry)) b))) × (r ≤ blocks) ⌝ }
+{
+    count_records(map, false)
+}
+
+// How many records are bad (§6.18): `badCount`.
+pub fn count_bad(map: &MapNumbers) -> usize
+    ensures { λ r. ⌜ (r ≡ count blocks (λ (b : ℕ). isBad (loadedRecord (now (map .entry)) b))) × (r ≤ blocks) ⌝ }
+{
+    count_records(map, true)
 }
 
 // The block that is sequence s of file f, the lowest if there are several (§6.10), the number of blocks if there is none:

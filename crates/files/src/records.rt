@@ -5,7 +5,7 @@ ghost use Prim.Native.Nat.{_+_, _≤_, _<_};
 ghost use Rattle.laws.specs.Lists.{tab};
 ghost use Rattle.sector_rules.specs.Geometry.{blocks};
 ghost use Rattle.file_rules.specs.Sizes.{recordBytes};
-ghost use Rattle.file_rules.specs.Map.{decode, numberOf, encode, isFree, bears, isPart};
+ghost use Rattle.file_rules.specs.Map.{decode, numberOf, encode, isFree, isBad, bears, isPart};
 ghost use Rattle.file_rules.specs.Check.{recordFault};
 ghost use Rattle.files.specs.Laws.Loading.Parts.{partOf};
 ghost use Rattle.files.specs.Laws.Loading.Chains.{IsBearer};
@@ -25,6 +25,9 @@ const TAIL_COUNT: u32 = 65536;
 
 // The number of a free record as written (§6.9).
 const FREE: u32 = 0xFD_FFFF;
+
+// The number of a bad record (§6.9).
+const BAD: u32 = 0xFE_FFFF;
 
 // The number of the system's record (§6.9).
 const SYSTEM: u32 = 0xF8_0000;
@@ -57,6 +60,9 @@ pub fn record_of(n: u32) -> Record
     if n == SYSTEM {
         return Record::System;
     }
+    if n == BAD {
+        return Record::Bad;
+    }
     Record::Other
 }
 
@@ -66,6 +72,7 @@ pub fn number_of(r: Record) -> u32
 {
     match r {
         Record::Free => FREE,
+        Record::Bad => BAD,
         Record::System => SYSTEM,
         Record::File(f, s) => f as u32 * SEQUENCES + s as u32,
         Record::Other => OTHER,
@@ -90,6 +97,20 @@ pub fn is_free(r: Record) -> bool
 {
     match r {
         Record::Free => true,
+        Record::Bad => false,
+        Record::System => false,
+        Record::File(_, _) => false,
+        Record::Other => false,
+    }
+}
+
+// Whether a record is bad (§6.9).
+pub fn is_bad(r: Record) -> bool
+    ensures { λ a. ⌜ a ≡ isBad r ⌝ }
+{
+    match r {
+        Record::Free => false,
+        Record::Bad => true,
         Record::System => false,
         Record::File(_, _) => false,
         Record::Other => false,
@@ -102,6 +123,7 @@ pub fn bears_file(r: Record, f: usize) -> bool
 {
     match r {
         Record::Free => false,
+        Record::Bad => false,
         Record::System => false,
         Record::File(g, _) => g as usize == f,
         Record::Other => false,
@@ -114,6 +136,7 @@ pub fn bearer(r: Record) -> usize
 {
     match r {
         Record::Free => NO_FILE,
+        Record::Bad => NO_FILE,
         Record::System => NO_FILE,
         Record::File(g, _) => {
             if (g as usize) < NO_FILE {
@@ -132,6 +155,7 @@ pub fn is_part(r: Record, f: usize, s: usize) -> bool
 {
     match r {
         Record::Free => false,
+        Record::Bad => false,
         Record::System => false,
         Record::File(g, t) => (g as usize == f) & (t as usize == s),
         Record::Other => false,
@@ -145,6 +169,7 @@ pub fn part_of(r: Record, f: usize, n: usize) -> usize
 {
     match r {
         Record::Free => ELSEWHERE,
+        Record::Bad => ELSEWHERE,
         Record::System => ELSEWHERE,
         Record::File(g, t) => {
             if g as usize != f {
@@ -165,6 +190,7 @@ pub fn record_fault(m: MapRecord) -> bool
     let k = m.record;
     match k {
         Record::Free => b == 0,
+        Record::Bad => b == 0,
         Record::System => b != 0,
         Record::File(_, _) => b == 0,
         Record::Other => true,

@@ -1,4 +1,4 @@
-// Track 0 alone: the judgements 1, 8, 9 and 11, and three counts. Block 0 lies on it.
+// Track 0 alone: the judgements 1, 8, 9, 19 and 11, and three counts. Block 0 lies on it.
 ghost use mathlib.Core.Path.{_≡_};
 ghost use Prim.Native.Nat.{_≤_};
 ghost use lib.ListN.{length};
@@ -35,7 +35,7 @@ fn refused_track(reply: Reply) -> FirstTrack
     }
 }
 
-// The free word, the good sectors of the header, and the number of records that are not free (§8.14).
+// The free word, the good word, and the number of records that are not free, bad ones among them (§8.14).
 fn counted_track(track: &[u8], map: &MapNumbers) -> FirstTrack
     requires { ⌜ MapLoaded (now map) (diskOf (now track)) ⌝ }
     ensures { λ r. ⌜ r ≡ Tracks.counted (diskOf (now (track .entry))) ⌝ }
@@ -49,7 +49,7 @@ fn counted_track(track: &[u8], map: &MapNumbers) -> FirstTrack
     }
 }
 
-// The judgements 8, 9 and 11, in order (§8.14).
+// The judgements 8, 9, 19 and 11, in order (§8.14).
 fn judge_track(track: &[u8], map: &MapNumbers) -> Verdict
     requires { ⌜ (sectorBytes ≤ length (now track)) × MapLoaded (now map) (diskOf (now track)) ⌝ }
     ensures { λ r. ⌜ r ≡ verdictOf (orElse (startRefusal (diskOf (now (track .entry)))) (refusal11 (diskOf (now (track .entry))))) ⌝ }

@@ -56,6 +56,15 @@ extern "C" {
         name_len: usize,
         number: u16,
     ) -> CReply;
+    fn dheg_format_bad(
+        image: *mut u8,
+        image_len: usize,
+        name: *const u8,
+        name_len: usize,
+        number: u16,
+        bad: *const u16,
+        bad_count: usize,
+    ) -> CReply;
     fn dheg_check(image: *const u8, image_len: usize) -> CReply;
     fn dheg_list(image: *const u8, image_len: usize, out: *mut u8, out_len: usize) -> CReply;
     fn dheg_read(
@@ -129,6 +138,25 @@ pub fn format(image: &mut [u8], name: &[u8], number: u16) -> Reply {
             name.as_ptr(),
             name.len(),
             number,
+        )
+    }
+    .into()
+}
+
+/// [`format_bad`](crate::format_bad), with the reply as it is given.
+pub fn format_bad(image: &mut [u8], name: &[u8], number: u16, bad: &[u16]) -> Reply {
+    // SAFETY: each pointer comes with the length of its own slice, that of
+    // `bad` counted in numbers and aligned for them, `image` is lent for
+    // writing and so overlaps nothing, all live for the call.
+    unsafe {
+        dheg_format_bad(
+            image.as_mut_ptr(),
+            image.len(),
+            name.as_ptr(),
+            name.len(),
+            number,
+            bad.as_ptr(),
+            bad.len(),
         )
     }
     .into()

@@ -18,7 +18,7 @@ pub const DISK_NAME_LEN: usize = 10;
 
 /// Writes an empty disk over a block image of [`IMAGE_LEN`](crate::IMAGE_LEN)
 /// bytes, whatever that held; no old byte stays. The name has 0 to
-/// [`DISK_NAME_LEN`] bytes.
+/// [`DISK_NAME_LEN`] bytes. It is [`format_bad`] with no bad block.
 ///
 /// Refused with 1 and 12: [`Length`](Refusal::Length),
 /// [`Argument`](Refusal::Argument).
@@ -37,12 +37,41 @@ pub fn format(image: &mut [u8], name: &[u8], number: u16) -> Result<(), Refusal>
     ffi::format(image, name, number).result().map(|_| ())
 }
 
-/// Judges a block image: its length, the disk header, the map, the directory
-/// and the free word.
+/// Writes an empty disk over a block image, as [`format()`] does, on which the
+/// blocks in the list are bad: no file is given one of them, and neither [`add`]
+/// nor [`remove`] writes to them. The list may have any length, and blocks, 2 to
+/// 479, in any order and more than once.
 ///
-/// Refused with 1 and 8 to 11: [`Length`](Refusal::Length),
+/// The records of these blocks are written FE FF FF (hex), their bytes are zero.
+/// With B for the number of different ones the free word is 3 x (478 - B) and
+/// the good word 1440 - 3 x B.
+///
+/// Refused with 1 and 12: [`Length`](Refusal::Length),
+/// [`Argument`](Refusal::Argument).
+///
+/// ```
+/// use dhegluubin::{first_track, format_bad, Refusal, FIRST_TRACK_LEN, IMAGE_LEN};
+///
+/// let mut image = vec![0; IMAGE_LEN];
+/// assert_eq!(format_bad(&mut image, b"OLD", 1, &[17, 1]), Err(Refusal::Argument));
+/// format_bad(&mut image, b"OLD", 1, &[17, 18, 17])?;
+/// let counts = first_track(&image[..FIRST_TRACK_LEN])?;
+/// assert_eq!((counts.free, counts.good, counts.held), (1428, 1434, 4));
+/// # Ok::<(), Refusal>(())
+/// ```
+pub fn format_bad(image: &mut [u8], name: &[u8], number: u16, bad: &[u16]) -> Result<(), Refusal> {
+    ffi::format_bad(image, name, number, bad)
+        .result()
+        .map(|_| ())
+}
+
+/// Judges a block image: its length, the disk header, the map, the good word,
+/// the directory and the free word.
+///
+/// Refused with 1, 8, 9, 19, 10, 11, in this order: [`Length`](Refusal::Length),
 /// [`DiskHeader`](Refusal::DiskHeader), [`MapRecord`](Refusal::MapRecord),
-/// [`Directory`](Refusal::Directory), [`FreeWord`](Refusal::FreeWord).
+/// [`GoodWord`](Refusal::GoodWord), [`Directory`](Refusal::Directory),
+/// [`FreeWord`](Refusal::FreeWord).
 ///
 /// ```
 /// use dhegluubin::{check, format, Refusal, IMAGE_LEN};
@@ -147,8 +176,8 @@ pub fn add(image: &mut [u8], name: &[u8], date: u32, data: &[u8]) -> Result<(), 
 
 /// Removes a file from a disk. Its blocks and its slot are filled with zero
 /// bytes: none of its bytes stays in the image. Its records are written FD FF
-/// FF (hex); those that were free before stay as they are. A to Z in the name
-/// count as a to z.
+/// FF (hex); those that were free or bad before stay as they are. A to Z in the
+/// name count as a to z.
 ///
 /// Refused as [`check`], then with 12, 14: [`Argument`](Refusal::Argument),
 /// [`NoSuchName`](Refusal::NoSuchName).
@@ -171,9 +200,9 @@ pub fn remove(image: &mut [u8], name: &[u8]) -> Result<(), Refusal> {
 /// Judges the first track of a block image, [`FIRST_TRACK_LEN`] bytes, and
 /// tells its counts. The directory is not looked at.
 ///
-/// Refused with 1, 8, 9, 11: [`Length`](Refusal::Length),
+/// Refused with 1, 8, 9, 19, 11: [`Length`](Refusal::Length),
 /// [`DiskHeader`](Refusal::DiskHeader), [`MapRecord`](Refusal::MapRecord),
-/// [`FreeWord`](Refusal::FreeWord).
+/// [`GoodWord`](Refusal::GoodWord), [`FreeWord`](Refusal::FreeWord).
 ///
 /// ```
 /// use dhegluubin::{first_track, format, FirstTrack, Refusal, FIRST_TRACK_LEN, IMAGE_LEN};

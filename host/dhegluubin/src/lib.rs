@@ -4,7 +4,7 @@
 //! - [`unpack`] reads an HFE image of version 1 or 3 into a block image, and
 //!   [`pack`] writes one of version 1; [`rewrite`] changes one sector in an image
 //!   of version 1. [`Edition::of`] tells which version an image is of.
-//! - [`format()`], [`check`], [`list`], [`read`], [`add`] and [`remove`] work on
+//! - [`format()`], [`format_bad`], [`check`], [`list`], [`read`], [`add`] and [`remove`] work on
 //!   a block image and the files in it.
 //! - [`first_track`] judges the first track alone, and [`place`] tells where a
 //!   sector of a block stands in a block image.
@@ -64,8 +64,8 @@ struct Readme;
 
 pub use edition::Edition;
 pub use files::{
-    add, check, first_track, format, list, read, remove, DISK_NAME_LEN, ENTRY_LEN, FILE_NAME_LEN,
-    FIRST_TRACK_LEN,
+    add, check, first_track, format, format_bad, list, read, remove, DISK_NAME_LEN, ENTRY_LEN,
+    FILE_NAME_LEN, FIRST_TRACK_LEN,
 };
 pub use refusal::Refusal;
 pub use reply::{FirstTrack, Lent, Reply};
@@ -80,6 +80,7 @@ pub use sectors::{pack, place, rewrite, unpack, HFE_LEN, IMAGE_LEN, SECTOR_LEN, 
 /// ```
 pub mod raw {
     pub use crate::ffi::{
-        add, check, first_track, format, list, pack, place, read, remove, rewrite, unpack,
+        add, check, first_track, format, format_bad, list, pack, place, read, remove, rewrite,
+        unpack,
     };
 }

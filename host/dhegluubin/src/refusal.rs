@@ -9,8 +9,8 @@ use crate::reply::{Lent, Reply};
 /// Why a call was refused. A refused call has changed nothing.
 ///
 /// Of the numbers that apply the lowest is given, only that 18 comes before 4
-/// to 7 and that [`rewrite`](crate::rewrite) has an order of its own; of the
-/// places that a number could name, the first. Refusals 4 to 7 go by sector:
+/// to 7 and 19 before 10 and 11, and that [`rewrite`](crate::rewrite) has an
+/// order of its own; of the places that a number could name, the first. Refusals 4 to 7 go by sector:
 /// the first bad one by track, side and sector decides.
 ///
 /// ```
@@ -77,14 +77,15 @@ pub enum Refusal {
         /// Sector number R, 1 to 9.
         sector: usize,
     },
-    /// 8: the disk header is wrong, or the directory's length in it.
+    /// 8: the disk header is wrong, or the directory's length in it. The free
+    /// word and the good word are judged by 11 and 19.
     DiskHeader {
         /// Offset of the lowest wrong field, 34 for the length.
         offset: usize,
     },
     /// 9: a map record is of no kind, or of a kind its block cannot have. A
-    /// record that begins with FD (hex) is free, whatever follows; it is wrong
-    /// only at block 0.
+    /// record that begins with FD (hex) is free, whatever follows, and FE FF FF
+    /// is bad; these are wrong only at block 0. FE with another tail is wrong.
     MapRecord {
         /// The lowest such block.
         block: usize,
@@ -98,8 +99,8 @@ pub enum Refusal {
     /// 11: the free-sector word does not fit the map.
     FreeWord,
     /// 12: a file name has not 1 to 36 bytes, a disk name has over 10, the data
-    /// of a sector have not 512, or a block, track, side or sector number is
-    /// out of range.
+    /// of a sector have not 512, a block of a list of bad blocks is not 2 to
+    /// 479, or a block, track, side or sector number is out of range.
     Argument,
     /// 13: a file of the name to add is present, in this or another spelling.
     NamePresent {
@@ -128,6 +129,9 @@ pub enum Refusal {
         /// Place of its first wrong code among the bytes of the side, from 0.
         place: usize,
     },
+    /// 19: the good-sector word does not fit the map: it is 1440 less three
+    /// times the bad records. It comes after 9 and before 10 and 11.
+    GoodWord,
     /// An answer that this binding has no name for. The library that it was
     /// written for gives none.
     Unknown {
@@ -171,6 +175,7 @@ impl Refusal {
                 side: second,
                 place: third,
             },
+            19 => Refusal::GoodWord,
             _ => return None,
         };
         Some(refusal)
@@ -202,7 +207,7 @@ impl Refusal {
         }
     }
 
-    /// The number, 1 to 18 unless it is unknown.
+    /// The number, 1 to 19 unless it is unknown.
     pub const fn number(self) -> usize {
         self.reply().number
     }
@@ -244,6 +249,7 @@ impl Refusal {
             Refusal::BufferTooShort { needed } => Reply::new([16, needed, 0, 0]),
             Refusal::Misread => Reply::new([17, 0, 0, 0]),
             Refusal::WrongCode { track, side, place } => Reply::new([18, track, side, place]),
+            Refusal::GoodWord => Reply::new([19, 0, 0, 0]),
             Refusal::Unknown { reply } => reply,
         }
     }
@@ -274,7 +280,13 @@ mod tests {
 
     #[test]
     fn unnamed_places_are_unknown() {
-        for parts in [[1, 0, 0, 0], [1, 3, 0, 0], [11, 1, 0, 0], [9, 3, 0, 1]] {
+        for parts in [
+            [1, 0, 0, 0],
+            [1, 3, 0, 0],
+            [11, 1, 0, 0],
+            [9, 3, 0, 1],
+            [19, 1, 0, 0],
+        ] {
             let reply = Reply::new(parts);
             assert_eq!(reply.result(), Err(Refusal::Unknown { reply }));
         }

@@ -61,8 +61,8 @@ pub struct FirstTrack {
     pub free: usize,
     /// Good sectors, by the header.
     pub good: usize,
-    /// Blocks whose record is not free, those of header and directory among
-    /// them.
+    /// Blocks whose record is not free, those of header and directory and bad
+    /// ones among them.
     pub held: usize,
 }
 

@@ -59,7 +59,7 @@ fn printed(files: &[&str]) -> String {
 
 #[test]
 fn every_call() {
-    let text = printed(&["every_call", "version_3", "checks"]);
+    let text = printed(&["every_call", "version_3", "bad_blocks", "checks"]);
     assert!(text.ends_with(" checks, 0 failed\n"), "{text}");
 }
 
@@ -73,7 +73,7 @@ fn stack_of(text: &str, name: &str) -> usize {
 }
 
 /// No call uses more stack than the header says, to which the program compares each. Those that judge
-/// a disk stay well below it. Unpack is measured for either version.
+/// a disk and a format with bad blocks stay well below it. Unpack is measured for either version.
 #[test]
 fn stack() {
     let text = printed(&["stack"]);
@@ -82,6 +82,7 @@ fn stack() {
         assert!((1..65_536).contains(&used), "{name} uses {used} bytes");
     }
     for name in [
+        "dheg_format_bad",
         "dheg_check",
         "dheg_list",
         "dheg_read",
@@ -91,7 +92,7 @@ fn stack() {
         let used = stack_of(&text, name);
         assert!((1..40_000).contains(&used), "{name} uses {used} bytes");
     }
-    assert_eq!(text.lines().count(), 12, "{text}");
+    assert_eq!(text.lines().count(), 13, "{text}");
 }
 
 /// Runs the readme's example on these bytes.

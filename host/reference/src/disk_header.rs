@@ -18,7 +18,8 @@ pub fn directory_len(block_0: &[u8]) -> usize {
 /// the first wrong one (§7.8).
 ///
 /// Name, number and the bytes after the tables (§6.2) and the update count
-/// (§6.3) may be anything; the free word is judged with the map (§6.4).
+/// (§6.3) may be anything; the free word (§6.4) and the good word (§6.18) are
+/// judged with the map.
 pub fn judge_disk_header(block_0: &[u8]) -> Result<(), Refusal> {
     let mut fields = vec![(0, block_0[0..4] == SIGNATURE)];
     for (offset, word) in FIXED_WORDS {

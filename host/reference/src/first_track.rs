@@ -6,19 +6,20 @@ use crate::geometry::{image_sector, running_sector, SECTORS_PER_BLOCK, TRACK_LEN
 use crate::layout::header::{FREE, GOOD};
 use crate::layout::record::Record;
 use crate::layout::word_at;
-use crate::map::{judge_free_word, judge_map};
+use crate::map::{judge_free_word, judge_good_word, judge_map};
 use crate::reply::{Lent, Refusal, Reply};
 
 /// The answer for a first track; the three numbers are 0 where it is refused.
 #[derive(Clone, Copy, Debug, PartialEq, Eq)]
 pub struct FirstTrack {
-    /// Done, or 1, 8, 9 or 11.
+    /// Done, or 1, 8, 9, 19 or 11.
     pub reply: Reply,
     /// The free word.
     pub free: usize,
     /// The good word.
     pub good: usize,
-    /// Records that are not free, those of block 0 and the directory too.
+    /// Records that are not free, those of block 0 and the directory and bad
+    /// ones too.
     pub held: usize,
 }
 
@@ -32,7 +33,7 @@ pub fn first_track(track: &[u8]) -> FirstTrack {
     })
 }
 
-/// The counts, or 1, 8, 9 or 11, in this order (§8.14).
+/// The counts, or 1, 8, 9, 19 or 11, in this order (§8.14).
 fn counted(track: &[u8]) -> Result<FirstTrack, Refusal> {
     if track.len() != TRACK_LEN {
         return Err(Refusal::Size(Lent::Blocks));
@@ -40,6 +41,7 @@ fn counted(track: &[u8]) -> Result<FirstTrack, Refusal> {
     let block_0 = first_block(track);
     judge_disk_header(&block_0)?;
     let records = judge_map(&block_0)?;
+    judge_good_word(&block_0, &records)?;
     judge_free_word(&block_0, &records)?;
     let held = records.iter().filter(|&&record| record != Record::Free);
     Ok(FirstTrack {

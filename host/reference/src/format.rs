@@ -1,18 +1,28 @@
-//! The call `format`.
+//! The call `format`, without bad blocks and with a list of them.
 
 use crate::disk::{judge_image_len, Disk};
 use crate::geometry::BLOCKS;
 use crate::layout::entry::SLOT_LEN;
 use crate::layout::header::{Header, DISK_NAME_LEN, HEADER_LEN};
 use crate::layout::record::Record;
-use crate::map::{free_sectors, set_record};
+use crate::map::{free_sectors, good_sectors, set_record};
 use crate::reply::{Refusal, Reply};
 
-/// Writes an empty disk over the image (§8.4). A disk name may be empty.
+/// Blocks below this have header and map, and the directory, so that they are
+/// in no list of bad blocks (§7.12).
+const FIRST_FOR_FILES: u16 = 2;
+
+/// Writes an empty disk without bad blocks over the image (§8.4).
 pub fn format(image: &mut [u8], name: &[u8], number: u16) -> Reply {
-    match judge(image, name) {
+    format_bad(image, name, number, &[])
+}
+
+/// Writes an empty disk over the image, whose blocks in the list are bad (§8.4).
+/// A disk name may be empty.
+pub fn format_bad(image: &mut [u8], name: &[u8], number: u16, bad: &[u16]) -> Reply {
+    match judge(image, name, bad) {
         Ok(()) => {
-            fresh_disk(name, number).write_to(image);
+            fresh_disk(name, number, bad).write_to(image);
             Reply::DONE
         }
         Err(refusal) => refusal.reply(),
@@ -20,34 +30,39 @@ pub fn format(image: &mut [u8], name: &[u8], number: u16) -> Reply {
 }
 
 /// Refusals 1 (§7.1) and 12 (§7.12).
-fn judge(image: &[u8], name: &[u8]) -> Result<(), Refusal> {
+fn judge(image: &[u8], name: &[u8], bad: &[u16]) -> Result<(), Refusal> {
     judge_image_len(image)?;
-    if name.len() > DISK_NAME_LEN {
+    let may_be_bad = |block: &u16| (FIRST_FOR_FILES..BLOCKS as u16).contains(block);
+    if name.len() > DISK_NAME_LEN || !bad.iter().all(may_be_bad) {
         return Err(Refusal::Argument);
     }
     Ok(())
 }
 
-/// The record of a block on an empty disk: block 1 is the directory's (§8.4).
-fn fresh_record(block: usize) -> Record {
-    match block {
-        0 => Record::System,
-        1 => Record::File {
-            file: 0,
-            sequence: 0,
-        },
-        _ => Record::Free,
+/// The records of an empty disk: block 1 is the directory's (§8.4). A block may
+/// be in the list more than once.
+fn fresh_records(bad: &[u16]) -> Vec<Record> {
+    let mut records = vec![Record::Free; BLOCKS];
+    records[0] = Record::System;
+    records[1] = Record::File {
+        file: 0,
+        sequence: 0,
+    };
+    for &block in bad {
+        records[usize::from(block)] = Record::Bad;
     }
+    records
 }
 
 /// An empty disk: header and map, and zero in all other bytes (§8.4).
-fn fresh_disk(name: &[u8], number: u16) -> Disk {
-    let records: Vec<Record> = (0..BLOCKS).map(fresh_record).collect();
+fn fresh_disk(name: &[u8], number: u16, bad: &[u16]) -> Disk {
+    let records = fresh_records(bad);
     let header = Header {
         name: name.to_vec(),
         number,
         updates: 0,
         free: free_sectors(&records),
+        good: good_sectors(&records),
         directory_len: SLOT_LEN,
     };
     let mut disk = Disk::zero();

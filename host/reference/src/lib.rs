@@ -53,7 +53,7 @@ pub mod written;
 pub use add::add;
 pub use check::check;
 pub use first_track::{first_track, first_track_text, FirstTrack};
-pub use format::format;
+pub use format::{format, format_bad};
 pub use geometry::place;
 pub use list::list;
 pub use pack::pack;

@@ -1,7 +1,7 @@
 //! The map: a record for each block.
 
-use crate::geometry::{BLOCKS, SECTORS_PER_BLOCK};
-use crate::layout::header::{FREE, HEADER_LEN};
+use crate::geometry::{BLOCKS, SECTORS, SECTORS_PER_BLOCK};
+use crate::layout::header::{FREE, GOOD, HEADER_LEN};
 use crate::layout::record::{Record, RECORD_LEN};
 use crate::layout::word_at;
 use crate::reply::Refusal;
@@ -37,17 +37,37 @@ pub fn judge_map(block_0: &[u8]) -> Result<Vec<Record>, Refusal> {
     Ok(records)
 }
 
+/// Sectors in the blocks with this record.
+fn sectors_of(kind: Record, records: &[Record]) -> usize {
+    let blocks = records.iter().filter(|&&record| record == kind);
+    SECTORS_PER_BLOCK * blocks.count()
+}
+
 /// Sectors in the free blocks: the free word (§6.4).
 pub fn free_sectors(records: &[Record]) -> usize {
-    let free = records.iter().filter(|&&record| record == Record::Free);
-    SECTORS_PER_BLOCK * free.count()
+    sectors_of(Record::Free, records)
+}
+
+/// Sectors that are not in bad blocks: the good word (§6.18).
+pub fn good_sectors(records: &[Record]) -> usize {
+    SECTORS - sectors_of(Record::Bad, records)
+}
+
+/// The refusal if the header's word at an offset is not this one.
+fn judge_word(block_0: &[u8], at: usize, word: usize, refusal: Refusal) -> Result<(), Refusal> {
+    if word_at(block_0, at) == word {
+        Ok(())
+    } else {
+        Err(refusal)
+    }
+}
+
+/// Refusal 19 if the good word does not fit the map (§7.26).
+pub fn judge_good_word(block_0: &[u8], records: &[Record]) -> Result<(), Refusal> {
+    judge_word(block_0, GOOD, good_sectors(records), Refusal::GoodWord)
 }
 
 /// Refusal 11 if the free word does not fit the map (§7.11).
 pub fn judge_free_word(block_0: &[u8], records: &[Record]) -> Result<(), Refusal> {
-    if word_at(block_0, FREE) == free_sectors(records) {
-        Ok(())
-    } else {
-        Err(Refusal::FreeWord)
-    }
+    judge_word(block_0, FREE, free_sectors(records), Refusal::FreeWord)
 }

@@ -68,8 +68,8 @@ pub enum Refusal {
     Directory(usize),
     /// The free word is not that of the map (§7.11).
     FreeWord,
-    /// A number or a length out of range: block, sector, track, side, R, a
-    /// name's bytes or a sector's (§7.12).
+    /// A number or a length out of range: block, bad block, sector, track, side,
+    /// R, a name's bytes or a sector's (§7.12).
     Argument,
     /// The name to add is that of this slot (§7.13).
     NamePresent(usize),
@@ -90,6 +90,8 @@ pub enum Refusal {
         /// Place of the code among the bytes of the side.
         place: usize,
     },
+    /// The good word is not that of the map (§7.26).
+    GoodWord,
 }
 
 impl Refusal {
@@ -115,6 +117,7 @@ impl Refusal {
             Refusal::BufferTooShort(needed) => Reply::new(16, [needed, 0, 0]),
             Refusal::Misread => Reply::new(17, [0; 3]),
             Refusal::WrongCode { track, side, place } => Reply::new(18, [track, side, place]),
+            Refusal::GoodWord => Reply::new(19, [0; 3]),
         }
     }
 }

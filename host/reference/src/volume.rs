@@ -8,7 +8,7 @@ use crate::layout::entry::{is_file_name_len, Entry, SLOT_LEN};
 use crate::layout::header::{FREE, UPDATES};
 use crate::layout::record::Record;
 use crate::layout::{long_at, set_long, set_word};
-use crate::map::{free_sectors, judge_free_word, judge_map, set_record};
+use crate::map::{free_sectors, judge_free_word, judge_good_word, judge_map, set_record};
 use crate::names::lowered;
 use crate::reply::Refusal;
 use crate::sound::judge_directory;
@@ -25,13 +25,14 @@ pub struct Volume {
 }
 
 impl Volume {
-    /// The volume of an image, judged from 1 and 8 to 11 (§8.5), the lowest
-    /// number first (§7.18); nothing else of a disk is judged (§7.23).
+    /// The volume of an image, judged by 1, 8, 9, 19, 10 and 11 (§8.5), in this
+    /// order (§7.18); nothing else of a disk is judged (§7.23).
     pub fn of_image(image: &[u8]) -> Result<Volume, Refusal> {
         let disk = Disk::of_image(image)?;
         let block_0 = disk.block(0);
         judge_disk_header(block_0)?;
         let records = judge_map(block_0)?;
+        judge_good_word(block_0, &records)?;
         let slots = judge_directory(&disk, &records, directory_len(block_0))?;
         judge_free_word(block_0, &records)?;
         Ok(Volume {

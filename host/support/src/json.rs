@@ -49,6 +49,11 @@ impl Value {
         }
     }
 
+    /// Whether there is a member of this name; panics on what is no object.
+    pub fn has(&self, name: &str) -> bool {
+        self.object().iter().any(|(key, _)| key == name)
+    }
+
     /// The member of this name; panics if there is none.
     pub fn get(&self, name: &str) -> &Value {
         let found = self.object().iter().find(|(key, _)| key == name);
@@ -248,6 +253,7 @@ mod tests {
         let value = parse(r#"{"a": 1, "b": 2}"#);
         let [b, a] = value.members(["b", "a"]);
         assert_eq!((a.number(), b.number()), (1, 2));
+        assert!(value.has("a") && !value.has("c"));
     }
 
     /// A member that is not asked for is a failure.

@@ -1,8 +1,8 @@
 -- What holds of every number below a bound: as a test, by one computation, and pointwise.
 -- Rests on the laws of tests.
-use mathlib.Core.Path.{_≡_, refl, subst, sym}
+use mathlib.Core.Path.{_≡_, refl, sym, ap, _∙_, subst}
 use mathlib.Core.Logic.{⊎-elim}
-use mathlib.Core.Bool.{Bool, true, false}
+use mathlib.Core.Bool.{Bool, true, false, _&&_}
 use Prim.Native.Nat.{ℕ, zero, suc, _<_}
 use native.Mathlib.Nat.{le-of-suc-le-suc, not-suc-le-zero, eq-or-lt-of-le}
 use native.Mathlib.Omega.{arith}
@@ -39,3 +39,15 @@ all-lt f g n t k h = ltb-true (f k) (g k) (all-at (λ (i : ℕ). ltb (f i) (g i)
 -- where one number below n fails, not all pass
 pub all-false : (p : ℕ → Bool) (n i : ℕ) → i < n → p i ≡ false → all p n ≡ false
 all-false p n i h e = by-test (all p n) (λ t. true≢false (p i) (all-at p n t i h) e) (λ t. t)
+
+and-swap : (a b c : Bool) → (a && (b && c)) ≡ (b && (a && c))
+and-swap true true c = refl
+and-swap true false c = refl
+and-swap false true c = refl
+and-swap false false c = refl
+
+-- of the numbers below n + 1, the first and those after it
+pub all-front : (p : ℕ → Bool) (n : ℕ) → all p (suc n) ≡ (p 0 && all (λ (k : ℕ). p (suc k)) n)
+unfolding all
+all-front p zero = refl
+all-front p (suc n) = ap (λ (t : Bool). p (suc n) && t) (all-front p n) ∙ and-swap (p (suc n)) (p 0) (all (λ (k : ℕ). p (suc k)) n)

@@ -3,9 +3,9 @@
 use std::ffi::OsString;
 use std::path::Path;
 
-use dhegluubin::{first_track, list, Refusal, ENTRY_LEN, FIRST_TRACK_LEN, IMAGE_LEN};
+use dhegluubin::{list, Refusal, ENTRY_LEN, IMAGE_LEN};
 
-use super::{several, Command};
+use super::{counts, several, Command};
 use crate::args::Given;
 use crate::failure::Failure;
 use crate::{dates, names};
@@ -15,9 +15,10 @@ pub const COMMAND: Command = Command {
     arguments: "IMG...",
     about: "list the files in each block image",
     details: "\
-A line tells of the disk, then one of each file: bytes of data, date, name in
-the spelling that the disk keeps. An image that is refused is told of on
-standard error; with several images a last line gives the counts.
+A line tells of the disk, with its bad blocks if it has any, then one of each
+file: bytes of data, date, name in the spelling that the disk keeps. An image
+that is refused is told of on standard error; with several images a last line
+gives the counts.
 ",
     example: "dheg ls work.img games.img\n",
     run,
@@ -48,17 +49,18 @@ fn lines(path: &Path, image: &[u8]) -> Result<String, Refusal> {
     Ok(text)
 }
 
-/// Name and number of the disk, count of files, free sectors.
+/// Name and number of the disk, count of files, free sectors, bad blocks.
 fn heading(image: &[u8], files: usize) -> Result<String, Refusal> {
-    let counts = first_track(image.get(..FIRST_TRACK_LEN).unwrap_or_default())?;
+    let counts = counts::of(image)?;
     let name = image.get(4..14).unwrap_or_default();
     let plural = if files == 1 { "" } else { "s" };
     Ok(format!(
-        "disk \"{}\", number {}, {files} file{plural}, {} of {} sectors free",
+        "disk \"{}\", number {}, {files} file{plural}, {} of {} sectors free{}",
         names::shown(name.trim_ascii_end()),
         value(image, 14..16),
         counts.free,
-        counts.good
+        counts.good,
+        counts::bad_blocks(counts)
     ))
 }
 

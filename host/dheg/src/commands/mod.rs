@@ -1,6 +1,7 @@
 //! The commands, a file each.
 
 mod check;
+mod counts;
 mod edit;
 mod format;
 mod get;

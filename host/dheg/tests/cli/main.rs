@@ -1,5 +1,6 @@
 //! The built tool, run in folders of its own.
 
+mod bad_blocks;
 mod bench;
 mod edit;
 mod files;

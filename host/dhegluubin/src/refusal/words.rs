@@ -30,6 +30,7 @@ impl Refusal {
             Refusal::BufferTooShort { .. } => "buffer too short",
             Refusal::Misread => "rewritten, the image would be misread",
             Refusal::WrongCode { .. } => "wrong code",
+            Refusal::GoodWord => "good-sector word does not fit the map",
             Refusal::Unknown { .. } => "unknown answer",
         }
     }
@@ -63,7 +64,8 @@ impl fmt::Display for Refusal {
             | Refusal::Argument
             | Refusal::NoSuchName
             | Refusal::TooFewBlocks
-            | Refusal::Misread => Ok(()),
+            | Refusal::Misread
+            | Refusal::GoodWord => Ok(()),
         }
     }
 }
@@ -77,7 +79,7 @@ mod tests {
     }
 
     /// An answer of each number, in words.
-    const IN_WORDS: [([usize; 4], &str); 20] = [
+    const IN_WORDS: [([usize; 4], &str); 21] = [
         ([1, 1, 0, 0], "refused 1: HFE image of a wrong length"),
         (
             [1, 2, 0, 0],
@@ -128,8 +130,12 @@ mod tests {
             "refused 18: wrong code at track 40, side 1, byte 12499",
         ),
         (
-            [19, 1, 2, 3],
-            "refused 19: unknown answer with places 1, 2, 3",
+            [19, 0, 0, 0],
+            "refused 19: good-sector word does not fit the map",
+        ),
+        (
+            [20, 1, 2, 3],
+            "refused 20: unknown answer with places 1, 2, 3",
         ),
     ];
 

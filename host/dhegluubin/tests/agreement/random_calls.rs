@@ -3,7 +3,7 @@
 //!
 //! `DHEG_CASES=100000 cargo test -p dhegluubin random_calls` makes as many.
 
-use crate::file_layer::{both as files, random_tails};
+use crate::file_layer::{both as files, random_bad, random_list, random_tails, set_word};
 use crate::sector_layer::both as sectors;
 use crate::sector_layer::build::{empty_tracks, packed, sides, track_0};
 use crate::sector_layer::coded::random::random_bytes as bytes_and_codes;
@@ -19,12 +19,13 @@ use support::noise::{noise, Generator};
 const USUAL: u32 = 1500;
 
 /// All that are made.
-const CALLS: [&str; 11] = [
+const CALLS: [&str; 12] = [
     "unpack",
     "pack",
     "rewrite",
     "place",
     "format",
+    "format_bad",
     "check",
     "list",
     "read",
@@ -91,9 +92,10 @@ fn damage(generator: &mut Generator, bytes: &mut Vec<u8>) {
 }
 
 /// The disk that calls have left so far, also with other tails in its free
-/// records (§6.9), or one that is damaged or random.
+/// records, with more bad blocks (§6.9) and with another good word (§6.18), or
+/// one that is damaged or random.
 fn random_image(generator: &mut Generator, disk: &[u8]) -> Vec<u8> {
-    match generator.below(8) {
+    match generator.below(10) {
         0 => {
             let len = random_len(generator);
             random_bytes(generator, len)
@@ -106,6 +108,16 @@ fn random_image(generator: &mut Generator, disk: &[u8]) -> Vec<u8> {
         5 => {
             let mut image = disk.to_vec();
             random_tails(generator, &mut image);
+            image
+        }
+        6 => {
+            let mut image = disk.to_vec();
+            random_bad(generator, &mut image);
+            image
+        }
+        7 => {
+            let mut image = disk.to_vec();
+            set_word(&mut image, 22, 3 * generator.below(481));
             image
         }
         _ => disk.to_vec(),
@@ -222,6 +234,17 @@ fn rewrite(generator: &mut Generator, track: &[Vec<u8>; 2]) -> Made {
     )
 }
 
+/// A list of bad blocks; now and then an entry of it is any number.
+fn random_bad_list(generator: &mut Generator) -> Vec<u16> {
+    let mut bad = random_list(generator, 60);
+    if generator.below(3) == 0 {
+        let wrong = generator.below(65_536) as u16;
+        let place = generator.below(bad.len() + 1);
+        bad.insert(place, *generator.choice(&[0, 1, 480, wrong]));
+    }
+    bad
+}
+
 /// A call on a block image; what an accepted one leaves is the next disk.
 fn file_call(generator: &mut Generator, disk: &mut Vec<u8>) -> Made {
     let mut image = random_image(generator, disk);
@@ -232,12 +255,17 @@ fn file_call(generator: &mut Generator, disk: &mut Vec<u8>) -> Made {
             let number = generator.below(65_536) as u16;
             ("format", files::format(&mut image, &name, number))
         }
-        1..=5 => {
+        1..=2 => {
+            let (bad, number) = (random_bad_list(generator), name.len() as u16);
+            let reply = files::format_bad(&mut image, &name, number, &bad);
+            ("format_bad", reply)
+        }
+        3..=6 => {
             let len = *generator.choice(&[FIRST_TRACK_LEN, len]);
             let track = &image[..len.min(image.len())];
             ("first_track", files::first_track(track).0)
         }
-        6..=13 => ("check", files::check(&image)),
+        7..=13 => ("check", files::check(&image)),
         14..=24 => {
             let buffer = random_bytes(generator, len);
             ("list", files::list(&image, &buffer).0)
@@ -289,9 +317,11 @@ fn random_calls() {
 
 /// Asserts that each call was done and refused, but for unpacking: that is
 /// never tried on a whole good disk, which takes long. Wrong codes are among
-/// what it was refused for.
+/// what it was refused for, wrong good words among those of a disk.
 fn assert_done_and_refused(counts: &BTreeMap<Made, u32>) {
-    assert!(counts.contains_key(&("unpack", 18)));
+    for made in [("unpack", 18), ("check", 19), ("add", 19), ("remove", 19)] {
+        assert!(counts.contains_key(&made), "{made:?}");
+    }
     for call in CALLS {
         let numbers = || counts.keys().filter(|made| made.0 == call);
         let done = call == "unpack" || numbers().any(|made| made.1 == 0);

@@ -28,4 +28,7 @@ dheg_reply unpack(void);
 /* In version_3.c: the calls on an HFE image of version 3. */
 void version_3(void);
 
+/* In bad_blocks.c: formats with bad blocks, and calls on such a disk. */
+void bad_blocks(void);
+
 #endif

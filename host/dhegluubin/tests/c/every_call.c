@@ -1,5 +1,5 @@
 /* Calls every function of the library, good and refused, and compares replies and lent bytes. What is
- * asked of version 3 images stands in version_3.c. */
+ * asked of version 3 images stands in version_3.c, of bad blocks in bad_blocks.c. */
 
 #define _DEFAULT_SOURCE /* for mmap */
 
@@ -352,6 +352,7 @@ int main(void)
     wrong_disks();
     free_tail();
     first_track();
+    bad_blocks();
     hfe_images();
     version_3();
     rewriting();

@@ -18,11 +18,15 @@
 #define PAINT 0xA7
 #define FILES 459
 
+/* Entries of the list of bad blocks, more than there are blocks. */
+#define BAD_COUNT 1000
+
 /* Where the directory begins in the image: block 1 stands in image sector 9. */
 #define DIRECTORY (9 * 512)
 
 static uint8_t image[DHEG_IMAGE_LEN], other[DHEG_IMAGE_LEN], hfe[DHEG_HFE_LEN];
 static uint8_t content[DHEG_IMAGE_LEN], out[DHEG_IMAGE_LEN];
+static uint16_t bad[BAD_COUNT];
 
 /* The name of the n-th file. Names of one length differ in a few letters. */
 static const uint8_t *name_of(size_t n)
@@ -56,6 +60,8 @@ CALL(pack, dheg_pack(image, sizeof image, hfe, sizeof hfe))
 CALL(rewrite, dheg_rewrite(hfe, sizeof hfe, 40, 1, sector, content, DHEG_SECTOR_LEN))
 CALL(place, dheg_place(479, 2))
 CALL(format, dheg_format(image, sizeof image, (const uint8_t *)"STAGE", 5, 7))
+CALL(format_bad,
+     dheg_format_bad(image, sizeof image, (const uint8_t *)"STAGE", 5, 7, bad, BAD_COUNT))
 CALL(check, dheg_check(image, sizeof image))
 CALL(list, dheg_list(image, sizeof image, out, length))
 CALL(read, dheg_read(image, sizeof image, name_of(file), NAME_LEN, out, sizeof out))
@@ -102,6 +108,7 @@ enum {
     REWRITE,
     PLACE,
     FORMAT,
+    FORMAT_BAD,
     CHECK,
     LIST,
     READ,
@@ -112,11 +119,12 @@ enum {
 };
 
 static const char *const names[COUNT] = {
-    "dheg_unpack", "dheg_unpack, version 3", "dheg_pack",   "dheg_rewrite",
-    "dheg_place",  "dheg_format",            "dheg_check",  "dheg_list",
-    "dheg_read",   "dheg_add",               "dheg_remove", "dheg_first_track"};
-static void *(*const calls[COUNT])(void *) = {unpack, unpack, pack, rewrite, place, format,
-                                              check,  list,   read, add,     take,  first_track};
+    "dheg_unpack", "dheg_unpack, version 3", "dheg_pack",       "dheg_rewrite", "dheg_place",
+    "dheg_format", "dheg_format_bad",        "dheg_check",      "dheg_list",    "dheg_read",
+    "dheg_add",    "dheg_remove",            "dheg_first_track"};
+static void *(*const calls[COUNT])(void *) = {unpack,     unpack, pack, rewrite, place, format,
+                                              format_bad, check,  list, read,    add,   take,
+                                              first_track};
 static size_t most[COUNT];
 
 /* What a thread uses without a call. */
@@ -197,6 +205,29 @@ static void rewrite_sectors(void)
     measure(REWRITE, 0);
 }
 
+/* Disks with bad blocks: a list of all blocks from 2 on, some of them more than once; one with a wrong
+ * number at its end; and the highest blocks alone, with a file beside them. */
+static void format_with_bad(void)
+{
+    size_t i;
+
+    for (i = 0; i < BAD_COUNT; i++)
+        bad[i] = (uint16_t)(479 - i % 478);
+    measure(FORMAT_BAD, 1);
+    length = 1;
+    measure(ADD, 0);
+    bad[BAD_COUNT - 1] = 480;
+    measure(FORMAT_BAD, 0);
+    for (i = 0; i < BAD_COUNT; i++)
+        bad[i] = (uint16_t)(479 - i % 100);
+    measure(FORMAT_BAD, 1);
+    file = 0;
+    length = 300 * 1536;
+    measure(ADD, 1);
+    measure_readers(1);
+    measure(REMOVE, 1);
+}
+
 /* One file that takes all blocks. */
 static void one_file(void)
 {
@@ -235,6 +266,7 @@ int main(void)
     measure_readers(0);
     measure(ADD, 0);
     measure(REMOVE, 0);
+    format_with_bad();
     one_file();
     measure(PACK, 1);
     rewrite_sectors();

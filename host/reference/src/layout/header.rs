@@ -21,15 +21,14 @@ pub const UPDATES: usize = 16;
 /// Offset of the free word (§6.4).
 pub const FREE: usize = 20;
 
-/// Offset of the good word.
+/// Offset of the good word (§6.18).
 pub const GOOD: usize = 22;
 
 /// Offset of the directory's length: blocks, then bytes over (§6.6).
 pub const DIRECTORY_LEN: usize = 34;
 
-/// The header's words from 22 to 32 that are the same on every disk (§6.5).
-pub const FIXED_WORDS: [(usize, usize); 6] = [
-    (GOOD, SECTORS),
+/// The header's words that are the same on every disk (§6.5).
+pub const FIXED_WORDS: [(usize, usize); 5] = [
     (24, SECTORS),
     (26, SECTORS_PER_SIDE),
     (28, SECTORS_PER_TRACK),
@@ -59,6 +58,8 @@ pub struct Header {
     pub updates: u32,
     /// The free word.
     pub free: usize,
+    /// The good word.
+    pub good: usize,
     /// The directory's length in bytes.
     pub directory_len: usize,
 }
@@ -74,6 +75,7 @@ impl Header {
         header[14..16].copy_from_slice(&self.number.to_be_bytes());
         header[UPDATES..UPDATES + 4].copy_from_slice(&self.updates.to_be_bytes());
         set_word(&mut header, FREE, self.free);
+        set_word(&mut header, GOOD, self.good);
         for (offset, word) in FIXED_WORDS {
             set_word(&mut header, offset, word);
         }

@@ -14,6 +14,8 @@ pub const FILE_NUMBERS: usize = (FIRST_NO_FILE as usize) << 4;
 pub enum Record {
     /// The block is free.
     Free,
+    /// The block is bad: no file is given it.
+    Bad,
     /// The block holds header and map.
     System,
     /// The block is the one with this sequence number in the file.
@@ -27,10 +29,11 @@ pub enum Record {
 
 impl Record {
     /// The record in these three bytes, if they are one. What follows FD is
-    /// not looked at (§6.9).
+    /// not looked at; what follows FE is (§6.9).
     pub fn read(bytes: [u8; RECORD_LEN]) -> Option<Record> {
         match bytes {
             [0xFD, _, _] => Some(Record::Free),
+            [0xFE, 0xFF, 0xFF] => Some(Record::Bad),
             [0xF8, 0x00, 0x00] => Some(Record::System),
             [FIRST_NO_FILE..=0xFF, _, _] => None,
             [first, second, third] => {
@@ -47,6 +50,7 @@ impl Record {
     pub fn bytes(self) -> [u8; RECORD_LEN] {
         match self {
             Record::Free => [0xFD, 0xFF, 0xFF],
+            Record::Bad => [0xFE, 0xFF, 0xFF],
             Record::System => [0xF8, 0x00, 0x00],
             Record::File { file, sequence } => [
                 (file >> 4) as u8,

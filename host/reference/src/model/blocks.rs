@@ -9,13 +9,15 @@ pub fn blocks_for(data_len: usize) -> usize {
     (data_len + SLOT_LEN).div_ceil(BLOCK_LEN)
 }
 
-/// The free word: 3 x (479 - D - S), with D = 1 + P / 24 (§9.7).
-pub fn word(most_present: usize, file_blocks: usize) -> i64 {
-    let directory_blocks = 1 + most_present / SLOTS_PER_BLOCK;
-    3 * (479 - directory_blocks as i64 - file_blocks as i64)
-}
-
 impl Model {
+    /// The free word, were P and S these: 3 x (479 - B - D - S), with D = 1 + P / 24
+    /// blocks of the directory (§9.7).
+    pub(super) fn word(&self, most_present: usize, file_blocks: usize) -> i64 {
+        let directory_blocks = 1 + most_present / SLOTS_PER_BLOCK;
+        let taken = self.bad_blocks.len() + directory_blocks + file_blocks;
+        3 * (479 - taken as i64)
+    }
+
     /// The blocks of all files present, S (§9.7).
     pub(super) fn file_blocks(&self) -> usize {
         self.files()
@@ -39,12 +41,13 @@ impl Model {
     }
 
     /// The lowest free blocks (§8.11): neither block 0, nor the directory's, nor
-    /// a file's.
+    /// a file's, nor a bad one.
     pub(super) fn lowest_free(&self, count: usize) -> Vec<usize> {
         let mut is_free = [true; BLOCKS];
         is_free[0] = false;
         let of_files = self.files().flat_map(|(_, file)| &file.blocks);
-        for &block in self.directory_blocks.iter().chain(of_files) {
+        let of_directory = self.directory_blocks.iter();
+        for &block in of_directory.chain(of_files).chain(&self.bad_blocks) {
             is_free[block] = false;
         }
         let free: Vec<usize> = (0..BLOCKS).filter(|&block| is_free[block]).collect();

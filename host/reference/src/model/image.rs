@@ -41,13 +41,15 @@ impl Model {
         blocks
     }
 
-    /// The header; the directory has slot 0 and these P slots (§9.5).
+    /// The header; the directory has slot 0 and these P slots (§9.5). The good
+    /// word is 1440 - 3 x B (§6.18).
     fn header(&self) -> Header {
         Header {
             name: self.name.clone(),
             number: self.number,
             updates: self.updates,
             free: self.free_word(),
+            good: 1440 - 3 * self.bad_blocks.len(),
             directory_len: SLOT_LEN * (1 + self.slots.len()),
         }
     }
@@ -56,6 +58,9 @@ impl Model {
     fn records(&self) -> Vec<Record> {
         let mut records = vec![Record::Free; BLOCKS];
         records[0] = Record::System;
+        for &block in &self.bad_blocks {
+            records[block] = Record::Bad;
+        }
         for (sequence, &block) in self.directory_blocks.iter().enumerate() {
             records[block] = Record::File { file: 0, sequence };
         }

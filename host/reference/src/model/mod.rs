@@ -12,7 +12,8 @@ use crate::geometry::BLOCK_LEN;
 use crate::layout::entry::{Entry, SLOT_LEN};
 use crate::names::lowered;
 use crate::reply::Reply;
-use blocks::{blocks_for, word};
+use blocks::blocks_for;
+use std::collections::BTreeSet;
 
 /// Slots of the directory in a block.
 const SLOTS_PER_BLOCK: usize = BLOCK_LEN / SLOT_LEN;
@@ -42,6 +43,8 @@ impl File {
 pub struct Model {
     name: Vec<u8>,
     number: u16,
+    /// The different blocks in the format's list; there are B of them (§9.7).
+    bad_blocks: BTreeSet<usize>,
     /// Slot 1 first; an empty slot is `None`.
     slots: Vec<Option<File>>,
     directory_blocks: Vec<usize>,
@@ -67,12 +70,21 @@ fn deliver(result: &[u8], buffer: &mut [u8]) -> Reply {
 }
 
 impl Model {
-    /// The model of an accepted format (§9.2), or nothing for a name over 10
-    /// bytes.
+    /// The model of an accepted format without bad blocks (§9.2), or nothing for
+    /// a name over 10 bytes.
     pub fn format(name: &[u8], number: u16) -> Option<Model> {
-        (name.len() <= 10).then(|| Model {
+        Model::format_bad(name, number, &[])
+    }
+
+    /// The model of an accepted format (§9.2), or nothing for a name over 10
+    /// bytes or a list in which a block is not 2 to 479.
+    pub fn format_bad(name: &[u8], number: u16, bad: &[u16]) -> Option<Model> {
+        let bad_blocks: BTreeSet<usize> = bad.iter().copied().map(usize::from).collect();
+        let accepted = name.len() <= 10 && bad_blocks.iter().all(|block| (2..480).contains(block));
+        accepted.then(|| Model {
             name: name.to_vec(),
             number,
+            bad_blocks,
             slots: Vec::new(),
             directory_blocks: vec![1],
             most_present: 0,
@@ -88,7 +100,7 @@ impl Model {
 
     /// The free word (§9.7).
     pub fn free_word(&self) -> usize {
-        let word = word(self.most_present, self.file_blocks());
+        let word = self.word(self.most_present, self.file_blocks());
         usize::try_from(word).expect("never below zero")
     }
 
@@ -104,7 +116,7 @@ impl Model {
         let present = self.files().count() + 1;
         let most_present = self.most_present.max(present);
         let count = blocks_for(data.len());
-        if word(most_present, self.file_blocks() + count) < 0 {
+        if self.word(most_present, self.file_blocks() + count) < 0 {
             return refused(15, 0);
         }
         let slot = self.open_slot();

@@ -25,6 +25,12 @@ pub fn format(image: &mut [u8], name: &[u8], number: u16) -> Parts {
     lent(image, |image| reference::format(image, name, number))
 }
 
+pub fn format_bad(image: &mut [u8], name: &[u8], number: u16, bad: &[u16]) -> Parts {
+    lent(image, |image| {
+        reference::format_bad(image, name, number, bad)
+    })
+}
+
 pub fn add(image: &mut [u8], name: &[u8], date: u32, data: &[u8]) -> Parts {
     lent(image, |image| reference::add(image, name, date, data))
 }

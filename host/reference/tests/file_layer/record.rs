@@ -22,8 +22,6 @@ fn kinds_of_record() {
         [0xF8, 0x01, 0x00],
         [0xF9, 0x00, 0x00],
         [0xFC, 0xFF, 0xFF],
-        [0xFE, 0x00, 0x00],
-        [0xFE, 0xFF, 0xFF],
         [0xFF, 0xFF, 0xFF],
     ] {
         assert_eq!(Record::read(none), None, "{none:02X?}");
@@ -46,6 +44,17 @@ fn free_by_the_first_byte() {
     assert_eq!(Record::Free.bytes(), [0xFD, 0xFF, 0xFF]);
 }
 
+/// FE is bad with the tail FF FF, and of no kind with every other (§6.9).
+#[test]
+fn bad_by_all_three_bytes() {
+    for tail in 0..=0xFFFFu16 {
+        let [second, third] = tail.to_be_bytes();
+        let expected = (tail == 0xFFFF).then_some(Record::Bad);
+        let read = Record::read([0xFE, second, third]);
+        assert_eq!(read, expected, "tail {tail:04X}");
+    }
+}
+
 #[test]
 fn bytes_and_back() {
     for file in [0, 1, 0x00F, 0x010, 0x123, 0xF7F] {
@@ -54,7 +63,7 @@ fn bytes_and_back() {
             assert_eq!(Record::read(record.bytes()), Some(record));
         }
     }
-    for record in [Record::Free, Record::System] {
+    for record in [Record::Free, Record::Bad, Record::System] {
         assert_eq!(Record::read(record.bytes()), Some(record));
     }
 }

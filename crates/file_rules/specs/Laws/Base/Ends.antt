@@ -22,7 +22,7 @@ use Rattle.sector_rules.specs.declared.Fault.the-variants.{At, Sound}
 use Rattle.sector_rules.specs.Faults.{faultBelow, refusalAt}
 use Rattle.sector_rules.specs.Geometry.{blocks}
 use Rattle.file_rules.specs.declared.Record.{Record}
-use Rattle.file_rules.specs.declared.Record.the-variants.{Free, System, File, Other}
+use Rattle.file_rules.specs.declared.Record.the-variants.{Free, Bad, System, File, Other}
 use Rattle.file_rules.specs.Check.{partsRight, fileRight, fileFault, refusal8, refusal9, refusal10, refusal11, diskRefusal}
 use Rattle.file_rules.specs.Directory.{dirBytes, dirEnd}
 use Rattle.file_rules.specs.Disk.{Disk}
@@ -34,6 +34,7 @@ use Rattle.file_rules.specs.Sizes.{slotCount, blocksOf}
 
 seqOf : Record → ℕ
 seqOf Free = 0
+seqOf Bad = 0
 seqOf System = 0
 seqOf (File g t) = t
 seqOf Other = 0
@@ -42,6 +43,7 @@ seqOf Other = 0
 other-seq : (f s : ℕ) (r : Record) → s ≢ seqOf r → isPart f s r ≡ false
 unfolding isPart seqOf
 other-seq f s Free h = refl
+other-seq f s Bad h = refl
 other-seq f s System h = refl
 other-seq f s (File g t) h = and-false-right (eqb g f) (eq-false {a = t} {b = s} (λ e. h (sym e)))
 other-seq f s Other h = refl

@@ -19,11 +19,11 @@ use Rattle.sector_rules.specs.declared.Fault.the-variants.{Sound}
 use Rattle.sector_rules.specs.Faults.{refusalAt}
 use Rattle.sector_rules.specs.Geometry.{trackOffset, trackSectors, sidePlace, backward}
 use Rattle.sector_rules.specs.Laws.Base.Geometry.{side-place-length, backward-length}
-use Rattle.file_rules.specs.Arguments.{FormatArguments}
+use Rattle.file_rules.specs.Arguments.{FormatArguments, badBlocks}
 use Rattle.file_rules.specs.Check.{diskSignature, lengthRight, dimensionsFault, diskHeaderFault, refusal8}
 use Rattle.file_rules.specs.Directory.{dirBytes}
 use Rattle.file_rules.specs.Disk.{Disk}
-use Rattle.file_rules.specs.Sizes.{blockBytes, slotBytes, wholeBlocks, bytesOver}
+use Rattle.file_rules.specs.Sizes.{blockBytes, slotBytes, goodSectors, wholeBlocks, bytesOver}
 use Rattle.file_rules.specs.Written.{fixedByte, diskHeaderByte}
 
 -- a header without fault is not refused
@@ -33,14 +33,14 @@ header-none d e = ap (refusalAt 8) e
 
 -- ---- disks that agree in the bytes that are judged
 
-module _ (d g : Disk) (letters : (o : ℕ) → o < 4 → d 0 o ≡ g 0 o) (fields : (o : ℕ) → 22 ≤ o → o < 76 → d 0 o ≡ g 0 o) where
-  bytes-alike : (o : ℕ) (t : List ℕ) → 22 ≤ o → o + length t ≤ 76 → bytesAre (d 0) o t ≡ bytesAre (g 0) o t
+module _ (d g : Disk) (letters : (o : ℕ) → o < 4 → d 0 o ≡ g 0 o) (fields : (o : ℕ) → 24 ≤ o → o < 76 → d 0 o ≡ g 0 o) where
+  bytes-alike : (o : ℕ) (t : List ℕ) → 24 ≤ o → o + length t ≤ 76 → bytesAre (d 0) o t ≡ bytesAre (g 0) o t
   unfolding bytesAre
   bytes-alike o t a l =
       ap (λ (x : List ℕ). same x t)
       (tab-ext (λ (i : ℕ). d 0 (o + i)) (λ (i : ℕ). g 0 (o + i)) (length t) (λ k h. fields (o + k) (omega arith) (omega arith)))
 
-  word-alike : (o : ℕ) → 22 ≤ o → o + 1 < 76 → at16 (d 0) o ≡ at16 (g 0) o
+  word-alike : (o : ℕ) → 24 ≤ o → o + 1 < 76 → at16 (d 0) o ≡ at16 (g 0) o
   unfolding at16 bigEndian
   word-alike o a l =
       ap₂ (λ (x y : ℕ). (0 * 256 + x) * 256 + y) (fields (o + 0) (omega arith) (omega arith)) (fields (o + 1) (omega arith) (omega arith))
@@ -63,7 +63,7 @@ module _ (d g : Disk) (letters : (o : ℕ) → o < 4 → d 0 o ≡ g 0 o) (field
   pub judged-alike : diskHeaderFault d ≡ diskHeaderFault g
   unfolding diskHeaderFault dimensionsFault lengthRight
   judged-alike =
-      rw (signature-alike, word-alike 22 (lit≤ tt) (lit< tt), word-alike 24 (lit≤ tt) (lit< tt), word-alike 26 (lit≤ tt) (lit< tt))
+      rw (signature-alike, word-alike 24 (lit≤ tt) (lit< tt), word-alike 26 (lit≤ tt) (lit< tt))
       (rw (word-alike 28 (lit≤ tt) (lit< tt), word-alike 30 (lit≤ tt) (lit< tt), word-alike 32 (lit≤ tt) (lit< tt), word-alike 36 (lit≤ tt) (lit< tt))
       (rw (word-alike 38 (lit≤ tt) (lit< tt), length-alike, tables-alike .0, tables-alike .1)))
 
@@ -84,6 +84,11 @@ module _ (args : FormatArguments) (updates word end : ℕ) where
   pub at-20 : word < 65536 → at16 written 20 ≡ word
   unfolding at16 bigEndian diskHeaderByte patch
   at-20 h = high2-at word h
+
+  -- its good word
+  pub at-22 : at16 written 22 ≡ goodSectors (badBlocks (args .bad))
+  unfolding at16 bigEndian diskHeaderByte fixedByte patch
+  at-22 = high2-at (goodSectors (badBlocks (args .bad))) (omega arith)
 
   -- its word of whole directory blocks; a directory of 1,572,863 slots is the longest that the word holds
   pub at-34 : end < 1572864 → at16 written 34 ≡ wholeBlocks end
@@ -123,8 +128,8 @@ module _ (args : FormatArguments) (updates word end : ℕ) where
       and-true (lt-true {a = at16 written 36} {b = blockBytes} (omega (arith, at-36)))
       (and-true (eq-true {a = bytes % slotBytes} {b = 0} (ap (λ (x : ℕ). x % slotBytes) is ∙ omega arith)) (le-true {a = slotBytes} {b = bytes} (omega arith)))
 
-  -- a disk that has its letters, and its bytes 22 to 75, passes 8, whatever stands in the others
-  pub header-passes : 1 ≤ end → end < 1572864 → (d : Disk) → ((o : ℕ) → o < 4 → d 0 o ≡ written o) → ((o : ℕ) → 22 ≤ o → o < 76 → d 0 o ≡ written o)
+  -- a disk that has its letters, and its bytes 24 to 75, passes 8, whatever stands in the others
+  pub header-passes : 1 ≤ end → end < 1572864 → (d : Disk) → ((o : ℕ) → o < 4 → d 0 o ≡ written o) → ((o : ℕ) → 24 ≤ o → o < 76 → d 0 o ≡ written o)
       → diskHeaderFault d ≡ Sound
   unfolding diskHeaderFault
   header-passes a b d letters fields =

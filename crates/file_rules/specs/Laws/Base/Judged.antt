@@ -1,4 +1,4 @@
--- What a reply of check, or of the first track, tells of the disk: done, 9 or 11.
+-- What a reply of check, or of the first track, tells of the disk: done, 9, 19 or 11.
 -- Rests on calls that judge a disk first (OnSound), on what a sound disk has (Sound) and on the first track (Track).
 use mathlib.Core.Path.{_≡_, refl, sym, ap, _∙_, subst}
 use mathlib.Core.Logic.{_≢_}
@@ -9,7 +9,7 @@ use Prim.Native.Nat.{ℕ}
 use native.Mathlib.Omega.{arith}
 use lib.ListN.{length, take}
 use Rattle.laws.specs.Options.{orElse}
-use Rattle.laws.specs.Laws.Cases.{by-order, by-equal, by-test}
+use Rattle.laws.specs.Laws.Cases.{by-order, by-equal, by-test, by-cond}
 use Rattle.laws.specs.Laws.Tests.{lt-true, lt-false, cond-true, cond-false}
 use Rattle.laws.specs.Laws.Lowest.{lowest-hit, lowest-here}
 use Rattle.sector_rules.specs.declared.Reply.{Reply}
@@ -20,8 +20,8 @@ use Rattle.sector_rules.specs.Geometry.{blocks, imageBytes}
 use Rattle.sector_rules.specs.Replies.{replyWith, done, refusal}
 use Rattle.file_rules.specs.declared.FirstTrack.{FirstTrack}
 use Rattle.file_rules.specs.Calls.{unless, check}
-use Rattle.file_rules.specs.Check.{diskHeaderFault, recordFault, mapFault, fileFault, freeRight}
-use Rattle.file_rules.specs.Check.{refusal8, refusal9, startRefusal, refusal10, refusal11, diskRefusal}
+use Rattle.file_rules.specs.Check.{diskHeaderFault, recordFault, mapFault, fileFault, goodRight, freeRight}
+use Rattle.file_rules.specs.Check.{refusal8, refusal9, refusal19, startRefusal, refusal10, refusal11, diskRefusal}
 use Rattle.file_rules.specs.Disk.{Disk, diskOf}
 use Rattle.file_rules.specs.FirstTrack.{refusedTrack, counted, firstTrackResult}
 use Rattle.file_rules.specs.Laws.Base.OnSound.{sound-length, sound-refused, sound-passed}
@@ -95,14 +95,17 @@ module _ (image : List ℕ) where
   unfolding refusal9
   nine-number = at-number 9 (faultBelow blocks (mapFault d))
 
+  nineteen-number : Numbered 19 (refusal19 d)
+  unfolding refusal19
+  nineteen-number = by-cond (Numbered 19) (goodRight d) none (some (refusal 19)) (λ t. tt) (λ t. refl)
+
   ten-number : Numbered 10 (refusal10 d)
   unfolding refusal10
   ten-number = at-number 10 (faultBelow slotCount (fileFault d))
 
   eleven-number : Numbered 11 (refusal11 d)
   unfolding refusal11
-  eleven-number = by-test (freeRight d)
-      (λ t. subst (Numbered 11) (sym (cond-true none (some (refusal 11)) t)) tt) (λ t. subst (Numbered 11) (sym (cond-false none (some (refusal 11)) t)) refl)
+  eleven-number = by-cond (Numbered 11) (freeRight d) none (some (refusal 11)) (λ t. tt) (λ t. refl)
 
   -- a refusal of neither 10 nor 11 is one that a judgement begins with
   start-given : (r : Reply) → r .number ≢ 10 → r .number ≢ 11 → diskRefusal d ≡ some r → startRefusal d ≡ some r
@@ -111,15 +114,23 @@ module _ (image : List ℕ) where
       or-first (startRefusal d) _ r e
       (λ z. other-number 11 (refusal11 d) r eleven-number m (or-second (refusal10 d) _ r z (other-number 10 (refusal10 d) r ten-number n)))
 
-  -- of these, one that is not 8 is 9's
-  nine-of-start : (r : Reply) → r .number ≢ 8 → startRefusal d ≡ some r → refusal9 d ≡ some r
+  -- of these, one that is not 8 is 9's or 19's
+  start-after-eight : (r : Reply) → r .number ≢ 8 → startRefusal d ≡ some r → orElse (refusal9 d) (refusal19 d) ≡ some r
   unfolding startRefusal refusal8
-  nine-of-start r n e = or-second (refusal8 d) (refusal9 d) r e (other-number 8 (refusal8 d) r (at-number 8 (diskHeaderFault d)) n)
+  start-after-eight r n e = or-second (refusal8 d) _ r e (other-number 8 (refusal8 d) r (at-number 8 (diskHeaderFault d)) n)
+
+  nine-of-start : (r : Reply) → r .number ≢ 8 → r .number ≢ 19 → startRefusal d ≡ some r → refusal9 d ≡ some r
+  nine-of-start r n m e =
+      or-first (refusal9 d) (refusal19 d) r (start-after-eight r n e) (other-number 19 (refusal19 d) r nineteen-number m)
+
+  nineteen-of-start : (r : Reply) → r .number ≢ 8 → r .number ≢ 9 → startRefusal d ≡ some r → refusal19 d ≡ some r
+  nineteen-of-start r n m e =
+      or-second (refusal9 d) (refusal19 d) r (start-after-eight r n e) (other-number 9 (refusal9 d) r nine-number m)
 
   nine-given : (b : ℕ) → check image ≡ replyWith 9 b 0 0 → refusal9 d ≡ some (replyWith 9 b 0 0)
   nine-given b e =
       let r : Reply = replyWith 9 b 0 0 in
-      nine-of-start r (λ z. omega arith)
+      nine-of-start r (λ z. omega arith) (λ z. omega arith)
       (start-given r (λ z. omega arith) (λ z. omega arith) (check-refused r (λ z. omega arith) (λ z. omega arith) e))
 
   -- 9 names a block whose record is wrong
@@ -143,6 +154,37 @@ module _ (image : List ℕ) where
       let nine : refusal9 d ≡ some (replyWith 9 0 0 0) = ap (λ (m : ℕ). refusalAt 9 (faultBelow blocks m)) at in
       sound-refused image _ _ long (replyWith 9 0 0 0) (rw (right, nine))
 
+  -- where 19 is not given, the good word is right
+  pub passed-nineteen : refusal19 d ≡ none → goodRight d ≡ true
+  unfolding refusal19
+  passed-nineteen e = by-test (goodRight d) (λ t. t) (λ t. none-some (refusal 19) (sym e ∙ cond-false none (some (refusal 19)) t))
+
+  -- where 19 is given, it is wrong
+  pub nineteen-wrong : check image ≡ refusal 19 → goodRight d ≡ false
+  unfolding refusal19
+  nineteen-wrong e =
+      let r : Reply = refusal 19 in
+      let given : refusal19 d ≡ some r =
+      nineteen-of-start r (λ z. omega arith) (λ z. omega arith)
+      (start-given r (λ z. omega arith) (λ z. omega arith) (check-refused r (λ z. omega arith) (λ z. omega arith) e)) in
+      by-test (goodRight d) (λ t. none-some r (sym (cond-true none (some (refusal 19)) t) ∙ given)) (λ t. t)
+
+  -- where 8 and 9 pass and the good word is wrong, 19 is what a judgement begins with
+  wrong-start : refusal8 d ≡ none → refusal9 d ≡ none → goodRight d ≡ false → startRefusal d ≡ some (refusal 19)
+  unfolding startRefusal orElse refusal19
+  wrong-start a b wrong = let given : refusal19 d ≡ some (refusal 19) = cond-false none (some (refusal 19)) wrong in rw (a, b, given)
+
+  -- so check gives it
+  pub nineteen-check : length image ≡ imageBytes → refusal8 d ≡ none → refusal9 d ≡ none → goodRight d ≡ false → check image ≡ refusal 19
+  unfolding check diskRefusal orElse
+  nineteen-check long a b wrong = sound-refused image _ _ long (refusal 19) (rw (wrong-start a b wrong))
+
+  -- and the first track
+  pub nineteen-track : length image ≡ imageBytes → refusal8 d ≡ none → refusal9 d ≡ none → goodRight d ≡ false
+      → firstTrackResult (take 9216 image) ≡ refusedTrack (refusal 19)
+  unfolding judgedFirst orElse unless
+  nineteen-track long a b wrong = track-is image long ∙ rw (wrong-start a b wrong)
+
   -- where 11 is not given, the free word is right
   pub passed-eleven : refusal11 d ≡ none → freeRight d ≡ true
   unfolding refusal11
@@ -152,12 +194,12 @@ module _ (image : List ℕ) where
   pub word-right : diskRefusal d ≡ none → freeRight d ≡ true
   word-right e = passed-eleven (sound-eleven d e)
 
-  -- a refusal of neither 8, 9 nor 10 is 11's
-  eleven-given : (r : Reply) → r .number ≢ 8 → r .number ≢ 9 → r .number ≢ 10 → diskRefusal d ≡ some r → refusal11 d ≡ some r
+  -- a refusal of neither 8, 9, 19 nor 10 is 11's
+  eleven-given : (r : Reply) → r .number ≢ 8 → r .number ≢ 9 → r .number ≢ 19 → r .number ≢ 10 → diskRefusal d ≡ some r → refusal11 d ≡ some r
   unfolding diskRefusal
-  eleven-given r n m k e =
+  eleven-given r n m j k e =
       let rest : orElse (refusal10 d) (refusal11 d) ≡ some r =
-      or-second (startRefusal d) _ r e (λ z. other-number 9 (refusal9 d) r nine-number m (nine-of-start r n z)) in
+      or-second (startRefusal d) _ r e (λ z. other-number 9 (refusal9 d) r nine-number m (nine-of-start r n j z)) in
       or-second (refusal10 d) _ r rest (other-number 10 (refusal10 d) r ten-number k)
 
   -- where 11 is given, it is wrong
@@ -166,7 +208,7 @@ module _ (image : List ℕ) where
   eleven-wrong e =
       let r : Reply = refusal 11 in
       let given : refusal11 d ≡ some r =
-      eleven-given r (λ z. omega arith) (λ z. omega arith) (λ z. omega arith) (check-refused r (λ z. omega arith) (λ z. omega arith) e) in
+      eleven-given r (λ z. omega arith) (λ z. omega arith) (λ z. omega arith) (λ z. omega arith) (check-refused r (λ z. omega arith) (λ z. omega arith) e) in
       by-test (freeRight d) (λ t. none-some r (sym (cond-true none (some (refusal 11)) t) ∙ given)) (λ t. t)
 
   -- ---- the first track

@@ -2,7 +2,7 @@
 -- Rests on the laws of numbers in bytes and of changed rows (laws, Numbers and Changes).
 use mathlib.Core.Path.{_≡_, refl, sym, ap, ap₂, _∙_}
 use mathlib.Core.Logic.{_≢_}
-use mathlib.Core.Bool.{true, false, false≢true}
+use mathlib.Core.Bool.{true, false, cond, false≢true}
 use Prim.Native.Nat.{ℕ, _+_, _-_, _*_, _/_, _%_, _<_}
 use native.Mathlib.Omega.{arith}
 use lib.Dec.{eqb}
@@ -13,10 +13,10 @@ use Rattle.laws.specs.Laws.Tests.{lt-true, lt-false, eq-true, eq-false, true-eq
 use Rattle.laws.specs.Laws.Changes.{upd₂-same, patch-in, patch-below, patch-above}
 use Rattle.laws.specs.Laws.Numbers.{high-is}
 use Rattle.file_rules.specs.declared.Record.{Record}
-use Rattle.file_rules.specs.declared.Record.the-variants.{Free, System, File, Other}
+use Rattle.file_rules.specs.declared.Record.the-variants.{Free, Bad, System, File, Other}
 use Rattle.file_rules.specs.Disk.{Disk}
-use Rattle.file_rules.specs.Map.{fileBound, freeByte, tailCount, systemNumber, sequences, decode, numberOf, encode}
-use Rattle.file_rules.specs.Map.{recordByte, numberAt, recordAt, isFree, freeAt}
+use Rattle.file_rules.specs.Map.{fileBound, freeByte, tailCount, badNumber, systemNumber, sequences, decode, numberOf, encode}
+use Rattle.file_rules.specs.Map.{recordByte, numberAt, recordAt, isFree, isBad, freeAt}
 use Rattle.file_rules.specs.Sizes.{mapStart, recordBytes}
 use Rattle.file_rules.specs.Written.{setRecord}
 
@@ -25,6 +25,7 @@ use Rattle.file_rules.specs.Written.{setRecord}
 -- a record that a step can write: of a kind, with file number and sequence that fit its 24 bits (§6.8, §6.9)
 abbrev pub Valid : Record → Type 0
 Valid Free = Unit {0}
+Valid Bad = Unit {0}
 Valid System = Unit {0}
 Valid (File f s) = (f < fileBound / sequences) × (s < sequences)
 Valid Other = ⊥
@@ -33,6 +34,7 @@ Valid Other = ⊥
 pub decode-number : (r : Record) → Valid r → decode (numberOf r) ≡ r
 unfolding decode numberOf
 decode-number Free v = refl
+decode-number Bad v = refl
 decode-number System v = refl
 decode-number (File f s) v =
     let a : (f * sequences + s) / sequences ≡ f = omega (arith, v .0, v .1) in
@@ -44,6 +46,7 @@ decode-number Other v = absurd v
 number-most : (r : Record) → Valid r → numberOf r < 0x1000000
 unfolding numberOf
 number-most Free v = omega arith
+number-most Bad v = omega arith
 number-most System v = omega arith
 number-most (File f s) v = omega (arith, v .0, v .1)
 number-most Other v = absurd v
@@ -59,9 +62,19 @@ decode-bytes f r v e =
 pub free-only : (r : Record) → isFree r ≡ true → r ≡ Free
 unfolding isFree
 free-only Free t = refl
+free-only Bad t = absurd (false≢true t)
 free-only System t = absurd (false≢true t)
 free-only (File f s) t = absurd (false≢true t)
 free-only Other t = absurd (false≢true t)
+
+-- a record that is bad is the bad one
+pub bad-only : (r : Record) → isBad r ≡ true → r ≡ Bad
+unfolding isBad
+bad-only Free t = absurd (false≢true t)
+bad-only Bad t = refl
+bad-only System t = absurd (false≢true t)
+bad-only (File f s) t = absurd (false≢true t)
+bad-only Other t = absurd (false≢true t)
 
 -- the record of a disk's block is free by its first byte alone
 pub free-by-byte : (d : Disk) (b : ℕ) → ((i : ℕ) → i < recordBytes → recordByte d b i < 256) → freeAt d b ≡ eqb (recordByte d b 0) freeByte
@@ -78,7 +91,8 @@ free-by-byte d b h =
     (λ t. ap isFree (cond-true _ _ t) ∙ sym (eq-true (sym top ∙ true-eq t)))
     (λ t.
     ap isFree (cond-false _ _ t)
-    ∙ by-cond (λ (r : Record). isFree r ≡ false) (eqb n systemNumber) System Other (λ u. refl) (λ u. refl)
+    ∙ by-cond (λ (r : Record). isFree r ≡ false) (eqb n systemNumber) System (cond (eqb n badNumber) Bad Other) (λ u. refl)
+    (λ u. by-cond (λ (r : Record). isFree r ≡ false) (eqb n badNumber) Bad Other (λ w. refl) (λ w. refl))
     ∙ sym (eq-false (λ e. false-eq t (top ∙ e)))))
 
 -- a record in bytes that begins with FD is the free one

@@ -19,10 +19,10 @@ use Rattle.sector_rules.specs.Faults.{faultBelow, refusalAt}
 use Rattle.sector_rules.specs.Geometry.{blocks}
 use Rattle.file_rules.specs.Disk.{Disk}
 use Rattle.file_rules.specs.declared.Record.{Record}
-use Rattle.file_rules.specs.declared.Record.the-variants.{Free, System, File, Other}
+use Rattle.file_rules.specs.declared.Record.the-variants.{Free, Bad, System, File, Other}
 use Rattle.file_rules.specs.Map.{recordAt, isSystem, isPart, partBlock}
 use Rattle.file_rules.specs.Sizes.{slotCount}
-use Rattle.file_rules.specs.Check.{diskHeaderFault, recordFault, mapFault, fileFault, freeRight, refusal8, refusal9, refusal10, refusal11}
+use Rattle.file_rules.specs.Check.{diskHeaderFault, recordFault, mapFault, fileFault, goodRight, freeRight, refusal8, refusal9, refusal19, refusal10, refusal11}
 use Rattle.file_rules.specs.Check.{startRefusal, diskRefusal}
 
 -- ---- a disk without a refusal
@@ -43,6 +43,7 @@ or-none-right (some x) b e = let z : _≡_ {A = ℕ} 0 1 = cc in absurd (omega a
 system-only : (r : Record) → recordFault 0 r ≡ false → r ≡ System
 unfolding recordFault isSystem
 system-only Free e = true≢false true refl e
+system-only Bad e = true≢false true refl e
 system-only System e = refl
 system-only (File f s) e = true≢false true refl e
 system-only Other e = true≢false true refl e
@@ -59,10 +60,18 @@ first-passed d e =
 
 -- ---- each judgement that was passed
 
--- a disk on which neither 8 nor 9 is found passes 9
-pub start-nine : (d : Disk) → startRefusal d ≡ none → refusal9 d ≡ none
-unfolding startRefusal
-start-nine d e = or-none-right (refusal8 d) (refusal9 d) e
+module _ (d : Disk) (passed : startRefusal d ≡ none) where
+  after-eight : orElse (refusal9 d) (refusal19 d) ≡ none
+  unfolding startRefusal
+  after-eight = or-none-right (refusal8 d) (orElse (refusal9 d) (refusal19 d)) passed
+
+  -- a disk on which neither 8, 9 nor 19 is found passes 9
+  pub start-nine : refusal9 d ≡ none
+  start-nine = or-none-left (refusal9 d) (refusal19 d) after-eight
+
+  -- and 19
+  pub start-nineteen : refusal19 d ≡ none
+  start-nineteen = or-none-right (refusal9 d) (refusal19 d) after-eight
 
 module _ (d : Disk) (sound : diskRefusal d ≡ none) where
   -- a sound disk passes what a judgement begins with
@@ -124,11 +133,12 @@ not-done-eleven d = by-cond NotDone (freeRight d) _ _ (λ t. tt) (λ t e. omega 
 
 -- and what a judgement begins with
 pub not-done-start : (d : Disk) → NotDone (startRefusal d)
-unfolding startRefusal refusal8 refusal9
+unfolding startRefusal refusal8 refusal9 refusal19
 not-done-start d =
-    not-done-or _ _ (not-done-at 8 (λ e. omega arith) (diskHeaderFault d)) (not-done-at 9 (λ e. omega arith) (faultBelow blocks (mapFault d)))
+    not-done-or _ _ (not-done-at 8 (λ e. omega arith) (diskHeaderFault d))
+    (not-done-or _ _ (not-done-at 9 (λ e. omega arith) (faultBelow blocks (mapFault d))) (by-cond NotDone (goodRight d) _ _ (λ t. tt) (λ t e. omega arith)))
 
--- what 8 to 11 refuse gets another number than 0
+-- what the judgement of a disk refuses gets another number than 0
 pub refused-number : (d : Disk) → NotDone (diskRefusal d)
 unfolding diskRefusal refusal10
 refused-number d =

@@ -11,7 +11,7 @@ use Rattle.laws.specs.Laws.Cases.{by-order, by-equal}
 use Rattle.laws.specs.Laws.Tests.{lt-true, lt-false, true≢false, cond-true, cond-false}
 use Rattle.sector_rules.specs.Geometry.{blocks}
 use Rattle.file_rules.specs.declared.Record.{Record}
-use Rattle.file_rules.specs.declared.Record.the-variants.{Free, System, File, Other}
+use Rattle.file_rules.specs.declared.Record.the-variants.{Free, Bad, System, File, Other}
 use Rattle.file_rules.specs.Directory.{dirEnd}
 use Rattle.file_rules.specs.Disk.{Disk}
 use Rattle.file_rules.specs.History.{HasEntry, Belongs, inHead, inSlot, inFile}
@@ -36,6 +36,11 @@ module _ (m : Inner) (b o : ℕ) (pos : 0 < b) (hb : b < blocks) (ho : o < block
   free-zero : m .owner b ≡ Free → render m b o ≡ 0
   unfolding content
   free-zero e = byte-at Free e
+
+  -- a bad block
+  bad-zero : m .owner b ≡ Bad → render m b o ≡ 0
+  unfolding content
+  bad-zero e = byte-at Bad e
 
   -- a vacant slot
   vacant-zero : (s : ℕ) → m .owner b ≡ File 0 s → m .slots (s * blockSlots + o / slotBytes) ≡ none → render m b o ≡ 0
@@ -79,6 +84,7 @@ module _ (m : Inner) (v : Inv m) (fs : List NamedFile) (r : Fills (m .slots) fs)
 
   inside : (b o : ℕ) → 0 < b → b < blocks → o < blockBytes → (Belongs d fs b o → ⊥) → (a : Record) → m .owner b ≡ a → render m b o ≡ 0
   inside b o pos hb ho not-in Free e = free-zero m b o pos hb ho e
+  inside b o pos hb ho not-in Bad e = bad-zero m b o pos hb ho e
   inside b o pos hb ho not-in System e = absurd (omega (arith, v .own .own-system b hb e))
   inside b o pos hb ho not-in Other e = absurd (subst Valid e (v .own .own-valid b hb))
   inside b o pos hb ho not-in (File zero s) e =

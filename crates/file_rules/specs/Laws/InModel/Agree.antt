@@ -26,10 +26,10 @@ use Rattle.file_rules.specs.Calls.{Outcome, bufferKept, freshOwner}
 use Rattle.file_rules.specs.Directory.{nameEq, nameRight}
 use Rattle.file_rules.specs.Histories.{Call, modelOut, modelStep, modelOuts, modelEnd, toAdd, toRemove, toList, toRead}
 use Rattle.file_rules.specs.Laws.OnImages.Slot.{k-pos, k-none, by-growth}
-use Rattle.file_rules.specs.Laws.OnImages.Added.{dir-parts, first-length, owned₁, parts₁-k, parts-after}
+use Rattle.file_rules.specs.Laws.OnImages.Added.{dir-parts, first-length, owned₁, bad₁, parts₁-k, parts-after}
 use Rattle.file_rules.specs.Laws.InnerModel.Fields.{parts-none}
 use Rattle.file_rules.specs.Laws.InnerModel.Reads.{found-slot}
-use Rattle.file_rules.specs.Laws.InnerModel.Inner.{Inner, presentCount, fileBlocks, header, render, emptySlots, innerFormat, innerFind, emptySlot}
+use Rattle.file_rules.specs.Laws.InnerModel.Inner.{Inner, presentCount, fileBlocks, innerBad, header, render, emptySlots, innerFormat, innerFind, emptySlot}
 use Rattle.file_rules.specs.Laws.InnerModel.Inner.{give, freeOf, innerList, innerRead, InnerChanged, innerRefused, innerRemoveAt, innerRemove, growOwner}
 use Rattle.file_rules.specs.Laws.InnerModel.Inner.{peakAfter, innerAddAt, roomFor, innerAdd, innerStep, innerOut, innerOuts, innerEnd}
 use Rattle.file_rules.specs.Laws.InnerModel.Invariant.{partsOf, Inv}
@@ -102,18 +102,19 @@ module _ (m : Model) (o : ℕ → Record) (v : Inv (withOwner m o)) (r : BlocksL
   unfolding withOwner
   past k h = parts-none inner k (v .slot-past k h) (omega arith)
 
-  owner-same : (x : ℕ) → x < blocks → o x ≡ modelRecord (m .slots) (m .dir) (m .peak) x
+  owner-same : (x : ℕ) → x < blocks → o x ≡ modelRecord (m .arguments .bad) (m .slots) (m .dir) (m .peak) x
   unfolding withOwner
-  owner-same x l = sym (owner-is (m .slots) (m .dir) o (partsOf inner) (v .own) r no-zero (m .peak) past x l)
+  owner-same x l = sym (owner-is (m .slots) (m .dir) o (partsOf inner) (v .own) r no-zero (m .arguments .bad) (v .bad-is) (m .peak) past x l)
 
   -- the model's disk is the inner model's
   pub image-same : render inner ≡ modelDisk m
   unfolding render modelDisk modelHeader blocksPresent withOwner header fileBlocks
   image-same =
       let c = content (inner .slots) (inner .slots) in
-      with-only (header inner) (modelRecord (m .slots) (m .dir) (m .peak)) c (render inner)
+      let records : ℕ → Record = modelRecord (m .arguments .bad) (m .slots) (m .dir) (m .peak) in
+      with-only (header inner) records c (render inner)
       (with-same (render inner) (header inner) o c (with-is (header inner) o c) (header inner)
-      (modelRecord (m .slots) (m .dir) (m .peak)) c (λ i l. refl) owner-same (λ x i p l q. refl))
+      records c (λ i l. refl) owner-same (λ x i p l q. refl))
 
   -- reply and result buffer of a call in the inner model are the model's
   pub out-same : (c : Call) → innerOut inner c ≡ modelOut m c
@@ -169,7 +170,7 @@ module _ (m : Model) (o : ℕ → Record) (v : Inv (withOwner m o)) (r : BlocksL
   )
 
   module _ (x : NamedFile) (right : (1 ≤ length (x .name)) × (length (x .name) ≤ nameMost)) (new : suc (inner .peak) ≤ innerFind inner (x .name))
-      (room : dirBlocks (peakAfter inner) + (fileBlocks inner + blocksFor (length (x .content))) ≤ usable) where
+      (room : innerBad inner + (dirBlocks (peakAfter inner) + (fileBlocks inner + blocksFor (length (x .content)))) ≤ usable) where
     abbrev k : ℕ
     k = emptySlot inner
 
@@ -182,9 +183,9 @@ module _ (m : Model) (o : ℕ → Record) (v : Inv (withOwner m o)) (r : BlocksL
     abbrev n : ℕ
     n = blocksFor (length (x .content))
 
-    first-same : firsts blocks 1 (freeIn (m .slots) (m .dir) (m .peak)) ≡ firsts blocks 1 (freeOf o)
+    first-same : firsts blocks 1 (freeIn (m .arguments .bad) (m .slots) (m .dir) (m .peak)) ≡ firsts blocks 1 (freeOf o)
     unfolding freeIn freeOf
-    first-same = firsts-cong blocks 1 (freeIn (m .slots) (m .dir) (m .peak)) (freeOf o) (λ j l. ap isFree (sym (owner-same j l)))
+    first-same = firsts-cong blocks 1 (freeIn (m .arguments .bad) (m .slots) (m .dir) (m .peak)) (freeOf o) (λ j l. ap isFree (sym (owner-same j l)))
 
     listed₁ : BlocksListed (m .slots) (dirThen m) owner₁ parts₁
     unfolding dirThen growOwner withOwner peakThen presentIn peakAfter presentCount listedBlocks
@@ -219,16 +220,17 @@ module _ (m : Model) (o : ℕ → Record) (v : Inv (withOwner m o)) (r : BlocksL
     past₁ : (j : ℕ) → m .peak < j → parts₁ j ≡ 0
     past₁ j h = upd-other (partsOf inner) 0 (dirBlocks (peakAfter inner)) j (omega arith) ∙ past j h
 
-    rest-same : firsts blocks n (freeIn (m .slots) (dirThen m) (m .peak)) ≡ firsts blocks n (freeOf owner₁)
-    unfolding freeIn freeOf
+    rest-same : firsts blocks n (freeIn (m .arguments .bad) (m .slots) (dirThen m) (m .peak)) ≡ firsts blocks n (freeOf owner₁)
+    unfolding freeIn freeOf withOwner
     rest-same =
-        firsts-cong blocks n (freeIn (m .slots) (dirThen m) (m .peak)) (freeOf owner₁)
-        (λ j l. ap isFree (owner-is (m .slots) (dirThen m) owner₁ parts₁ (owned₁ inner v x right new room) listed₁ no-zero (m .peak) past₁ j l))
+        firsts-cong blocks n (freeIn (m .arguments .bad) (m .slots) (dirThen m) (m .peak)) (freeOf owner₁)
+        (λ j l. ap isFree (owner-is (m .slots) (dirThen m) owner₁ parts₁ (owned₁ inner v x right new room) listed₁ no-zero
+        (m .arguments .bad) (bad₁ inner v x right new room) (m .peak) past₁ j l))
 
     add-next : NextAgree (innerAddAt inner k x) (fill m k x)
     unfolding innerAddAt fill withOwner fileOf takenBy peakThen presentIn peakAfter presentCount
     add-next =
-        let bs : List ℕ = firsts blocks n (freeIn (m .slots) (dirThen m) (m .peak)) in
+        let bs : List ℕ = firsts blocks n (freeIn (m .arguments .bad) (m .slots) (dirThen m) (m .peak)) in
         let rest : List ℕ = firsts blocks n (freeOf owner₁) in
         let h : Option FilledSlot = some (record { file = x; taken = bs }) in
         let o′ : ℕ → Record = give owner₁ k 0 rest in

@@ -18,13 +18,14 @@ use Rattle.laws.specs.Laws.Changes.{upd-same, upd-other}
 use Rattle.laws.specs.Laws.Firsts.{Picks}
 use Rattle.sector_rules.specs.Geometry.{blocks}
 use Rattle.file_rules.specs.declared.Record.{Record}
-use Rattle.file_rules.specs.declared.Record.the-variants.{Free, System, File, Other}
+use Rattle.file_rules.specs.declared.Record.the-variants.{Free, Bad, System, File, Other}
+use Rattle.file_rules.specs.Arguments.{listed}
 use Rattle.file_rules.specs.Laws.InnerModel.Inner.{Inner, give, freeOf}
 use Rattle.file_rules.specs.Laws.InnerModel.Invariant.{Owned}
 use Rattle.file_rules.specs.Laws.InnerModel.Owners.{keeps, still-free}
-use Rattle.file_rules.specs.Laws.Base.Records.{Valid}
+use Rattle.file_rules.specs.Laws.Base.Records.{Valid, bad-only}
 use Rattle.file_rules.specs.Laws.Base.Whole.{unowned}
-use Rattle.file_rules.specs.Map.{isFree}
+use Rattle.file_rules.specs.Map.{isFree, isBad}
 use Rattle.file_rules.specs.Model.{FilledSlot, Model, fileOf, takenBy, position, orRecord, slotRecord, modelRecord}
 
 -- ---- positions
@@ -79,7 +80,8 @@ pub record BlocksListed (slots : ℕ → Option FilledSlot) (dir : List ℕ) (ow
   pub each : (k s : ℕ) → s < parts k → (getD (listedBlocks slots dir k) s 0 < blocks) × (owner (getD (listedBlocks slots dir k) s 0) ≡ File k s)
 
 module _ (slots : ℕ → Option FilledSlot) (dir : List ℕ) (owner : ℕ → Record) (parts : ℕ → ℕ) (v : Owned owner parts) (r : BlocksListed slots dir owner parts)
-    (first : slots 0 ≡ none) (peak : ℕ) (past : (k : ℕ) → peak < k → parts k ≡ 0) where
+    (first : slots 0 ≡ none) (bad : List ℕ) (marked : (b : ℕ) → b < blocks → isBad (owner b) ≡ listed b bad)
+    (peak : ℕ) (past : (k : ℕ) → peak < k → parts k ≡ 0) where
   -- what a search finds is the owner
   hit : (b k s : ℕ) → position b 0 (listedBlocks slots dir k) ≡ some s → owner b ≡ File k s
   hit b k s e =
@@ -99,37 +101,41 @@ module _ (slots : ℕ → Option FilledSlot) (dir : List ℕ) (owner : ℕ → R
 
   -- slots below n
   slot-is : (n b : ℕ) → b < blocks → ((k s : ℕ) → n ≤ k → owner b ≡ File k s → ⊥)
-      → ((s : ℕ) → owner b ≡ File 0 s → ⊥) → owner b ≢ System → slotRecord slots n b ≡ owner b
+      → ((s : ℕ) → owner b ≡ File 0 s → ⊥) → owner b ≢ Bad → owner b ≢ System → slotRecord slots n b ≡ owner b
   unfolding slotRecord orRecord listedBlocks takenBy position
-  slot-is zero b l high low sys = sym (go (owner b) refl)
+  slot-is zero b l high low fine sys = sym (go (owner b) refl)
     where
       go : (x : Record) → owner b ≡ x → owner b ≡ Free
       go Free e = e
+      go Bad e = absurd (fine e)
       go System e = absurd (sys e)
       go (File k s) e = absurd (high k s (omega arith) e)
       go Other e = absurd (subst Valid e (v .own-valid b l))
-  slot-is (suc zero) b l high low sys =
+  slot-is (suc zero) b l high low fine sys =
       ap (λ (x : Option FilledSlot). orRecord 0 (position b 0 (takenBy x)) (slotRecord slots 0 b)) first
-      ∙ slot-is zero b l (λ k s h e. by-equal k 0 (λ q. low s (e ∙ ap (λ (j : ℕ). File j s) q)) (λ q. high k s (omega arith) e)) low sys
-  slot-is (suc (suc n)) b l high low sys =
+      ∙ slot-is zero b l (λ k s h e. by-equal k 0 (λ q. low s (e ∙ ap (λ (j : ℕ). File j s) q)) (λ q. high k s (omega arith) e)) low fine sys
+  slot-is (suc (suc n)) b l high low fine sys =
       by-position (position b 0 (takenBy (slots (suc n))))
       (λ e. ap (λ (o : Option ℕ). orRecord (suc n) o (slotRecord slots (suc n) b)) e
       ∙ slot-is (suc n) b l (λ k s h q. by-equal k (suc n)
-      (λ p. miss b (suc n) s l e (q ∙ ap (λ (j : ℕ). File j s) p)) (λ p. high k s (omega arith) q)) low sys)
+      (λ p. miss b (suc n) s l e (q ∙ ap (λ (j : ℕ). File j s) p)) (λ p. high k s (omega arith) q)) low fine sys)
       (λ s e. ap (λ (o : Option ℕ). orRecord (suc n) o (slotRecord slots (suc n) b)) e ∙ sym (hit b (suc n) s e))
 
   -- the record that the model finds for a block in its lists is the block's owner
-  pub owner-is : (b : ℕ) → b < blocks → modelRecord slots dir peak b ≡ owner b
-  unfolding modelRecord orRecord listedBlocks
+  pub owner-is : (b : ℕ) → b < blocks → modelRecord bad slots dir peak b ≡ owner b
+  unfolding modelRecord orRecord listedBlocks isBad
   owner-is b l =
       by-equal b 0
       (λ z. cond-true _ _ (eq-true z) ∙ sym (ap owner z ∙ v .own-zero))
       (λ z. cond-false _ _ (eq-false z)
+      ∙ by-test (listed b bad)
+      (λ t. cond-true _ _ t ∙ sym (bad-only (owner b) (marked b l ∙ t)))
+      (λ t. cond-false _ _ t
       ∙ by-position (position b 0 dir)
       (λ e. ap (λ (o : Option ℕ). orRecord 0 o (slotRecord slots (suc peak) b)) e
       ∙ slot-is (suc peak) b l (λ k s h q. omega (arith, v .own-below b k s l q, past k (omega arith)))
-      (λ s q. miss b 0 s l e q) (λ q. z (v .own-system b l q)))
-      (λ s e. ap (λ (o : Option ℕ). orRecord 0 o (slotRecord slots (suc peak) b)) e ∙ sym (hit b 0 s e)))
+      (λ s q. miss b 0 s l e q) (λ q. true≢false (isBad (owner b)) (ap isBad q) (marked b l ∙ t)) (λ q. z (v .own-system b l q)))
+      (λ s e. ap (λ (o : Option ℕ). orRecord 0 o (slotRecord slots (suc peak) b)) e ∙ sym (hit b 0 s e))))
 
 -- ---- blocks are given
 

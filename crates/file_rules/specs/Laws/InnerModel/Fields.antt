@@ -17,7 +17,7 @@ use Rattle.laws.specs.Laws.Tab.{tab-in}
 use Rattle.laws.specs.Laws.Changes.{patch-in, patch-below}
 use Rattle.laws.specs.Laws.Numbers.{high2-at, high4-at}
 use Rattle.file_rules.specs.declared.Record.{Record}
-use Rattle.file_rules.specs.declared.Record.the-variants.{Free, System, File, Other}
+use Rattle.file_rules.specs.declared.Record.the-variants.{Free, Bad, System, File, Other}
 use Rattle.file_rules.specs.Directory.{entryByte, entryFor}
 use Rattle.file_rules.specs.Laws.InnerModel.Inner.{Inner}
 use Rattle.file_rules.specs.Laws.InnerModel.Invariant.{partsOf}
@@ -37,6 +37,7 @@ isPart-true f s r e = ap (isPart f s) e ∙ and-true (eq-true {a = f} {b = f} re
 pub true-isPart : (f s : ℕ) (r : Record) → isPart f s r ≡ true → r ≡ File f s
 unfolding isPart
 true-isPart f s Free e = true≢false false e refl
+true-isPart f s Bad e = true≢false false e refl
 true-isPart f s System e = true≢false false e refl
 true-isPart f s (File g t) e = ap₂ File (true-eq (and-left (eqb g f) (eqb t s) e)) (true-eq (and-right (eqb g f) (eqb t s) e))
 true-isPart f s Other e = true≢false false e refl

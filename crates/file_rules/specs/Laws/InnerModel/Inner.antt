@@ -22,7 +22,7 @@ use Rattle.file_rules.specs.Disk.{Disk}
 use Rattle.file_rules.specs.Histories.{Call, toAdd, toRemove, toList, toRead}
 use Rattle.file_rules.specs.Laws.Base.Whole.{unowned}
 use Rattle.file_rules.specs.Map.{isFree}
-use Rattle.file_rules.specs.Model.{NamedFile, HeldFile, heldBlocks, dirBlocks, usable, freeWord, content, hasName, heldEntries, heldData, wrap}
+use Rattle.file_rules.specs.Model.{NamedFile, HeldFile, heldBlocks, dirBlocks, differentBlocks, usable, freeWord, content, hasName, heldEntries, heldData, wrap}
 use Rattle.file_rules.specs.Written.{diskHeaderByte, diskWith, blocksFor}
 
 -- the inner model's state
@@ -48,11 +48,15 @@ presentCount m = count (suc (m .peak)) (λ (k : ℕ). isSome (m .slots k))
 unfoldable pub fileBlocks : Inner → ℕ
 fileBlocks m = sum (suc (m .peak)) (λ (k : ℕ). heldBlocks (m .slots k))
 
+-- B: the different blocks in the list of bad ones (§9.7)
+abbrev pub innerBad : Inner → ℕ
+innerBad m = differentBlocks (m .arguments .bad)
+
 -- ---- the image of a model
 
 -- the header of the inner model's disk
 unfoldable pub header : Inner → ℕ → ℕ
-header m = diskHeaderByte (m .arguments) (m .updates) (freeWord (m .peak) (fileBlocks m)) (suc (m .peak))
+header m = diskHeaderByte (m .arguments) (m .updates) (freeWord (innerBad m) (m .peak) (fileBlocks m)) (suc (m .peak))
 
 -- the inner model's disk
 unfoldable pub render : Inner → Disk
@@ -146,9 +150,9 @@ innerAddAt m k x =
       owner = give owner₁ k 0 (firsts blocks (blocksFor (length (x .content))) (freeOf owner₁));
     }
 
--- whether directory and files, this file counted, need no more blocks than there are (§9.7)
+-- whether bad blocks, directory and files, this file counted, are no more blocks than there are (§9.7)
 unfoldable pub roomFor : Inner → NamedFile → Bool
-roomFor m x = leb (dirBlocks (peakAfter m) + (fileBlocks m + blocksFor (length (x .content)))) usable
+roomFor m x = leb (innerBad m + (dirBlocks (peakAfter m) + (fileBlocks m + blocksFor (length (x .content))))) usable
 
 -- the inner model's add: 12, 13 with the slot, 15 or done
 unfoldable pub innerAdd : Inner → NamedFile → InnerChanged

@@ -1,4 +1,4 @@
--- The inner model's disk passes every judgement: 8 (header), 9 (map), 10 (files), 11 (free sectors).
+-- The inner model's disk passes every judgement: 8 (header), 9 (map), 19 (good word), 10 (files), 11 (free word).
 -- Rests on what is read of the disk (Reads).
 use mathlib.Core.Path.{_≡_, refl, sym, ap, ap₂, _∙_, subst}
 use mathlib.Core.Logic.{_≢_}
@@ -21,21 +21,21 @@ use Rattle.sector_rules.specs.declared.Fault.the-variants.{At, Sound}
 use Rattle.sector_rules.specs.Faults.{faultBelow, refusalAt}
 use Rattle.sector_rules.specs.Geometry.{blocks}
 use Rattle.file_rules.specs.declared.Record.{Record}
-use Rattle.file_rules.specs.declared.Record.the-variants.{Free, System, File, Other}
+use Rattle.file_rules.specs.declared.Record.the-variants.{Free, Bad, System, File, Other}
 use Rattle.file_rules.specs.Check.{diskHeaderFault}
 use Rattle.file_rules.specs.Check.{recordFault, mapFault, partsRight, noRecordBears, newName}
-use Rattle.file_rules.specs.Check.{entryRight, fileRight, fileFault, freeRight, refusal8, refusal9, startRefusal, refusal10, refusal11, diskRefusal}
+use Rattle.file_rules.specs.Check.{entryRight, fileRight, fileFault, goodRight, freeRight, refusal8, refusal9, refusal19, startRefusal, refusal10, refusal11, diskRefusal}
 use Rattle.file_rules.specs.Directory.{nameEq, slotEntry, slotName, held, dirBytes, dirEnd}
 use Rattle.file_rules.specs.Disk.{Disk}
 use Rattle.file_rules.specs.Laws.InnerModel.Inner.{Inner, header, render}
 use Rattle.file_rules.specs.Laws.InnerModel.Invariant.{partsOf, Inv}
 use Rattle.file_rules.specs.Laws.Base.Header.{header-none, header-passes}
 use Rattle.file_rules.specs.Laws.Base.Records.{Valid}
-use Rattle.file_rules.specs.Map.{recordAt, isSystem, isOther, bears, isPart, within, freeCount}
+use Rattle.file_rules.specs.Map.{recordAt, isSystem, isOther, bears, isPart, within, freeCount, badCount}
 use Rattle.file_rules.specs.Model.{NamedFile, HeldFile, freeWord, content}
-use Rattle.file_rules.specs.Sizes.{slotBytes, slotCount, nameMost, freeSectors, blocksOf}
+use Rattle.file_rules.specs.Sizes.{slotBytes, slotCount, nameMost, freeSectors, goodSectors, blocksOf}
 use Rattle.file_rules.specs.Laws.InnerModel.Fields.{isPart-true, true-isPart, parts-some, parts-none, parts-dir}
-use Rattle.file_rules.specs.Laws.InnerModel.Reads.{rec, head-byte, dirBytes-is, dirEnd-is, word20, freeCount-at, not-zero}
+use Rattle.file_rules.specs.Laws.InnerModel.Reads.{rec, head-byte, dirBytes-is, dirEnd-is, word20, word22, freeCount-at, badCount-at, not-zero}
 use Rattle.file_rules.specs.Laws.InnerModel.Reads.{held-is, slotLength-is, slotNameLength-is, slotName-is}
 
 module _ (m : Inner) (v : Inv m) where
@@ -55,6 +55,7 @@ module _ (m : Inner) (v : Inv m) where
   record-right : (b : ℕ) → b < blocks → (r : Record) → m .owner b ≡ r → recordFault b r ≡ false
   unfolding recordFault isSystem isOther
   record-right b h Free e = cond-false _ _ (eq-false (not-zero m v b Free e refl))
+  record-right b h Bad e = cond-false _ _ (eq-false (not-zero m v b Bad e refl))
   record-right b h System e = cond-true _ _ (eq-true (v .own .own-system b h e))
   record-right b h (File f s) e = cond-false _ _ (eq-false (not-zero m v b (File f s) e refl))
   record-right b h Other e = absurd (subst Valid e (v .own .own-valid b h))
@@ -70,6 +71,7 @@ module _ (m : Inner) (v : Inv m) where
   within-right : (f b : ℕ) → b < blocks → (r : Record) → m .owner b ≡ r → within f (partsOf m f) r ≡ true
   unfolding within
   within-right f b h Free e = refl
+  within-right f b h Bad e = refl
   within-right f b h System e = refl
   within-right f b h Other e = refl
   within-right f b h (File g t) e =
@@ -94,6 +96,7 @@ module _ (m : Inner) (v : Inv m) where
   none-bears : (f b : ℕ) → partsOf m f ≡ 0 → b < blocks → (r : Record) → m .owner b ≡ r → bears f r ≡ false
   unfolding bears
   none-bears f b z h Free e = refl
+  none-bears f b z h Bad e = refl
   none-bears f b z h System e = refl
   none-bears f b z h Other e = refl
   none-bears f b z h (File g t) e =
@@ -162,6 +165,10 @@ module _ (m : Inner) (v : Inv m) where
   unfolding refusal9 faultBelow
   nine-right = ap (refusalAt 9) (cond-false (At (mapFault d)) Sound (lt-false {a = mapFault d} {b = blocks} (omega (arith, map-right))))
 
+  nineteen-right : refusal19 d ≡ none
+  unfolding refusal19 goodRight
+  nineteen-right = cond-true _ _ (eq-true {a = at16 (d 0) 22} {b = goodSectors (badCount d)} (word22 m v ∙ ap goodSectors (sym (badCount-at m v))))
+
   ten-right : refusal10 d ≡ none
   unfolding refusal10 faultBelow
   ten-right = ap (refusalAt 10) (cond-false (At (fileFault d)) Sound (lt-false {a = fileFault d} {b = slotCount} (omega (arith, files-right))))
@@ -173,4 +180,4 @@ module _ (m : Inner) (v : Inv m) where
   -- the check of the inner model's disk finds no fault
   pub disk-refusal-none : diskRefusal d ≡ none
   unfolding diskRefusal startRefusal orElse
-  disk-refusal-none = rw (eight-right, nine-right, ten-right, eleven-right)
+  disk-refusal-none = rw (eight-right, nine-right, nineteen-right, ten-right, eleven-right)

@@ -13,7 +13,7 @@ use Rattle.laws.specs.Laws.Changes.{upd-same, upd-other, patch-in, patch-below,
 use Rattle.laws.specs.Laws.Numbers.{high4-at}
 use Rattle.sector_rules.specs.Geometry.{blocks}
 use Rattle.file_rules.specs.declared.Record.{Record}
-use Rattle.file_rules.specs.declared.Record.the-variants.{Free, System, File, Other}
+use Rattle.file_rules.specs.declared.Record.the-variants.{Free, Bad, System, File, Other}
 use Rattle.file_rules.specs.Arguments.{FormatArguments}
 use Rattle.file_rules.specs.Disk.{Disk}
 use Rattle.file_rules.specs.Laws.InnerModel.Fields.{isPart-true, true-isPart}
@@ -189,6 +189,7 @@ module _ (d : Disk) (h : ℕ → ℕ) (owner : ℕ → Record) (parts : ℕ → 
     other-content : (r : Record) (o : ℕ) → r ≢ File 0 (k / blockSlots) → o < blockBytes → content L F r o ≡ content L′ F r o
     unfolding content
     other-content Free o q l = refl
+    other-content Bad o q l = refl
     other-content System o q l = refl
     other-content Other o q l = refl
     other-content (File zero s) o q l = other-block s o (λ z. q (ap (File 0) z)) l

@@ -18,13 +18,13 @@ use Rattle.laws.specs.Laws.Count.{count-cong, count-none, count-drop, count-one
 use Rattle.laws.specs.Laws.Firsts.{Picks, picks-cong}
 use Rattle.sector_rules.specs.Geometry.{blocks}
 use Rattle.file_rules.specs.declared.Record.{Record}
-use Rattle.file_rules.specs.declared.Record.the-variants.{Free, System, File, Other}
+use Rattle.file_rules.specs.declared.Record.the-variants.{Free, Bad, System, File, Other}
 use Rattle.file_rules.specs.Laws.InnerModel.Fields.{isPart-true, true-isPart}
 use Rattle.file_rules.specs.Laws.InnerModel.Inner.{give, freeOf}
 use Rattle.file_rules.specs.Laws.InnerModel.Invariant.{Owned}
-use Rattle.file_rules.specs.Laws.Base.Records.{Valid}
+use Rattle.file_rules.specs.Laws.Base.Records.{Valid, free-only}
 use Rattle.file_rules.specs.Laws.Base.Whole.{unowned}
-use Rattle.file_rules.specs.Map.{fileBound, sequences, isFree, isSystem, bears, isPart}
+use Rattle.file_rules.specs.Map.{fileBound, sequences, isFree, isBad, isSystem, bears, isPart}
 
 -- ---- one record freed
 
@@ -32,6 +32,7 @@ use Rattle.file_rules.specs.Map.{fileBound, sequences, isFree, isSystem,
 pub bears-true : (k : ℕ) (r : Record) → bears k r ≡ true → (s : ℕ) × (r ≡ File k s)
 unfolding bears
 bears-true k Free e = true≢false false e refl
+bears-true k Bad e = true≢false false e refl
 bears-true k System e = true≢false false e refl
 bears-true k Other e = true≢false false e refl
 bears-true k (File f s) e = (s, ap (λ (x : ℕ). File x s) (true-eq e))
@@ -74,14 +75,25 @@ unowned-valid k r v =
 unowned-free : (k : ℕ) (r : Record) → isFree (unowned k r) ≡ (isFree r || bears k r)
 unfolding unowned isFree bears
 unowned-free k Free = refl
+unowned-free k Bad = refl
 unowned-free k System = refl
 unowned-free k Other = refl
 unowned-free k (File f s) =
     by-test (eqb f k) (λ t. ap isFree (cond-true _ _ t) ∙ sym t) (λ t. ap isFree (cond-false _ _ t) ∙ sym t)
 
+-- freeing a file leaves the same blocks bad
+pub unowned-bad : (k : ℕ) (r : Record) → isBad (unowned k r) ≡ isBad r
+unfolding unowned isBad bears
+unowned-bad k Free = refl
+unowned-bad k Bad = refl
+unowned-bad k System = refl
+unowned-bad k Other = refl
+unowned-bad k (File f s) = by-test (eqb f k) (λ t. ap isBad (cond-true _ _ t)) (λ t. ap isBad (cond-false _ _ t))
+
 free-apart : (k : ℕ) (r : Record) → (isFree r && bears k r) ≡ false
 unfolding isFree bears
 free-apart k Free = refl
+free-apart k Bad = refl
 free-apart k System = refl
 free-apart k Other = refl
 free-apart k (File f s) = refl
@@ -91,6 +103,7 @@ free-apart k (File f s) = refl
 -- whether a record is one of the first n parts of file k
 unfoldable pub partBelow : ℕ → ℕ → Record → Bool
 partBelow k n Free = false
+partBelow k n Bad = false
 partBelow k n System = false
 partBelow k n Other = false
 partBelow k n (File f s) = (eqb f k && ltb s n)
@@ -99,6 +112,7 @@ partBelow k n (File f s) = (eqb f k && ltb s n)
 pub below-suc : (k n : ℕ) (r : Record) → partBelow k (suc n) r ≡ (partBelow k n r || isPart k n r)
 unfolding partBelow isPart
 below-suc k n Free = refl
+below-suc k n Bad = refl
 below-suc k n System = refl
 below-suc k n Other = refl
 below-suc k n (File f s) =
@@ -117,6 +131,7 @@ below-suc k n (File f s) =
 pub below-apart : (k n : ℕ) (r : Record) → (partBelow k n r && isPart k n r) ≡ false
 unfolding partBelow isPart
 below-apart k n Free = refl
+below-apart k n Bad = refl
 below-apart k n System = refl
 below-apart k n Other = refl
 below-apart k n (File f s) =
@@ -127,6 +142,7 @@ below-apart k n (File f s) =
 below-none : (k : ℕ) (r : Record) → partBelow k 0 r ≡ false
 unfolding partBelow
 below-none k Free = refl
+below-none k Bad = refl
 below-none k System = refl
 below-none k Other = refl
 below-none k (File f s) = and-false-right (eqb f k) (lt-false {a = s} {b = 0} (omega arith))
@@ -150,6 +166,7 @@ module _ (owner : ℕ → Record) (parts : ℕ → ℕ) (v : Owned owner parts) 
   bears-below : (b : ℕ) → b < blocks → (r : Record) → owner b ≡ r → bears k r ≡ partBelow k (parts k) r
   unfolding bears partBelow
   bears-below b l Free e = refl
+  bears-below b l Bad e = refl
   bears-below b l System e = refl
   bears-below b l Other e = refl
   bears-below b l (File f s) e =
@@ -272,13 +289,6 @@ module _ (owner : ℕ → Record) (parts : ℕ → ℕ) (v : Owned owner parts) 
             (λ r. v .own-once i j g s li lj (sym (off-b i q) ∙ ei) (sym (off-b j r) ∙ ej)));
       }
 
-free-is-free : (r : Record) → isFree r ≡ true → r ≡ Free
-unfolding isFree
-free-is-free Free e = refl
-free-is-free System e = true≢false false e refl
-free-is-free (File f s) e = true≢false false e refl
-free-is-free Other e = true≢false false e refl
-
 -- giving block b away leaves the later ones of an increasing list of free blocks free
 pub still-free : (owner : ℕ → Record) (b : ℕ) (r : Record) (bs : List ℕ)
     → Picks blocks (freeOf owner) (suc b) bs → Picks blocks (freeOf (upd owner b r)) (suc b) bs
@@ -286,6 +296,16 @@ unfolding freeOf
 still-free owner b r bs t =
     picks-cong blocks (freeOf owner) (freeOf (upd owner b r)) (suc b) bs
     (λ j h l a. ap isFree (upd-other owner b r j (omega arith)) ∙ a) t
+
+-- giving free blocks away leaves the same blocks bad
+pub give-bad : (bs : List ℕ) (owner : ℕ → Record) (f s i b : ℕ) → Picks blocks (freeOf owner) i bs → isBad (give owner f s bs b) ≡ isBad (owner b)
+unfolding give freeOf isBad
+give-bad [] owner f s i b t = refl
+give-bad (x ∷ xs) owner f s i b t =
+    give-bad xs (upd owner x (File f s)) f (suc s) (suc x) b (still-free owner x (File f s) xs (t .3))
+    ∙ by-equal b x
+    (λ q. ap isBad (upd-same owner x (File f s) b q) ∙ sym (ap (λ (j : ℕ). isBad (owner j)) q ∙ ap isBad (free-only (owner x) (t .2))))
+    (λ q. ap isBad (upd-other owner x (File f s) b q))
 
 -- after free blocks are given to file f as its next parts, each part of each file has one block
 pub give-owned : (bs : List ℕ) (owner : ℕ → Record) (parts : ℕ → ℕ) (f s i : ℕ) → Owned owner parts → Picks blocks (freeOf owner) i bs
@@ -296,7 +316,7 @@ give-owned [] owner parts f s i v t small e few =
     (λ g. by-equal g f (λ q. ap parts q ∙ e ∙ omega (arith, upd-same parts f (s + 0) g q)) (λ q. sym (upd-other parts f (s + 0) g q))) v
 give-owned (b ∷ bs) owner parts f s i v t small e few =
     let one : Owned (upd owner b (File f (parts f))) (upd parts f (suc (parts f))) =
-    give-one owner parts v b f (t .1) (free-is-free (owner b) (t .2)) small (omega arith) in
+    give-one owner parts v b f (t .1) (free-only (owner b) (t .2)) small (omega arith) in
     let one′ : Owned (upd owner b (File f s)) (upd parts f (suc s)) = subst (λ (x : ℕ). Owned (upd owner b (File f x)) (upd parts f (suc x))) e one in
     owned-cong (give (upd owner b (File f s)) f (suc s) bs) (upd (upd parts f (suc s)) f (suc s + length bs)) (upd parts f (s + suc (length bs)))
     (λ g. by-equal g f

@@ -22,7 +22,7 @@ use Rattle.file_rules.specs.declared.Record.the-variants.{System}
 use Rattle.file_rules.specs.declared.Entry.{Entry}
 use Rattle.file_rules.specs.Calls.{opensBlock, needed, entries, dataOf}
 use Rattle.file_rules.specs.Check.{recordFault, mapFault, partsRight, noRecordBears, newName, entryRight, fileRight, fileFault, freeRight}
-use Rattle.file_rules.specs.Check.{refusal8, refusal9, startRefusal, refusal10, refusal11, diskRefusal}
+use Rattle.file_rules.specs.Check.{goodRight, refusal8, refusal9, refusal19, startRefusal, refusal10, refusal11, diskRefusal}
 use Rattle.file_rules.specs.Directory.{nameOf, entryOf, slotByte, slotEntry, slotName, held, dirBytes, dirEnd, findName, vacantSlot}
 use Rattle.file_rules.specs.Disk.{Disk}
 use Rattle.file_rules.specs.FirstTrack.{counted}
@@ -31,8 +31,8 @@ use Rattle.file_rules.specs.Laws.Base.Header.{judged-alike}
 use Rattle.file_rules.specs.Laws.Base.Records.{begins-free}
 use Rattle.file_rules.specs.Laws.Base.Sound.{first-passed, start-nine, part-not-first}
 use Rattle.file_rules.specs.Laws.OnAnyDisk.Kept.{record-same}
-use Rattle.file_rules.specs.Map.{recordAt, isFree, bears, isPart, within, freeAt, freeCount, partBlock, fileByte}
-use Rattle.file_rules.specs.Sizes.{blockBytes, slotBytes, blockSlots, slotCount, mapStart, recordBytes, blocksOf, freeSectors}
+use Rattle.file_rules.specs.Map.{recordAt, isFree, isBad, bears, isPart, within, freeAt, freeCount, badAt, badCount, partBlock, fileByte}
+use Rattle.file_rules.specs.Sizes.{blockBytes, slotBytes, blockSlots, slotCount, mapStart, recordBytes, blocksOf, freeSectors, goodSectors}
 
 -- ---- records
 
@@ -101,10 +101,17 @@ module _ (d e : Disk) (a : Alike d e) where
   unfolding refusal9 mapFault
   nine-alike = ap (λ (r : ℕ → Record). refusalAt 9 (faultBelow blocks (lowest (λ (b : ℕ). recordFault b (r b)) blocks))) records-alike
 
+  -- 19
+  nineteen-alike : refusal19 d ≡ refusal19 e
+  unfolding refusal19 goodRight badCount badAt
+  nineteen-alike =
+      ap₂ (λ (x : ℕ) (r : ℕ → Record). cond (eqb x (goodSectors (count blocks (λ (b : ℕ). isBad (r b))))) none (some (refusal 19)))
+      (word-alike 22 (omega arith)) records-alike
+
   -- what a judgement begins with is alike
   pub start-alike : startRefusal d ≡ startRefusal e
   unfolding startRefusal
-  start-alike = ap₂ orElse eight-alike nine-alike
+  start-alike = rw (eight-alike, nine-alike, nineteen-alike)
 
   -- 11 judges alike
   pub eleven-alike : refusal11 d ≡ refusal11 e
@@ -204,7 +211,7 @@ module _ (d e : Disk) (a : Alike d e) where
   by-start none q = rw (start-alike, ten-alike (first-passed d (start-nine d (start-alike ∙ q))), eleven-alike)
   by-start (some r) q = rw (start-alike, q)
 
-  -- 8 to 11 judge alike
+  -- the judgement of the disk is alike
   pub refusal-alike : diskRefusal d ≡ diskRefusal e
   unfolding diskRefusal
   refusal-alike = by-start (startRefusal e) refl

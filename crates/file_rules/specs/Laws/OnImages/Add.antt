@@ -16,13 +16,13 @@ use Rattle.laws.specs.Laws.Changes.{upd-same, upd-other}
 use Rattle.laws.specs.Laws.Firsts.{firsts-picks, firsts-cong}
 use Rattle.sector_rules.specs.Geometry.{blocks}
 use Rattle.file_rules.specs.declared.Record.{Record}
-use Rattle.file_rules.specs.declared.Record.the-variants.{Free, System, File, Other}
+use Rattle.file_rules.specs.declared.Record.the-variants.{Free, Bad, System, File, Other}
 use Rattle.file_rules.specs.Calls.{growDir, endAfter, addAt}
 use Rattle.file_rules.specs.Directory.{entryByte, entryFor, dirEnd}
 use Rattle.file_rules.specs.Disk.{Disk}
 use Rattle.file_rules.specs.Laws.InnerModel.Fields.{parts-none}
 use Rattle.file_rules.specs.Laws.InnerModel.Reads.{dirEnd-is}
-use Rattle.file_rules.specs.Laws.InnerModel.Inner.{Inner, fileBlocks, header, render, innerFind, emptySlot, give, freeOf, growOwner, peakAfter}
+use Rattle.file_rules.specs.Laws.InnerModel.Inner.{Inner, fileBlocks, innerBad, header, render, innerFind, emptySlot, give, freeOf, growOwner, peakAfter}
 use Rattle.file_rules.specs.Laws.InnerModel.Inner.{innerAddAt}
 use Rattle.file_rules.specs.Laws.InnerModel.Invariant.{partsOf, Inv}
 use Rattle.file_rules.specs.Laws.InnerModel.Last.{end-step, finish, slot-step}
@@ -43,13 +43,14 @@ file-content E F (suc f) s o h = refl
 other-file : (E F G : ℕ → HeldFile) (r : Record) (o : ℕ) → ((f s : ℕ) → r ≡ File f s → F f ≡ G f) → content E F r o ≡ content E G r o
 unfolding content
 other-file E F G Free o e = refl
+other-file E F G Bad o e = refl
 other-file E F G System o e = refl
 other-file E F G Other o e = refl
 other-file E F G (File zero s) o e = refl
 other-file E F G (File (suc f) s) o e = ap (λ (x : HeldFile). part (heldBytes x) s o) (e (suc f) s refl)
 
 module _ (m : Inner) (v : Inv m) (x : NamedFile) (right : (1 ≤ length (x .name)) × (length (x .name) ≤ nameMost))
-    (new : suc (m .peak) ≤ innerFind m (x .name)) (room : dirBlocks (peakAfter m) + (fileBlocks m + blocksFor (length (x .content))) ≤ usable) where
+    (new : suc (m .peak) ≤ innerFind m (x .name)) (room : innerBad m + (dirBlocks (peakAfter m) + (fileBlocks m + blocksFor (length (x .content)))) ≤ usable) where
   abbrev kk : ℕ
   kk = emptySlot m
 
@@ -158,10 +159,10 @@ module _ (m : Inner) (v : Inv m) (x : NamedFile) (right : (1 ≤ length (x .name
   abbrev d₄ : Disk
   d₄ = endAfter kk (dirEnd d₀) d₃
 
-  ended : With d₄ (diskHeaderByte (m .arguments) (m .updates) (freeWord (m .peak) (fileBlocks m)) (suc (peakAfter m))) (m′ .owner) (content L′ L′)
+  ended : With d₄ (diskHeaderByte (m .arguments) (m .updates) (freeWord (innerBad m) (m .peak) (fileBlocks m)) (suc (peakAfter m))) (m′ .owner) (content L′ L′)
   unfolding endAfter header
   ended =
-      let w : ℕ = freeWord (m .peak) (fileBlocks m) in
+      let w : ℕ = freeWord (innerBad m) (m .peak) (fileBlocks m) in
       by-order kk (suc (m .peak))
       (λ h.
       let e : suc (m .peak) ≡ suc (peakAfter m) = ap suc (sym (peak-same m v (omega arith))) in
@@ -180,10 +181,10 @@ module _ (m : Inner) (v : Inv m) (x : NamedFile) (right : (1 ≤ length (x .name
   pub add-image : addAt (render m) kk (entryFrom x) (x .content) ≡ render m′
   unfolding addAt render innerAddAt header
   add-image =
-      let w : freeSectors (count blocks (freeOf (m′ .owner))) ≡ freeWord (peakAfter m) (fileBlocks m′) =
+      let w : freeSectors (count blocks (freeOf (m′ .owner))) ≡ freeWord (innerBad m) (peakAfter m) (fileBlocks m′) =
       unfold freeWord in omega (arith, add-inv m v x right new room .free-sum) in
       let p =
-      finish (m .arguments) (m .updates) (freeWord (m .peak) (fileBlocks m)) (suc (peakAfter m)) (m′ .owner) (content L′ L′) d₄ ended
+      finish (m .arguments) (m .updates) (freeWord (innerBad m) (m .peak) (fileBlocks m)) (suc (peakAfter m)) (m′ .owner) (content L′ L′) d₄ ended
       (owned₂ m v x right new room .own-valid) (v .updates-fit) in
       with-only (header m′) (m′ .owner) (content L′ L′) (addAt (render m) kk (entryFrom x) (x .content))
       (subst (λ (y : ℕ). With (addAt (render m) kk (entryFrom x) (x .content))

@@ -5,7 +5,7 @@ use mathlib.Core.Logic.{_≢_}
 use mathlib.Core.Bool.{true}
 use mathlib.Core.List.{List}
 use mathlib.Core.Option.{some}
-use Prim.Native.Nat.{ℕ, zero, suc, _+_, _≤_}
+use Prim.Native.Nat.{ℕ, zero, suc, _+_, _≤_, _<_}
 use native.Mathlib.Omega.{arith}
 use lib.ListN.{length}
 use Rattle.laws.specs.Changes.{upd}
@@ -19,12 +19,14 @@ use Rattle.laws.specs.Laws.Count.{count-cong, count-yes, count-drop, sum-cong, 
 use Rattle.laws.specs.Laws.Firsts.{firsts-picks, firsts-length}
 use Rattle.sector_rules.specs.Geometry.{blocks}
 use Rattle.file_rules.specs.declared.Record.{Record}
+use Rattle.file_rules.specs.Arguments.{listed}
 use Rattle.file_rules.specs.Directory.{nameEq}
 use Rattle.file_rules.specs.Laws.InnerModel.Fields.{parts-none}
-use Rattle.file_rules.specs.Laws.InnerModel.Inner.{Inner, presentCount, fileBlocks, innerFind, emptySlot, give, freeOf, growOwner, peakAfter, innerAddAt}
+use Rattle.file_rules.specs.Laws.InnerModel.Inner.{Inner, presentCount, fileBlocks, innerBad, innerFind, emptySlot, give, freeOf, growOwner, peakAfter, innerAddAt}
 use Rattle.file_rules.specs.Laws.InnerModel.Invariant.{partsOf, Owned, Inv}
 use Rattle.file_rules.specs.Laws.Base.Names.{name-sym}
-use Rattle.file_rules.specs.Laws.InnerModel.Owners.{owned-cong, give-owned, give-count}
+use Rattle.file_rules.specs.Laws.InnerModel.Owners.{owned-cong, give-bad, give-owned, give-count}
+use Rattle.file_rules.specs.Map.{isBad}
 use Rattle.file_rules.specs.Model.{NamedFile, HeldFile, heldBlocks, dirBlocks, usable, content, hasName, wrap}
 use Rattle.file_rules.specs.Sizes.{nameMost}
 use Rattle.file_rules.specs.Written.{blocksFor}
@@ -34,7 +36,7 @@ some-same : (x y : NamedFile) → _≡_ {A = HeldFile} (some x) (some y) → x �
 some-same x y e = cc
 
 module _ (m : Inner) (v : Inv m) (x : NamedFile) (right : (1 ≤ length (x .name)) × (length (x .name) ≤ nameMost))
-    (new : suc (m .peak) ≤ innerFind m (x .name)) (room : dirBlocks (peakAfter m) + (fileBlocks m + blocksFor (length (x .content))) ≤ usable) where
+    (new : suc (m .peak) ≤ innerFind m (x .name)) (room : innerBad m + (dirBlocks (peakAfter m) + (fileBlocks m + blocksFor (length (x .content)))) ≤ usable) where
   abbrev kk : ℕ
   kk = emptySlot m
 
@@ -83,6 +85,16 @@ module _ (m : Inner) (v : Inv m) (x : NamedFile) (right : (1 ≤ length (x .name
       (λ f. by-equal f 0
       (λ q. ap (partsOf m) q ∙ dir-parts ∙ sym r ∙ sym (upd-same (partsOf m) 0 (dirBlocks (peakAfter m)) f q))
       (λ q. sym (upd-other (partsOf m) 0 (dirBlocks (peakAfter m)) f q))) (v .own)))
+
+  -- and the same blocks are bad
+  pub bad₁ : (b : ℕ) → b < blocks → isBad (owner₁ b) ≡ listed b (m .arguments .bad)
+  unfolding growOwner
+  bad₁ b l =
+      by-growth m v
+      (λ t e q r.
+      ap (λ (o : ℕ → Record). isBad (o b)) (cond-true _ _ t)
+      ∙ give-bad first (m .owner) 0 (dirBlocks (m .peak)) 0 b (firsts-picks blocks 1 (freeOf (m .owner))) ∙ v .bad-is b l)
+      (λ t r. ap (λ (o : ℕ → Record). isBad (o b)) (cond-false _ _ t) ∙ v .bad-is b l)
 
   count₁ : count blocks (freeOf owner₁) + dirBlocks (peakAfter m) ≡ count blocks (freeOf (m .owner)) + dirBlocks (m .peak)
   unfolding growOwner
@@ -186,6 +198,7 @@ module _ (m : Inner) (v : Inv m) (x : NamedFile) (right : (1 ≤ length (x .name
       let off-k : (j : ℕ) → j ≢ kk → L′ j ≡ m .slots j = λ j q. upd-other (m .slots) kk (some x) j q in
       record {
         own = owned₂;
+        bad-is = λ b l. give-bad rest owner₁ kk 0 0 b (firsts-picks blocks n (freeOf owner₁)) ∙ bad₁ b l;
         slot-zero = off-k 0 (omega (arith, k-pos m v)) ∙ v .slot-zero;
         slot-past = λ j h. off-k j (omega (arith, k-in)) ∙ v .slot-past j (omega (arith, peak-up));
         slot-name = λ j y e.

@@ -14,13 +14,13 @@ use Rattle.laws.specs.Laws.Changes.{upd-same, upd-other}
 use Rattle.laws.specs.Laws.Count.{count-drop, sum-change}
 use Rattle.sector_rules.specs.Geometry.{blocks}
 use Rattle.file_rules.specs.declared.Record.{Record}
-use Rattle.file_rules.specs.declared.Record.the-variants.{Free, System, File, Other}
+use Rattle.file_rules.specs.declared.Record.the-variants.{Free, Bad, System, File, Other}
 use Rattle.file_rules.specs.Calls.{removeAt}
 use Rattle.file_rules.specs.Disk.{Disk}
-use Rattle.file_rules.specs.Laws.InnerModel.Inner.{Inner, presentCount, fileBlocks, header, render, freeOf, innerRemoveAt}
+use Rattle.file_rules.specs.Laws.InnerModel.Inner.{Inner, presentCount, fileBlocks, innerBad, header, render, freeOf, innerRemoveAt}
 use Rattle.file_rules.specs.Laws.InnerModel.Invariant.{partsOf, Owned, Inv}
 use Rattle.file_rules.specs.Laws.InnerModel.Last.{finish, slot-step}
-use Rattle.file_rules.specs.Laws.InnerModel.Owners.{unowned-file, freed-count, freed-owned}
+use Rattle.file_rules.specs.Laws.InnerModel.Owners.{unowned-file, unowned-bad, freed-count, freed-owned}
 use Rattle.file_rules.specs.Laws.Base.Whole.{With, with-is, with-only, with-same, unowned, free-all}
 use Rattle.file_rules.specs.Model.{NamedFile, HeldFile, heldBlocks, dirBlocks, freeWord, slotOf, heldBytes, content, wrap}
 use Rattle.file_rules.specs.Sizes.{blockSlots, freeSectors}
@@ -82,6 +82,7 @@ module _ (m : Inner) (v : Inv m) (k : ℕ) (pos : 0 < k) (low : k ≤ m .peak) w
   remove-inv =
       record {
         own = owned;
+        bad-is = λ b l. unowned-bad k (m .owner b) ∙ v .bad-is b l;
         slot-zero = upd-other (m .slots) k none 0 (omega arith) ∙ v .slot-zero;
         slot-past = λ j h. upd-other (m .slots) k none j (omega arith) ∙ v .slot-past j h;
         slot-name = λ j x e.
@@ -108,6 +109,7 @@ module _ (m : Inner) (v : Inv m) (k : ℕ) (pos : 0 < k) (low : k ≤ m .peak) w
     where
       go : (r : Record) → own′ b ≡ r → content L′ (m .slots) r o ≡ content L′ L′ r o
       go Free e = unfold content in refl
+      go Bad e = unfold content in refl
       go System e = unfold content in refl
       go Other e = unfold content in refl
       go (File zero s) e = unfold content in refl
@@ -129,9 +131,9 @@ module _ (m : Inner) (v : Inv m) (k : ℕ) (pos : 0 < k) (low : k ≤ m .peak) w
       slot-step d₁ h own′ (partsOf m′) owned (m .slots) (m .slots) p₁ k none zeros (λ i l. unfold zeros slotOf in refl) in-dir in
       let p₃ : With d₂ h own′ (content L′ L′) =
       with-same d₂ h own′ (content L′ (m .slots)) p₂ h own′ (content L′ L′) (λ o l. refl) (λ b l. refl) (λ b o i j l. file-slots b o j) in
-      let w : freeSectors (count blocks (freeOf own′)) ≡ freeWord (m .peak) (fileBlocks m′) = unfold freeWord in omega (arith, remove-inv .free-sum) in
+      let w : freeSectors (count blocks (freeOf own′)) ≡ freeWord (innerBad m) (m .peak) (fileBlocks m′) = unfold freeWord in omega (arith, remove-inv .free-sum) in
       let p₄ =
-      finish (m .arguments) (m .updates) (freeWord (m .peak) (fileBlocks m)) (suc (m .peak)) own′ (content L′ L′) d₂ p₃ (owned .own-valid) (v .updates-fit) in
+      finish (m .arguments) (m .updates) (freeWord (innerBad m) (m .peak) (fileBlocks m)) (suc (m .peak)) own′ (content L′ L′) d₂ p₃ (owned .own-valid) (v .updates-fit) in
       with-only (header m′) own′ (content L′ L′) (removeAt (render m) k)
       (subst (λ (x : ℕ). With (removeAt (render m) k) (diskHeaderByte (m .arguments) (wrap (m .updates + 1)) x (suc (m .peak))) own′ (content L′ L′)) w p₄)
 

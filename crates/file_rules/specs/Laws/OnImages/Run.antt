@@ -1,27 +1,29 @@
 -- Every history on an image gives what the inner model gives, reply by reply, and ends with its image.
 -- Rests on reads and judgements of the inner model's disk (InnerModel.Reads, Judgements) and on Add and Remove.
 use mathlib.Core.Path.{_≡_, refl, sym, ap, ap₂, _∙_, subst}
-use mathlib.Core.Bool.{true}
+use mathlib.Core.Bool.{Bool, true, false, not, cond, _&&_, _||_}
 use mathlib.Core.List.{List, [], _∷_}
 use mathlib.Core.Option.{some}
-use Prim.Native.Nat.{ℕ, zero, suc, _-_, _≤_, _<_}
+use Prim.Native.Nat.{ℕ, zero, suc, _+_, _-_, _≤_, _<_}
 use native.Mathlib.Omega.{arith}
 use lib.Dec.{ltb}
 use lib.ListN.{length}
 use Rattle.laws.specs.Below.{count, sum}
 use Rattle.laws.specs.Options.{isSome}
-use Rattle.laws.specs.Laws.Cases.{by-order, by-test}
-use Rattle.laws.specs.Laws.Tests.{lt-true, lt-false, le-true, eq-true, true-le, true≢false, cond-true, cond-false}
+use Rattle.laws.specs.Laws.Cases.{by-order, by-test, by-cond}
+use Rattle.laws.specs.Laws.Tests.{lt-true, lt-false, le-true, eq-true, true-le, true≢false, cond-true, cond-false, and-true}
+use Rattle.laws.specs.Laws.Tests.{and-false-left, and-false-right}
+use Rattle.laws.specs.Laws.Count.{count-cong, count-or, count-not}
 use Rattle.sector_rules.specs.Geometry.{blocks, imageBytes}
 use Rattle.sector_rules.specs.Replies.{replyWith, done, refusal}
 use Rattle.sector_rules.specs.declared.Reply.{Reply}
 use Rattle.file_rules.specs.declared.Record.{Record}
-use Rattle.file_rules.specs.declared.Record.the-variants.{Free, System, File, Other}
+use Rattle.file_rules.specs.declared.Record.the-variants.{Free, Bad, System, File, Other}
 use Rattle.file_rules.specs.Calls.{Outcome, DiskChanged, ImageChanged, bufferKept, diskKept, imageRight, onSound, freshOwner}
 use Rattle.file_rules.specs.Calls.{freshHeader, formatDisk, format, list, read, addSound, imaged, add, removeSound, remove}
 use Rattle.file_rules.specs.Check.{diskRefusal}
 use Rattle.file_rules.specs.Directory.{nameEq, nameRight}
-use Rattle.file_rules.specs.Arguments.{FormatArguments}
+use Rattle.file_rules.specs.Arguments.{FormatArguments, listed, badBlocks, EachCanBeBad}
 use Rattle.file_rules.specs.Disk.{Disk, diskOf, imageOf}
 use Rattle.file_rules.specs.Histories.{Call, imageOut, imageStep, imageOuts, imageEnd, toAdd, toRemove, toList, toRead}
 use Rattle.file_rules.specs.Laws.OnImages.Slot.{room-is}
@@ -35,58 +37,117 @@ use Rattle.file_rules.specs.Laws.InnerModel.Inner.{Inner, fileBlocks, he
 use Rattle.file_rules.specs.Laws.InnerModel.Inner.{freeOf, InnerChanged, innerRefused, innerRemoveAt, innerRemove, innerAddAt}
 use Rattle.file_rules.specs.Laws.InnerModel.Inner.{roomFor, innerAdd, innerStep, innerOut, innerOuts, innerEnd}
 use Rattle.file_rules.specs.Laws.InnerModel.Invariant.{partsOf, Inv}
+use Rattle.file_rules.specs.Laws.Base.BadList.{each-right, low-unlisted, different-is}
 use Rattle.file_rules.specs.Laws.Base.Names.{name-bounds}
+use Rattle.file_rules.specs.Laws.InnerModel.Fields.{isPart-true}
 use Rattle.file_rules.specs.Laws.OnImages.Remove.{remove-inv, remove-image}
 use Rattle.file_rules.specs.Laws.Base.Records.{Valid}
 use Rattle.file_rules.specs.Laws.Base.Whole.{with-is, with-only, with-same}
-use Rattle.file_rules.specs.Map.{isFree, isSystem}
-use Rattle.file_rules.specs.Model.{NamedFile, heldBlocks, dirBlocks, freeWord, slotOf, heldBytes, dirByte, content}
-use Rattle.file_rules.specs.Sizes.{blockBytes, nameMost, titleMost}
-use Rattle.file_rules.specs.Written.{part}
+use Rattle.file_rules.specs.Map.{isFree, isBad, isSystem, isPart}
+use Rattle.file_rules.specs.Model.{NamedFile, heldBlocks, dirBlocks, differentBlocks, usable, freeWord, slotOf, heldBytes, dirByte, content}
+use Rattle.file_rules.specs.Sizes.{blockBytes, nameMost, titleMost, freeSectors}
+use Rattle.file_rules.specs.Written.{diskHeaderByte, part}
 
 -- ---- format
 
 -- an accepted format leaves a fresh disk
-pub format-done : (image : List ℕ) (args : FormatArguments) → length image ≡ imageBytes → length (args .title) ≤ titleMost
+pub format-done : (image : List ℕ) (args : FormatArguments) → length image ≡ imageBytes → length (args .title) ≤ titleMost → EachCanBeBad (args .bad)
     → format image args ≡ record { answer = done; image = imageOf (formatDisk args) }
 unfolding format imageRight
-format-done image args long short = cond-true _ _ (eq-true long) ∙ cond-true _ _ (le-true short)
+format-done image args long short each = cond-true _ _ (eq-true long) ∙ cond-true _ _ (and-true (le-true short) (each-right (args .bad) each))
 
 blank : (r : Record) (o : ℕ) → content emptySlots emptySlots r o ≡ 0
 unfolding content dirByte slotOf heldBytes part emptySlots
 blank Free o = refl
+blank Bad o = refl
 blank System o = refl
 blank Other o = refl
 blank (File zero s) o = refl
 blank (File (suc f) s) o = by-test (ltb o blockBytes) (λ t. cond-true _ _ t) (λ t. cond-false _ _ t)
 
+-- ---- the records of a fresh disk
+
+module _ (args : FormatArguments) where
+  fresh-valid : (b : ℕ) → Valid (freshOwner args b)
+  unfolding freshOwner
+  fresh-valid zero = tt
+  fresh-valid (suc zero) = (omega arith, omega arith)
+  fresh-valid (suc (suc b)) = by-cond Valid (listed (suc (suc b)) (args .bad)) Bad Free (λ t. tt) (λ t. tt)
+
+  fresh-system : (b : ℕ) → freshOwner args b ≡ System → b ≡ 0
+  unfolding freshOwner isSystem
+  fresh-system zero e = refl
+  fresh-system (suc zero) e = true≢false (isSystem System) refl (ap isSystem (sym e))
+  fresh-system (suc (suc b)) e =
+      true≢false (isSystem System) refl
+      (ap isSystem (sym e) ∙ by-cond (λ (r : Record). isSystem r ≡ false) (listed (suc (suc b)) (args .bad)) Bad Free (λ t. refl) (λ t. refl))
+
+  fresh-file : (b f s : ℕ) → freshOwner args b ≡ File f s → (b ≡ 1) × (f ≡ 0) × (s ≡ 0)
+  unfolding freshOwner isPart
+  fresh-file zero f s e = true≢false (isPart f s System) (isPart-true f s System e) refl
+  fresh-file (suc zero) f s e = (refl, cc, cc)
+  fresh-file (suc (suc b)) f s e =
+      let t : Bool = listed (suc (suc b)) (args .bad) in
+      true≢false (isPart f s (cond t Bad Free)) (isPart-true f s (cond t Bad Free) e)
+      (by-cond (λ (r : Record). isPart f s r ≡ false) t Bad Free (λ t. refl) (λ t. refl))
+
+  module _ (each : EachCanBeBad (args .bad)) where
+    -- bad are those of the list
+    fresh-bad : (b : ℕ) → isBad (freshOwner args b) ≡ listed b (args .bad)
+    unfolding freshOwner isBad
+    fresh-bad zero = sym (low-unlisted (args .bad) each 0 (omega arith))
+    fresh-bad (suc zero) = sym (low-unlisted (args .bad) each 1 (omega arith))
+    fresh-bad (suc (suc b)) =
+        by-test (listed (suc (suc b)) (args .bad)) (λ t. ap isBad (cond-true _ _ t) ∙ sym t) (λ t. ap isBad (cond-false _ _ t) ∙ sym t)
+
+    -- taken are blocks 0 and 1 and those of the list
+    fresh-taken : (b : ℕ) → not (freeOf (freshOwner args) b) ≡ (ltb b 2 || listed b (args .bad))
+    unfolding freshOwner freeOf isFree
+    fresh-taken zero = refl
+    fresh-taken (suc zero) = refl
+    fresh-taken (suc (suc b)) =
+        let off : (ltb (suc (suc b)) 2 || listed (suc (suc b)) (args .bad)) ≡ listed (suc (suc b)) (args .bad) =
+        ap (λ (a : Bool). a || listed (suc (suc b)) (args .bad)) (lt-false {a = suc (suc b)} {b = 2} (omega arith)) in
+        by-test (listed (suc (suc b)) (args .bad))
+        (λ t. ap (λ (r : Record). not (isFree r)) (cond-true _ _ t) ∙ sym (off ∙ t)) (λ t. ap (λ (r : Record). not (isFree r)) (cond-false _ _ t) ∙ sym (off ∙ t))
+
+    two-low : count blocks (λ (b : ℕ). ltb b 2) ≡ 2
+    unfolding count
+    two-low = refl
+
+    low-apart : (b : ℕ) → (ltb b 2 && listed b (args .bad)) ≡ false
+    low-apart b =
+        by-order b 2 (λ h. and-false-right (ltb b 2) (low-unlisted (args .bad) each b h)) (λ h. and-false-left (listed b (args .bad)) (lt-false h))
+
+    -- free are all others
+    fresh-count : count blocks (freeOf (freshOwner args)) + (2 + badBlocks (args .bad)) ≡ blocks
+    unfolding badBlocks
+    fresh-count =
+        let held : count blocks (λ (b : ℕ). not (freeOf (freshOwner args) b)) ≡ count blocks (λ (b : ℕ). (ltb b 2 || listed b (args .bad))) =
+        count-cong blocks (λ (b : ℕ). not (freeOf (freshOwner args) b)) (λ (b : ℕ). (ltb b 2 || listed b (args .bad))) (λ b l. fresh-taken b) in
+        let both : count blocks (λ (b : ℕ). (ltb b 2 || listed b (args .bad))) ≡ count blocks (λ (b : ℕ). ltb b 2) + count blocks (λ (b : ℕ). listed b (args .bad)) =
+        count-or blocks (λ (b : ℕ). ltb b 2) (λ (b : ℕ). listed b (args .bad)) (λ b l. low-apart b) in
+        omega (arith, two-low, count-not blocks (freeOf (freshOwner args)))
+
+    -- free blocks, those of the list, and block 1 are all blocks but block 0
+    fresh-sum : count blocks (freeOf (freshOwner args)) + (differentBlocks (args .bad) + 1) ≡ usable
+    fresh-sum = omega (arith, fresh-count, different-is (args .bad) each)
+
+    -- the free word of a fresh disk is that of demand 3
+    fresh-word : freeSectors (blocks - 2 - badBlocks (args .bad)) ≡ freeWord (differentBlocks (args .bad)) 0 0
+    unfolding freeWord dirBlocks
+    fresh-word = omega (arith, different-is (args .bad) each)
+
 -- a formatted disk is that of the inner model after the format
-pub format-is : (args : FormatArguments) → formatDisk args ≡ render (innerFormat args)
-unfolding formatDisk render innerFormat header freeWord fileBlocks dirBlocks sum heldBlocks emptySlots
-format-is args =
-    with-only (freshHeader args) (freshOwner args) (content emptySlots emptySlots) (formatDisk args)
+pub format-is : (args : FormatArguments) → EachCanBeBad (args .bad) → formatDisk args ≡ render (innerFormat args)
+unfolding formatDisk render innerFormat header fileBlocks sum heldBlocks emptySlots
+format-is args each =
+    let written : ℕ → ℕ = diskHeaderByte args 0 (freeWord (differentBlocks (args .bad)) 0 0) 1 in
+    with-only written (freshOwner args) (content emptySlots emptySlots) (formatDisk args)
     (with-same (formatDisk args) (freshHeader args) (freshOwner args) (λ (r : Record) (o : ℕ). 0)
     (with-is (freshHeader args) (freshOwner args) (λ (r : Record) (o : ℕ). 0))
-    (freshHeader args) (freshOwner args) (content emptySlots emptySlots)
-    (λ o l. refl) (λ b l. refl) (λ b o i j l. sym (blank (freshOwner args b) o)))
-
-fresh-valid : (args : FormatArguments) (b : ℕ) → Valid (freshOwner args b)
-unfolding freshOwner
-fresh-valid args zero = tt
-fresh-valid args (suc zero) = (omega arith, omega arith)
-fresh-valid args (suc (suc b)) = tt
-
-fresh-system : (args : FormatArguments) (b : ℕ) → freshOwner args b ≡ System → b ≡ 0
-unfolding freshOwner isSystem
-fresh-system args zero e = refl
-fresh-system args (suc zero) e = true≢false (isSystem System) refl (ap isSystem (sym e))
-fresh-system args (suc (suc b)) e = true≢false (isSystem System) refl (ap isSystem (sym e))
-
-fresh-file : (args : FormatArguments) (b f s : ℕ) → freshOwner args b ≡ File f s → (b ≡ 1) × (f ≡ 0) × (s ≡ 0)
-unfolding freshOwner isSystem isFree
-fresh-file args zero f s e = true≢false (isSystem System) refl (ap isSystem e)
-fresh-file args (suc zero) f s e = (refl, cc, cc)
-fresh-file args (suc (suc b)) f s e = true≢false (isFree Free) refl (ap isFree e)
+    written (freshOwner args) (content emptySlots emptySlots)
+    (λ o l. ap (λ (w : ℕ). diskHeaderByte args 0 w 1 o) (fresh-word args each)) (λ b l. refl) (λ b o i j l. sym (blank (freshOwner args b) o)))
 
 fresh-part : (args : FormatArguments) (f s : ℕ) → s < partsOf (innerFormat args) f → (b : ℕ) × (b < blocks) × (freshOwner args b ≡ File f s)
 unfolding freshOwner partsOf innerFormat dirBlocks heldBlocks emptySlots
@@ -94,9 +155,9 @@ fresh-part args zero s h = (1, omega arith, ap (File 0) (omega arith))
 fresh-part args (suc f) s h = absurd (omega arith)
 
 -- the invariant holds after a format
-pub format-inv : (args : FormatArguments) → Inv (innerFormat args)
-unfolding innerFormat partsOf dirBlocks fileBlocks heldBlocks emptySlots sum count freeOf freshOwner isFree isSome
-format-inv args =
+pub format-inv : (args : FormatArguments) → EachCanBeBad (args .bad) → Inv (innerFormat args)
+unfolding innerFormat partsOf dirBlocks fileBlocks heldBlocks emptySlots sum freshOwner isSome
+format-inv args each =
     record {
       own =
           record {
@@ -109,11 +170,12 @@ format-inv args =
             own-part = λ f s h. fresh-part args f s h;
             own-once = λ b b′ f s l l′ e e′. fresh-file args b f s e .0 ∙ sym (fresh-file args b′ f s e′ .0);
           };
+      bad-is = λ b l. fresh-bad args each b;
       slot-zero = refl;
       slot-past = λ k h. refl;
       slot-name = λ k x e. true≢false (isSome (some x)) refl (ap isSome (sym e));
       slot-once = λ j k x y e e′ n. true≢false (isSome (some x)) refl (ap isSome (sym e));
-      free-sum = refl;
+      free-sum = fresh-sum args each;
       peak-most = omega arith;
       updates-fit = omega arith;
     }

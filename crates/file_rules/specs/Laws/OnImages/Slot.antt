@@ -26,7 +26,7 @@ use Rattle.file_rules.specs.Calls.{opensBlock, needed}
 use Rattle.file_rules.specs.Directory.{dirEnd}
 use Rattle.file_rules.specs.Disk.{Disk}
 use Rattle.file_rules.specs.Laws.InnerModel.Reads.{dirEnd-is, freeCount-at}
-use Rattle.file_rules.specs.Laws.InnerModel.Inner.{Inner, presentCount, fileBlocks, render, emptySlot, give, peakAfter, roomFor}
+use Rattle.file_rules.specs.Laws.InnerModel.Inner.{Inner, presentCount, fileBlocks, innerBad, render, emptySlot, give, peakAfter, roomFor}
 use Rattle.file_rules.specs.Laws.InnerModel.Invariant.{Inv}
 use Rattle.file_rules.specs.Laws.Base.Whole.{With, give-block, part-out}
 use Rattle.file_rules.specs.Map.{freeCount}
@@ -196,14 +196,14 @@ module _ (m : Inner) (v : Inv m) where
       by-growth
       (λ t e q r.
       let need : cond (opensBlock (render m) k) (suc n) n ≡ suc n = cond-true (suc n) n (grows-is ∙ t) in
-      leb-iff (dirBlocks (peakAfter m) + (fileBlocks m + n)) usable (cond (opensBlock (render m) k) (suc n) n) (freeCount (render m))
+      leb-iff (innerBad m + (dirBlocks (peakAfter m) + (fileBlocks m + n))) usable (cond (opensBlock (render m) k) (suc n) n) (freeCount (render m))
       (λ h. omega (arith, v .free-sum, freeCount-at m v)) (λ h. omega (arith, v .free-sum, freeCount-at m v)))
       (λ t r.
       let need : cond (opensBlock (render m) k) (suc n) n ≡ n = cond-false (suc n) n (grows-is ∙ t) in
-      leb-iff (dirBlocks (peakAfter m) + (fileBlocks m + n)) usable (cond (opensBlock (render m) k) (suc n) n) (freeCount (render m))
+      leb-iff (innerBad m + (dirBlocks (peakAfter m) + (fileBlocks m + n))) usable (cond (opensBlock (render m) k) (suc n) n) (freeCount (render m))
       (λ h. omega (arith, v .free-sum, freeCount-at m v)) (λ h. omega (arith, v .free-sum, freeCount-at m v)))
 
--- where there is room, the blocks of the directory, of the files and of the new file are at most the usable ones
-pub room-fits : (m : Inner) (x : NamedFile) → roomFor m x ≡ true → dirBlocks (peakAfter m) + (fileBlocks m + blocksFor (length (x .content))) ≤ usable
+-- where there is room, bad blocks and those of the directory, of the files and of the new file are at most the usable ones
+pub room-fits : (m : Inner) (x : NamedFile) → roomFor m x ≡ true → innerBad m + (dirBlocks (peakAfter m) + (fileBlocks m + blocksFor (length (x .content)))) ≤ usable
 unfolding roomFor
 room-fits m x t = true-le t

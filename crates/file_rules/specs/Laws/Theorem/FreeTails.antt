@@ -21,7 +21,7 @@ use Rattle.sector_rules.specs.declared.Reply.{Reply}
 use Rattle.file_rules.specs.declared.Record.{Record}
 use Rattle.file_rules.specs.declared.Record.the-variants.{Free, System}
 use Rattle.file_rules.specs.declared.Entry.{Entry}
-use Rattle.file_rules.specs.Arguments.{FormatArguments}
+use Rattle.file_rules.specs.Arguments.{FormatArguments, EachCanBeBad}
 use Rattle.file_rules.specs.Calls.{DiskChanged, ImageChanged, diskKept, imageKept, wrongLength, onSound, check, needed, addAt, addSound, imaged, add}
 use Rattle.file_rules.specs.Calls.{removeAt, removeSound, remove}
 use Rattle.file_rules.specs.Check.{recordFault, freeRight, diskRefusal}
@@ -219,11 +219,11 @@ render-freed m v b l t =
     written-free (render m) b (λ i k. w .map b i l k ∙ ap (λ (r : Record). encode r i) owned)
 
 history-frees : (old : List ℕ) (args : FormatArguments) (calls : List Call) → length old ≡ imageBytes → length (args .title) ≤ titleMost
-    → (b : ℕ) → b < blocks → freeAt (diskOf (imageEnd (formatted old args) calls)) b ≡ true → IsWrittenFree (diskOf (imageEnd (formatted old args) calls)) b
-history-frees old args calls long short =
+    → EachCanBeBad (args .bad) → (b : ℕ) → b < blocks → freeAt (diskOf (imageEnd (formatted old args) calls)) b ≡ true → IsWrittenFree (diskOf (imageEnd (formatted old args) calls)) b
+history-frees old args calls long short each =
     let m : Inner = innerEnd (innerFormat args) calls in
-    let v : Inv m = end-inv calls (innerFormat args) (format-inv args) in
-    let e : diskOf (imageEnd (formatted old args) calls) ≡ render m = ap diskOf (end-is old args calls long short) ∙ img-disk m v in
+    let v : Inv m = end-inv calls (innerFormat args) (format-inv args each) in
+    let e : diskOf (imageEnd (formatted old args) calls) ≡ render m = ap diskOf (end-is old args calls long short each) ∙ img-disk m v in
     subst (λ (x : Disk). (b : ℕ) → b < blocks → freeAt x b ≡ true → IsWrittenFree x b) (sym e) (render-freed m v)
 
 -- ---- what is counted

@@ -2,32 +2,32 @@
 -- (InModel: agree) and whose slots have the files that the accepted calls leave (FilesLeft: left-is); its invariant (InnerModel: Inv) gives the rest.
 use mathlib.Core.Path.{_≡_, refl, sym, ap, ap₂, _∙_, subst}
 use mathlib.Core.Bool.{Bool, true, false, cond}
-use mathlib.Core.List.{List, []}
+use mathlib.Core.List.{List, [], _∷_}
 use mathlib.Core.Option.{none, some}
 use Prim.Native.Nat.{ℕ, suc, _+_, _≤_, _<_, max}
 use native.Mathlib.Omega.{arith}
-use lib.Dec.{leb}
+use lib.Dec.{leb, ltb}
 use lib.ListN.{length, getD}
 use Rattle.laws.specs.Below.{count}
 use Rattle.laws.specs.Numbers.{at16}
 use Rattle.laws.specs.Options.{isSome}
-use Rattle.laws.specs.Laws.Cases.{by-order, by-test}
+use Rattle.laws.specs.Laws.Cases.{by-order, by-test, by-cond}
 use Rattle.laws.specs.Laws.Tests.{lt-true, lt-false, true≢false, cond-true, cond-false, and-true}
 use Rattle.laws.specs.Laws.Lowest.{lowest-low}
 use Rattle.sector_rules.specs.Geometry.{imageBytes}
 use Rattle.sector_rules.specs.Replies.{done, refusal}
 use Rattle.file_rules.specs.Calls.{Outcome, ImageChanged, bufferKept, freshOwner, formatDisk, format, check, deliver, read, add}
 use Rattle.file_rules.specs.Directory.{nameEq, nameRight, held, dirEnd}
-use Rattle.file_rules.specs.Arguments.{FormatArguments}
+use Rattle.file_rules.specs.Arguments.{FormatArguments, EachCanBeBad}
 use Rattle.file_rules.specs.Disk.{Disk, diskOf, imageOf}
-use Rattle.file_rules.specs.Histories.{Call, toAdd, toRead, imageOut, imageOuts, imageEnd, modelOuts, modelEnd}
+use Rattle.file_rules.specs.Histories.{Call, toAdd, toRemove, toList, toRead, imageOut, imageOuts, imageEnd, modelOuts, modelEnd}
 use Rattle.file_rules.specs.Histories.{filesLeft, mostPresent, blocksOfFiles, fileNamed, IsPresent}
 use Rattle.file_rules.specs.History.{dataFound, HasEntry, Belongs, Holds, formatted, EveryHistory, HistoryCheck, EveryByte}
 use Rattle.file_rules.specs.Laws.InModel.Agree.{agree, fresh-listed, start-is}
 use Rattle.file_rules.specs.Laws.Base.Disk.{block-lt, offset-lt, byte-is, length-image}
 use Rattle.file_rules.specs.Laws.InnerModel.Reads.{dirEnd-is, word20, held-is, found-slot}
-use Rattle.file_rules.specs.Laws.InnerModel.Inner.{Inner, presentCount, fileBlocks, render, emptySlots, innerFormat, innerFind, innerRead}
-use Rattle.file_rules.specs.Laws.InnerModel.Inner.{InnerChanged, innerRefused, peakAfter, roomFor, innerAdd, innerOut, innerOuts, innerEnd}
+use Rattle.file_rules.specs.Laws.InnerModel.Inner.{Inner, presentCount, fileBlocks, innerBad, render, emptySlots, innerFormat, innerFind, innerRead}
+use Rattle.file_rules.specs.Laws.InnerModel.Inner.{InnerChanged, innerRefused, innerRemoveAt, innerRemove, peakAfter, innerAddAt, roomFor, innerAdd, innerStep, innerOut, innerOuts, innerEnd}
 use Rattle.file_rules.specs.Laws.InnerModel.Invariant.{partsOf, Inv}
 use Rattle.file_rules.specs.Laws.FilesLeft.Left.{count-is, left-is}
 use Rattle.file_rules.specs.Laws.InModel.Listed.{withOwner, BlocksListed}
@@ -36,7 +36,7 @@ use Rattle.file_rules.specs.Laws.Base.Names.{bounds-name}
 use Rattle.file_rules.specs.Laws.Base.Results.{result-is}
 use Rattle.file_rules.specs.Laws.OnImages.Run.{format-done, format-is, format-inv, img-disk, img-sound, out-is, runs, end-inv}
 use Rattle.file_rules.specs.Laws.FilesLeft.Zero.{by-slot, filled-below, slot-entry, zero-outside}
-use Rattle.file_rules.specs.Model.{NamedFile, HeldFile, Model, dirBlocks, usable, freeWord, modelDisk, modelFormat, hasName, heldData}
+use Rattle.file_rules.specs.Model.{NamedFile, HeldFile, Model, dirBlocks, differentBlocks, usable, freeWord, modelDisk, modelFormat, hasName, heldData}
 use Rattle.file_rules.specs.Sizes.{nameMost, titleMost}
 use Rattle.file_rules.specs.Written.{blocksFor}
 
@@ -99,10 +99,11 @@ module _ (m : Inner) (v : Inv m) (fs : List NamedFile) (r : Fills (m .slots) fs)
       (λ s. ap (λ (c : InnerChanged). c .answer) (cond-true _ _ t ∙ cond-false _ _ (lt-false h) ∙ cond-true _ _ s) ∙ sym (cond-true _ _ s))
       (λ s. ap (λ (c : InnerChanged). c .answer) (cond-true _ _ t ∙ cond-false _ _ (lt-false h) ∙ cond-false _ _ s) ∙ sym (cond-false _ _ s)))
 
-  room-by : (x : NamedFile) → roomFor m x ≡ leb (dirBlocks (max (m .peak) (suc (length fs))) + (blocksOfFiles fs + blocksFor (length (x .content)))) usable
+  room-by : (x : NamedFile) → roomFor m x
+      ≡ leb (innerBad m + (dirBlocks (max (m .peak) (suc (length fs))) + (blocksOfFiles fs + blocksFor (length (x .content))))) usable
   unfolding roomFor peakAfter
   room-by x =
-      ap₂ (λ (p s : ℕ). leb (dirBlocks (max (m .peak) (suc p)) + (s + blocksFor (length (x .content)))) usable) (count-is m v fs r) present-blocks
+      ap₂ (λ (p s : ℕ). leb (innerBad m + (dirBlocks (max (m .peak) (suc p)) + (s + blocksFor (length (x .content))))) usable) (count-is m v fs r) present-blocks
 
   slot-of : (x : NamedFile) → IsPresent x fs → (k : ℕ) × (0 < k) × (k < dirEnd (render m)) × HasEntry (render m) k x
   slot-of x p =
@@ -118,9 +119,30 @@ module _ (m : Inner) (v : Inv m) (fs : List NamedFile) (r : Fills (m .slots) fs)
       (λ e. true≢false (held (render m) k) h (held-is m v k low none e))
       (λ x e. (x, fills-present fs (m .slots) k x e r, slot-entry m v fs r k x e))
 
+-- ---- what no call changes
+
+next-arguments : (c : Call) (m : Inner) → innerStep m c .arguments ≡ m .arguments
+unfolding innerStep innerAdd innerRemove innerRefused innerAddAt innerRemoveAt
+next-arguments (toList buf) m = refl
+next-arguments (toRead name buf) m = refl
+next-arguments (toRemove name) m =
+    let same : InnerChanged → Type 0 = λ c. c .modelAfter .arguments ≡ m .arguments in
+    by-cond same (nameRight name) _ _ (λ t. by-cond same (ltb (innerFind m name) (suc (m .peak))) _ _ (λ h. refl) (λ h. refl)) (λ t. refl)
+next-arguments (toAdd x) m =
+    let same : InnerChanged → Type 0 = λ c. c .modelAfter .arguments ≡ m .arguments in
+    by-cond same (nameRight (x .name)) _ _
+    (λ t. by-cond same (ltb (innerFind m (x .name)) (suc (m .peak))) _ _ (λ h. refl)
+    (λ h. by-cond same (roomFor m x) _ _ (λ r. refl) (λ r. refl))) (λ t. refl)
+
+-- a history keeps the arguments of its format
+same-arguments : (cs : List Call) (m : Inner) → innerEnd m cs .arguments ≡ m .arguments
+unfolding innerEnd
+same-arguments [] m = refl
+same-arguments (c ∷ cs) m = same-arguments cs (innerStep m c) ∙ next-arguments c m
+
 -- ---- the whole
 
-module _ (args : FormatArguments) (calls : List Call) where
+module _ (args : FormatArguments) (each : EachCanBeBad (args .bad)) (calls : List Call) where
   abbrev m₀ : Inner
   m₀ = innerFormat args
 
@@ -140,10 +162,15 @@ module _ (args : FormatArguments) (calls : List Call) where
   P = mostPresent [] calls os
 
   v : Inv m
-  v = end-inv calls m₀ (format-inv args)
+  v = end-inv calls m₀ (format-inv args each)
 
   both : Fills (m .slots) fs × (m .peak ≡ max (m₀ .peak) P)
-  both = left-is calls m₀ [] (format-inv args) (fresh-fills args) (fresh-few args)
+  both = left-is calls m₀ [] (format-inv args each) (fresh-fills args) (fresh-few args)
+
+  -- the arguments of the format stay
+  bad-same : innerBad m ≡ differentBlocks (args .bad)
+  unfolding innerFormat
+  bad-same = ap (λ (a : FormatArguments). differentBlocks (a .bad)) (same-arguments calls m₀)
 
   peak-most-is : m .peak ≡ P
   peak-most-is = omega (arith, both .1, fresh-peak args)
@@ -151,7 +178,7 @@ module _ (args : FormatArguments) (calls : List Call) where
   with-model : (os ≡ modelOuts b₀ calls) × (render m ≡ modelDisk (modelEnd b₀ calls)) × (m .peak ≡ modelEnd b₀ calls .peak)
   with-model =
       let e : m₀ ≡ withOwner b₀ (freshOwner args) = start-is args in
-      let w : Inv (withOwner b₀ (freshOwner args)) = subst Inv e (format-inv args) in
+      let w : Inv (withOwner b₀ (freshOwner args)) = subst Inv e (format-inv args each) in
       let l : BlocksListed (b₀ .slots) (b₀ .dir) (freshOwner args) (partsOf (withOwner b₀ (freshOwner args))) =
       subst (λ (z : Inner). BlocksListed (b₀ .slots) (b₀ .dir) (freshOwner args) (partsOf z)) e (fresh-listed args) in
       let h : (innerOuts (withOwner b₀ (freshOwner args)) calls ≡ modelOuts b₀ calls)
@@ -182,13 +209,15 @@ module _ (args : FormatArguments) (calls : List Call) where
             (of-slot m v fs (both .0));
         peak-is = sym (with-model .2) ∙ peak-most-is;
         free-word =
-            ap (λ (d : Disk). at16 (d 0) 20) on-disk ∙ word20 m v ∙ ap₂ freeWord peak-most-is (present-blocks m v fs (both .0));
+            ap (λ (d : Disk). at16 (d 0) 20) on-disk ∙ word20 m v ∙ ap (λ (n : ℕ). freeWord n (m .peak) (fileBlocks m)) bad-same
+            ∙ ap₂ (freeWord (differentBlocks (args .bad))) peak-most-is (present-blocks m v fs (both .0));
         no-less = room-left;
         add-gives = λ x p q n.
             add-at x ∙ add-found m v fs (both .0) x p q n
             ∙ ap (λ (b : Bool). cond b done (refusal 15))
             (room-by m v fs (both .0) x
-            ∙ ap (λ (p : ℕ). leb (dirBlocks (max p (suc (length fs))) + (blocksOfFiles fs + blocksFor (length (x .content)))) usable) peak-most-is);
+            ∙ ap₂ (λ (n p : ℕ). leb (n + (dirBlocks (max p (suc (length fs))) + (blocksOfFiles fs + blocksFor (length (x .content))))) usable)
+            bad-same peak-most-is);
         zero-else =
             subst (λ (d : Disk). (b o : ℕ) → (Belongs d fs b o → ⊥) → d b o ≡ 0) (sym on-disk) (zero-outside m v fs (both .0));
       }
@@ -199,40 +228,40 @@ module _ (args : FormatArguments) (calls : List Call) where
       add-at : (x : NamedFile) → add img (x .name) (x .date) (x .content) .answer ≡ innerAdd m x .answer
       add-at x = unfold imageOut innerOut bufferKept in ap (λ (o : Outcome). o .answer) (out-is m v (toAdd x))
 
-      room-left : dirBlocks P + blocksOfFiles fs ≤ usable
-      room-left = omega (arith, v .free-sum, ap dirBlocks peak-most-is, present-blocks m v fs (both .0))
+      room-left : differentBlocks (args .bad) + (dirBlocks P + blocksOfFiles fs) ≤ usable
+      room-left = omega (arith, v .free-sum, bad-same, ap dirBlocks peak-most-is, present-blocks m v fs (both .0))
 
-formatted-is : (old : List ℕ) (args : FormatArguments) → length old ≡ imageBytes → length (args .title) ≤ titleMost
+formatted-is : (old : List ℕ) (args : FormatArguments) → length old ≡ imageBytes → length (args .title) ≤ titleMost → EachCanBeBad (args .bad)
     → formatted old args ≡ imageOf (render (innerFormat args))
-formatted-is old args long short = ap (λ (w : ImageChanged). w .image) (format-done old args long short) ∙ ap imageOf (format-is args)
+formatted-is old args long short each = ap (λ (w : ImageChanged). w .image) (format-done old args long short each) ∙ ap imageOf (format-is args each)
 
 -- the image at the end of a history is the inner model's
-pub end-is : (old : List ℕ) (args : FormatArguments) (calls : List Call) → length old ≡ imageBytes → length (args .title) ≤ titleMost
+pub end-is : (old : List ℕ) (args : FormatArguments) (calls : List Call) → length old ≡ imageBytes → length (args .title) ≤ titleMost → EachCanBeBad (args .bad)
     → imageEnd (formatted old args) calls ≡ imageOf (render (innerEnd (innerFormat args) calls))
-end-is old args calls long short =
-    ap (λ (l : List ℕ). imageEnd l calls) (formatted-is old args long short) ∙ runs calls (innerFormat args) (format-inv args) .1
+end-is old args calls long short each =
+    ap (λ (l : List ℕ). imageEnd l calls) (formatted-is old args long short each) ∙ runs calls (innerFormat args) (format-inv args each) .1
 
 -- for every history each reply, each result buffer and the whole image are the model's, and what the model says of them holds
 pub history : EveryHistory
-history old args calls long short =
-    let e : imageEnd (formatted old args) calls ≡ imageOf (render (innerEnd (innerFormat args) calls)) = end-is old args calls long short in
+history old args calls long short each =
+    let e : imageEnd (formatted old args) calls ≡ imageOf (render (innerEnd (innerFormat args) calls)) = end-is old args calls long short each in
     let o : imageOuts (formatted old args) calls ≡ innerOuts (innerFormat args) calls =
-    ap (λ (l : List ℕ). imageOuts l calls) (formatted-is old args long short) ∙ runs calls (innerFormat args) (format-inv args) .0 in (
-      ap (λ (w : ImageChanged). w .answer) (format-done old args long short),
+    ap (λ (l : List ℕ). imageOuts l calls) (formatted-is old args long short each) ∙ runs calls (innerFormat args) (format-inv args each) .0 in (
+      ap (λ (w : ImageChanged). w .answer) (format-done old args long short each),
       subst (λ (im : List ℕ). Holds args calls im (imageOuts (formatted old args) calls)
           (filesLeft [] calls (imageOuts (formatted old args) calls)) (mostPresent [] calls (imageOuts (formatted old args) calls))) (sym e)
           (subst (λ (xs : List Outcome).
           Holds args calls (imageOf (render (innerEnd (innerFormat args) calls))) xs (filesLeft [] calls xs) (mostPresent [] calls xs)) (sym o)
-          (history-holds args calls)),
+          (history-holds args each calls)),
     )
 
 -- after every history the check passes
 pub history-check : HistoryCheck
 unfolding check
-history-check old args calls long short =
+history-check old args calls long short each =
     let n : Inner = innerEnd (innerFormat args) calls in
-    let w : Inv n = end-inv calls (innerFormat args) (format-inv args) in
-    ap check (end-is old args calls long short) ∙ img-sound n w _ _
+    let w : Inv n = end-inv calls (innerFormat args) (format-inv args each) in
+    ap check (end-is old args calls long short each) ∙ img-sound n w _ _
 
 -- each byte of an image is a byte of its disk
 pub every-byte : EveryByte

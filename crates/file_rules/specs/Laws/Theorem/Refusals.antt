@@ -2,7 +2,7 @@
 -- (image-disk); each other refusal gives back what was lent.
 -- Rests on calls that judge a disk first (Base.OnSound) and on the disk and its image (Base.Disk).
 use mathlib.Core.Path.{_≡_, refl, ap, _∙_}
-use mathlib.Core.Bool.{Bool, true, false, cond}
+use mathlib.Core.Bool.{Bool, true, false, cond, _&&_}
 use mathlib.Core.List.{List}
 use Prim.Native.Nat.{ℕ}
 use lib.Dec.{leb, ltb}
@@ -18,7 +18,7 @@ use Rattle.sector_rules.specs.Laws.Rewrite.Judged.{rewrite-kept}
 use Rattle.file_rules.specs.Calls.{Outcome, DiskChanged, ImageChanged, bufferKept, diskKept, imageKept, imageRight, wrongLength}
 use Rattle.file_rules.specs.Calls.{format, deliver, listSound, list, readSound, read, needed, addSound, imaged, add, removeSound, remove}
 use Rattle.file_rules.specs.Directory.{nameRight, dirEnd, findName, vacantSlot}
-use Rattle.file_rules.specs.Arguments.{FormatArguments}
+use Rattle.file_rules.specs.Arguments.{FormatArguments, badListRight}
 use Rattle.file_rules.specs.Disk.{Disk, diskOf, imageOf}
 use Rattle.file_rules.specs.Laws.Base.Disk.{image-disk}
 use Rattle.file_rules.specs.Laws.Base.OnSound.{by-sound}
@@ -84,7 +84,7 @@ format-unchanged : (image : List ℕ) (args : FormatArguments) → KeepsImage im
 unfolding format
 format-unchanged image args =
     by-image image (imageRight image) _ _
-    (by-image image (leb (length (args .title)) titleMost) _ _ (λ n. absurd (n refl)) (imageKept-keeps image (refusal 12)))
+    (by-image image (leb (length (args .title)) titleMost && badListRight (args .bad)) _ _ (λ n. absurd (n refl)) (imageKept-keeps image (refusal 12)))
     (imageKept-keeps image wrongLength)
 
 -- ---- on a result buffer

@@ -2,7 +2,8 @@
 -- Rests on: the laws of the disk in block order (Base/Disk), that a written header passes 8 (Base/Header), and that a format is accepted (OnImages/Run);
 -- all else is computed.
 use mathlib.Core.Bool.{true}
-use mathlib.Core.List.{List}
+use mathlib.Core.Logic.{_≢_}
+use mathlib.Core.List.{List, []}
 use mathlib.Core.Path.{_≡_, refl, sym, ap, _∙_, subst}
 use Prim.Native.Nat.{ℕ, suc, _-_, _≤_, _<_}
 use native.Mathlib.Omega.{arith}
@@ -22,18 +23,19 @@ use Rattle.sector_rules.specs.declared.Fault.the-variants.{Sound}
 use Rattle.sector_rules.specs.Geometry.{sectorBytes, blocks}
 use Rattle.sector_rules.specs.Replies.{done, replyWith}
 use Rattle.file_rules.specs.declared.Record.{Record}
-use Rattle.file_rules.specs.Arguments.{FormatArguments}
+use Rattle.file_rules.specs.Arguments.{FormatArguments, argumentsOf, listed, badBlocks}
 use Rattle.file_rules.specs.Calls.{ImageChanged, unless, imageRight, onSound, freshOwner, freshHeader, formatDisk, check}
 use Rattle.file_rules.specs.Check.{diskHeaderFault, recordFault, mapFault}
 use Rattle.file_rules.specs.Check.{partsRight, noRecordBears, newName, entryRight, fileRight, fileFault}
-use Rattle.file_rules.specs.Check.{refusal9, startRefusal, refusal10, refusal11, diskRefusal}
+use Rattle.file_rules.specs.Check.{goodRight, refusal9, refusal19, startRefusal, refusal10, refusal11, diskRefusal}
 use Rattle.file_rules.specs.Directory.{lowered, nameEq, entryOf, entryByte, nameOf, entryFor, slotByte, slotEntry, slotName, held, dirBytes, dirEnd}
 use Rattle.file_rules.specs.Disk.{Disk, imagePlace, imageOf, setByte}
+use Rattle.file_rules.specs.Laws.Base.BadList.{none-bad}
 use Rattle.file_rules.specs.Laws.Base.Disk.{first-place, length-image, disk-image, image-set}
 use Rattle.file_rules.specs.Laws.Base.Header.{header-none, header-passes}
 use Rattle.file_rules.specs.Laws.Base.Whole.{with-is}
 use Rattle.file_rules.specs.Laws.OnImages.Run.{format-done}
-use Rattle.file_rules.specs.Map.{decode, encode, numberOf, numberAt, recordAt, isSystem, isOther, bears, isPart, within, partBlock}
+use Rattle.file_rules.specs.Map.{decode, encode, numberOf, numberAt, recordAt, isBad, badAt, badCount, isSystem, isOther, bears, isPart, within, partBlock}
 use Rattle.file_rules.specs.Model.{Model, fileOf, takenBy, slotOf, dirByte, content, position, orRecord, slotRecord, modelRecord, modelHeader, modelDisk}
 use Rattle.file_rules.specs.Sizes.{blockBytes, mapStart, freeSectors}
 use Rattle.file_rules.specs.Written.{fixedByte, diskHeaderByte, diskWith}
@@ -86,9 +88,9 @@ set-is d o v e l = ap (λ (i : ℕ). set (imageOf d) i v) (sym e) ∙ image-set 
 changed-is : (d : Disk) → NothingOutside d → (o v : ℕ) → imagePlace 0 o ≡ o → o < blockBytes → check (set (imageOf d) o v) ≡ judgedReply (setByte d 0 o v)
 changed-is d w o v e l = ap check (set-is d o v e l) ∙ check-is (setByte d 0 o v) (set-nothing-outside d o v l w)
 
--- what 9 to 11 say of a disk
+-- what 9, 19, 10 and 11 say of a disk
 unfoldable replyAfterHeader : Disk → Reply
-replyAfterHeader d = unless (orElse (refusal9 d) (orElse (refusal10 d) (refusal11 d))) (λ (r : Reply). r) done
+replyAfterHeader d = unless (orElse (orElse (refusal9 d) (refusal19 d)) (orElse (refusal10 d) (refusal11 d))) (λ (r : Reply). r) done
 
 -- where the header is right, they decide
 past-header : (d : Disk) → diskHeaderFault d ≡ Sound → judgedReply d ≡ replyAfterHeader d
@@ -96,56 +98,100 @@ unfolding judgedReply replyAfterHeader diskRefusal startRefusal orElse
 past-header d e = rw (header-none d e) refl
 
 -- a disk has the header of a fresh one
-abbrev pub HasFreshHeader : FormatArguments → Disk → Type 0
+abbrev HasFreshHeader : FormatArguments → Disk → Type 0
 HasFreshHeader args d = (o : ℕ) → o < mapStart → d 0 o ≡ freshHeader args o
 
 -- a fresh disk has its header
-pub fresh-header : (args : FormatArguments) → HasFreshHeader args (formatDisk args)
+fresh-header : (args : FormatArguments) → HasFreshHeader args (formatDisk args)
 unfolding formatDisk
 fresh-header args = with-is (freshHeader args) (freshOwner args) (λ (r : Record) (o : ℕ). 0) .head
 
 -- a disk with letters and fields of a fresh header passes 8
-pub fresh-passes : (args : FormatArguments) (d : Disk) → ((o : ℕ) → o < 4 → d 0 o ≡ freshHeader args o)
-    → ((o : ℕ) → 22 ≤ o → o < 76 → d 0 o ≡ freshHeader args o) → diskHeaderFault d ≡ Sound
-fresh-passes args = header-passes args 0 (freeSectors (blocks - 2)) 1 (lit≤ tt) (lit< tt)
+fresh-passes : (args : FormatArguments) (d : Disk) → ((o : ℕ) → o < 4 → d 0 o ≡ freshHeader args o)
+    → ((o : ℕ) → 24 ≤ o → o < 76 → d 0 o ≡ freshHeader args o) → diskHeaderFault d ≡ Sound
+fresh-passes args = header-passes args 0 (freeSectors (blocks - 2 - badBlocks (args .bad))) 1 (lit≤ tt) (lit< tt)
 
--- a byte of the map that is another leaves the header
-map-header : (args : FormatArguments) (d : Disk) (p v : ℕ) → mapStart ≤ p → HasFreshHeader args d → HasFreshHeader args (setByte d 0 p v)
+-- bytes that 8 judges are those of a fresh disk
+abbrev pub JudgedFresh : FormatArguments → Disk → Type 0
+JudgedFresh args d = ((o : ℕ) → o < 4 → d 0 o ≡ freshHeader args o) × ((o : ℕ) → 24 ≤ o → o < 76 → d 0 o ≡ freshHeader args o)
+
+-- a byte that 8 does not judge: one of 4 to 23, or one after the tables, in the first sector
+abbrev pub Unjudged : ℕ → Type 0
+Unjudged p = (p < sectorBytes) × (4 ≤ p) × (24 ≤ p → 76 ≤ p)
+
+-- another byte there leaves them
+judged-stays : (args : FormatArguments) (d : Disk) (p v : ℕ) → Unjudged p → JudgedFresh args d → JudgedFresh args (setByte d 0 p v)
 unfolding setByte
-map-header args d p v k w o h = upd₂-same d 0 (upd (d 0) p v) 0 o refl ∙ upd-other (d 0) p v o (omega arith) ∙ w o h
+judged-stays args d p v k w =
+    let other : (o : ℕ) → o ≢ p → setByte d 0 p v 0 o ≡ d 0 o = λ o q. upd₂-same d 0 (upd (d 0) p v) 0 o refl ∙ upd-other (d 0) p v o q in (
+      λ o h. other o (λ e. omega (arith, k .1)) ∙ w .0 o h,
+      λ o g h. other o (λ e. omega (arith, k .2 (omega arith))) ∙ w .1 o g h,
+    )
 
--- what check says of an image of which a byte of the map is another
-map-changed : (args : FormatArguments) (d : Disk) → NothingOutside d → HasFreshHeader args d → (p v : ℕ) → mapStart ≤ p → p < sectorBytes
-    → check (set (imageOf d) p v) ≡ replyAfterHeader (setByte d 0 p v)
-map-changed args d out head p v k l =
-    changed-is d out p v (first-place p l) (omega arith)
-    ∙ past-header (setByte d 0 p v)
-    (fresh-passes args (setByte d 0 p v)
-    (λ o h. map-header args d p v k head o (omega arith)) (λ o g h. map-header args d p v k head o (omega arith)))
+-- a disk that 8 passes, with nothing outside its blocks
+pub record Passable (args : FormatArguments) (d : Disk) : Type 0 where
+  pub inside : NothingOutside d
+  pub judged : JudgedFresh args d
 
-judged-is : (args : FormatArguments) → RecordsJudged (imageOf (formatDisk args))
-unfolding replyAfterHeader refusal9 refusal10 refusal11 dirBytes mapFault recordAt numberAt
+-- a fresh disk is one
+pub passable-fresh : (args : FormatArguments) → Passable args (formatDisk args)
+passable-fresh args =
+    record { inside = fresh-nothing-outside args; judged = (λ o h. fresh-header args o (omega arith), λ o g h. fresh-header args o (omega arith)) }
+
+-- another byte that 8 does not judge leaves it one
+pub passable-set : (args : FormatArguments) (d : Disk) (p v : ℕ) → Unjudged p → Passable args d → Passable args (setByte d 0 p v)
+passable-set args d p v k w =
+    record { inside = set-nothing-outside d p v (omega (arith, k .0)) (w .inside); judged = judged-stays args d p v k (w .judged) }
+
+-- it passes 8
+pub passable-passes : (args : FormatArguments) (d : Disk) → Passable args d → diskHeaderFault d ≡ Sound
+passable-passes args d w = fresh-passes args d (w .judged .0) (w .judged .1)
+
+-- what check says of an image of which such a byte is another
+byte-changed : (args : FormatArguments) (d : Disk) → Passable args d → (p v : ℕ) → Unjudged p → check (set (imageOf d) p v) ≡ replyAfterHeader (setByte d 0 p v)
+byte-changed args d w p v k =
+    changed-is d (w .inside) p v (first-place p (k .0)) (omega (arith, k .0))
+    ∙ past-header (setByte d 0 p v) (passable-passes args (setByte d 0 p v) (passable-set args d p v k w))
+
+-- the same of two bytes
+two-changed : (args : FormatArguments) (d : Disk) → Passable args d → (p v q w : ℕ) → Unjudged p → Unjudged q
+    → check (set (set (imageOf d) p v) q w) ≡ replyAfterHeader (setByte (setByte d 0 p v) 0 q w)
+two-changed args d ok p v q w k l =
+    ap (λ (x : List ℕ). check (set x q w)) (set-is d p v (first-place p (k .0)) (omega (arith, k .0)))
+    ∙ byte-changed args (setByte d 0 p v) (passable-set args d p v k ok) q w l
+
+-- the same of three bytes
+three-changed : (args : FormatArguments) (d : Disk) → Passable args d → (p v q w r x : ℕ) → Unjudged p → Unjudged q → Unjudged r
+    → check (set (set (set (imageOf d) p v) q w) r x) ≡ replyAfterHeader (setByte (setByte (setByte d 0 p v) 0 q w) 0 r x)
+three-changed args d ok p v q w r x k l m =
+    ap (λ (y : List ℕ). check (set (set y q w) r x)) (set-is d p v (first-place p (k .0)) (omega (arith, k .0)))
+    ∙ two-changed args (setByte d 0 p v) (passable-set args d p v k ok) q w r x l m
+
+judged-is : (title : List ℕ) (number : ℕ) → RecordsJudged (imageOf (formatDisk (argumentsOf title number [])))
+unfolding replyAfterHeader refusal9 refusal19 refusal10 refusal11 dirBytes mapFault recordAt numberAt goodRight badCount badAt isBad badBlocks listed
     formatDisk diskWith diskHeaderByte fixedByte patch highByte tab at16 bigEndian lowest count
     decode encode numberOf freshOwner recordFault isSystem isOther faultBelow unless orElse setByte upd
     fileFault fileRight partsRight dirEnd all within isPart bears noRecordBears quotientUp held
-judged-is args =
-    let fresh : Disk = formatDisk args in
-    let inside : NothingOutside (formatDisk args) = fresh-nothing-outside args in
-    let head : HasFreshHeader args (formatDisk args) = fresh-header args in
-    let d₁ : Disk = setByte (formatDisk args) 0 102 0x00 in
-    let d₂ : Disk = setByte (setByte (formatDisk args) 0 102 0x00) 0 103 0x50 in
-    let inside₁ : NothingOutside d₁ = set-nothing-outside fresh 102 0x00 (lit< tt) inside in
-    let head₁ : HasFreshHeader args d₁ = map-header args fresh 102 0x00 (lit≤ tt) head in
+judged-is title number =
+    let args : FormatArguments = argumentsOf title number [] in
+    let d : Disk = formatDisk args in
+    let ok : Passable args d = passable-fresh args in
     record {
-      first-record = map-changed args fresh inside head 96 0xF9 (lit≤ tt) (lit< tt);
-      first-free = map-changed args fresh inside head 96 0xFD (lit≤ tt) (lit< tt);
-      system-record = map-changed args fresh inside head 99 0xF8 (lit≤ tt) (lit< tt);
-      other-record = map-changed args fresh inside head 396 0xFE (lit≤ tt) (lit< tt);
-      directory-part = map-changed args fresh inside head 101 1 (lit≤ tt) (lit< tt);
-      no-slot =
-          ap (λ (l : List ℕ). check (set (set l 103 0x50) 104 0x00)) (set-is fresh 102 0x00 (first-place 102 (lit< tt)) (lit< tt))
-          ∙ ap (λ (l : List ℕ). check (set l 104 0x00)) (set-is d₁ 103 0x50 (first-place 103 (lit< tt)) (lit< tt))
-          ∙ map-changed args d₂ (set-nothing-outside d₁ 103 0x50 (lit< tt) inside₁) (map-header args d₁ 103 0x50 (lit≤ tt) head₁) 104 0x00 (lit≤ tt) (lit< tt);
+      first-record = byte-changed args d ok 96 0xF9 (lit< tt, lit≤ tt, λ h. lit≤ tt);
+      first-free = byte-changed args d ok 96 0xFD (lit< tt, lit≤ tt, λ h. lit≤ tt);
+      first-bad = three-changed args d ok 96 0xFE 97 0xFF 98 0xFF (lit< tt, lit≤ tt, λ h. lit≤ tt) (lit< tt, lit≤ tt, λ h. lit≤ tt) (lit< tt, lit≤ tt, λ h. lit≤ tt);
+      system-record = byte-changed args d ok 99 0xF8 (lit< tt, lit≤ tt, λ h. lit≤ tt);
+      other-record = byte-changed args d ok 396 0xFC (lit< tt, lit≤ tt, λ h. lit≤ tt);
+      other-tail = two-changed args d ok 396 0xFE 398 0xFE (lit< tt, lit≤ tt, λ h. lit≤ tt) (lit< tt, lit≤ tt, λ h. lit≤ tt);
+      bad-record = byte-changed args d ok 396 0xFE (lit< tt, lit≤ tt, λ h. lit≤ tt);
+      bad-directory = three-changed args d ok 99 0xFE 100 0xFF 101 0xFF (lit< tt, lit≤ tt, λ h. lit≤ tt) (lit< tt, lit≤ tt, λ h. lit≤ tt) (lit< tt, lit≤ tt, λ h. lit≤ tt);
+      good-less = byte-changed args d ok 23 0x9F (lit< tt, lit≤ tt, λ h. omega arith);
+      good-high-byte = byte-changed args d ok 22 0x04 (lit< tt, lit≤ tt, λ h. omega arith);
+      nine-first = two-changed args d ok 396 0xFC 23 0x9F (lit< tt, lit≤ tt, λ h. lit≤ tt) (lit< tt, lit≤ tt, λ h. omega arith);
+      ten-after = two-changed args d ok 101 1 23 0x9F (lit< tt, lit≤ tt, λ h. lit≤ tt) (lit< tt, lit≤ tt, λ h. omega arith);
+      eleven-after = two-changed args d ok 21 0x9B 23 0x9F (lit< tt, lit≤ tt, λ h. omega arith) (lit< tt, lit≤ tt, λ h. omega arith);
+      directory-part = byte-changed args d ok 101 1 (lit< tt, lit≤ tt, λ h. lit≤ tt);
+      no-slot = three-changed args d ok 102 0x00 103 0x50 104 0x00 (lit< tt, lit≤ tt, λ h. lit≤ tt) (lit< tt, lit≤ tt, λ h. lit≤ tt) (lit< tt, lit≤ tt, λ h. lit≤ tt);
     }
 
 -- a model's disk has nothing outside its blocks
@@ -160,22 +206,23 @@ model-header m h =
     let head = with-is (modelHeader m) _ _ .head in
     header-passes _ _ _ (suc (m .peak)) (omega arith) (omega arith) (modelDisk m) (λ o g. head o (omega arith)) (λ o k g. head o (omega arith))
 
-spellings-found : (args : FormatArguments) → replyAfterHeader (modelDisk (twoFiles args reelOne reelCapitals)) ≡ replyWith 10 2 0 0
-unfolding replyAfterHeader refusal9 refusal10 refusal11 dirBytes mapFault recordAt numberAt
+spellings-found : (title : List ℕ) (number : ℕ)
+    → replyAfterHeader (modelDisk (twoFiles (argumentsOf title number []) reelOne reelCapitals)) ≡ replyWith 10 2 0 0
+unfolding replyAfterHeader refusal9 refusal19 refusal10 refusal11 dirBytes mapFault recordAt numberAt goodRight badCount badAt isBad badBlocks listed
     modelDisk modelHeader modelRecord content dirByte slotOf position orRecord slotRecord twoFiles emptyFile reelOne reelCapitals fileOf takenBy
     diskWith diskHeaderByte fixedByte patch highByte same tab at16 at32 bigEndian lowest count
     decode encode numberOf recordFault isSystem isOther faultBelow unless orElse upd
     fileFault fileRight entryRight newName nameEq lowered slotEntry slotName slotByte partBlock entryOf entryByte entryFor nameOf
     partsRight dirEnd all within isPart quotientUp held
-spellings-found args = refl
+spellings-found title number = refl
 
-other-found : (args : FormatArguments) → fileRight (modelDisk (twoFiles args reelOne reelOther)) 2 ≡ true
-unfolding dirBytes recordAt numberAt
+other-found : (title : List ℕ) (number : ℕ) → fileRight (modelDisk (twoFiles (argumentsOf title number []) reelOne reelOther)) 2 ≡ true
+unfolding dirBytes recordAt numberAt listed
     modelDisk modelHeader modelRecord content dirByte slotOf position orRecord slotRecord twoFiles emptyFile reelOne reelOther fileOf takenBy
     diskWith diskHeaderByte fixedByte patch highByte same tab at16 at32 bigEndian lowest count decode encode numberOf upd
     fileRight entryRight newName nameEq lowered slotEntry slotName slotByte partBlock entryOf entryByte entryFor nameOf
     partsRight dirEnd all within isPart quotientUp held
-other-found args = refl
+other-found title number = refl
 
 two-files-header : (args : FormatArguments) → diskHeaderFault (modelDisk (twoFiles args reelOne reelCapitals)) ≡ Sound
 unfolding twoFiles
@@ -185,10 +232,12 @@ two-files-header args = model-header (twoFiles args reelOne reelCapitals) (lit< 
 pub check-values : CheckValues
 check-values =
     record {
-      records-judged = λ old args long short.
-          subst RecordsJudged (sym (ap (λ (w : ImageChanged). w .image) (format-done old args long short))) (judged-is args);
+      records-judged = λ old title number long short.
+          subst RecordsJudged (sym (ap (λ (w : ImageChanged). w .image) (format-done old (argumentsOf title number []) long short none-bad)))
+          (judged-is title number);
       other-sound = other-found;
-      spellings-judged = λ args.
+      spellings-judged = λ title number.
+          let args : FormatArguments = argumentsOf title number [] in
           let m : Model = twoFiles args reelOne reelCapitals in
-          check-is (modelDisk m) (model-nothing-outside m) ∙ past-header (modelDisk m) (two-files-header args) ∙ spellings-found args;
+          check-is (modelDisk m) (model-nothing-outside m) ∙ past-header (modelDisk m) (two-files-header args) ∙ spellings-found title number;
     }

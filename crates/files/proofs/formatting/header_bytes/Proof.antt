@@ -33,7 +33,7 @@ returns c =
     let after-put-start = c .before in
     let after-put-dimensions = after-put-start .before .before .before in
     let after-put-title = after-put-dimensions .before .before .before in
-    header-row _ _ _ _ _ refl (after-put-title .put-title .ensures) (after-put-dimensions .put-dimensions .ensures)
+    λ bad e. header-row _ _ _ _ _ _ e refl (after-put-title .put-title .ensures) (after-put-dimensions .put-dimensions .ensures)
     (after-put-start .put-start .ensures)
 
 pub header-bytes-spec : {M : Type 1} → statement M

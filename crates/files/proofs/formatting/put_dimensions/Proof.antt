@@ -7,6 +7,12 @@ use Rattle.files.specs.Laws.Calling.Fresh.{sized-is}
 use Rattle.files.proofs.formatting.put_dimensions.Statement.{statement}
 use Rattle.files.proofs.formatting.put_dimensions.Tie as tie
 
+mul-good : tie.Need-mul-good
+mul-good c = search needs
+
+sub-good : tie.Need-sub-good
+sub-good c = search needs
+
 cast-put-high2 : tie.Need-cast-put-high2
 cast-put-high2 c = search needs
 
@@ -67,7 +73,7 @@ returns c =
     let after-put-high22 = after-head2 .before in
     let after-head = after-put-high22 .before .before .before in
     let after-put-high2 = after-head .before in
-    sized-is _ _ _ _ _ _ _ _ (after-put-high2 .put-high2 .ensures) (after-put-high22 .put-high22 .ensures)
+    sized-is _ _ _ _ _ _ _ _ _ (after-put-high2 .put-high2 .ensures) (after-put-high22 .put-high22 .ensures)
     (after-put-high23 .put-high23 .ensures) (after-put-high24 .put-high24 .ensures) (after-put-high25 .put-high25 .ensures)
     (after-put-high26 .put-high26 .ensures) (after-put-high27 .put-high27 .ensures)
 
@@ -75,6 +81,8 @@ pub put-dimensions-spec : {M : Type 1} → statement M
 put-dimensions-spec =
     tie.close
     (tie.spec
+    mul-good
+    sub-good
     cast-put-high2
     put-high2-requires
     cast-put-high2-2

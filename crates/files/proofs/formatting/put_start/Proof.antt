@@ -29,11 +29,14 @@ copy-into-requires-2 c κs = search needs
 put-high4-requires : tie.Need-put-high4-requires
 put-high4-requires c κs = search needs
 
-sub-put-high2 : tie.Need-sub-put-high2
-sub-put-high2 c = search needs
+sub-free : tie.Need-sub-free
+sub-free c = search needs
 
-mul-put-high2 : tie.Need-mul-put-high2
-mul-put-high2 c = search needs
+sub-free-2 : tie.Need-sub-free-2
+sub-free-2 c = search needs
+
+mul-free : tie.Need-mul-free
+mul-free c = search needs
 
 cast-put-high2 : tie.Need-cast-put-high2
 cast-put-high2 c = search needs
@@ -67,7 +70,7 @@ returns c =
     let after-backward-table = after-copy-into2 .before .before .before in
     let after-copy-into = after-backward-table .before .before .before in
     let after-side-place-table = after-copy-into .before .before .before in
-    started-is _ _ _ _ _ _ _ _ _ (after-side-place-table .side-place-table .ensures) (after-copy-into .copy-into .ensures)
+    started-is _ _ _ _ _ _ _ _ _ _ (after-side-place-table .side-place-table .ensures) (after-copy-into .copy-into .ensures)
     (after-backward-table .backward-table .ensures) (after-copy-into2 .copy-into2 .ensures)
     (after-put-high4 .put-high4 .ensures) (after-put-high2 .put-high2 .ensures) (after-put-high22 .put-high22 .ensures)
     (after-put-high23 .put-high23 .ensures)
@@ -83,8 +86,9 @@ put-start-spec =
     slice-aggregate-copy-into-2
     copy-into-requires-2
     put-high4-requires
-    sub-put-high2
-    mul-put-high2
+    sub-free
+    sub-free-2
+    mul-free
     cast-put-high2
     put-high2-requires
     put-high2-requires-2

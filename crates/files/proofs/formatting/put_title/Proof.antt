@@ -38,7 +38,7 @@ returns c =
     let after-copy-into = after-head .before in
     let after-shared-slice-known = after-copy-into .before .before .before in
     let start = after-shared-slice-known .before .before in
-    titled-is _ _ _ _ _ _ (start .pre) (after-copy-into .copy-into .ensures) (after-fill .fill .ensures)
+    titled-is _ _ _ _ _ _ _ (start .pre) (after-copy-into .copy-into .ensures) (after-fill .fill .ensures)
     (after-copy-into2 .copy-into2 .ensures) (after-put-high2 .put-high2 .ensures)
 
 pub put-title-spec : {M : Type 1} → statement M

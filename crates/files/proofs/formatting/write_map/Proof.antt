@@ -9,15 +9,16 @@ use borrow.Author.Needs.{needs}
 use Rattle.sector_rules.specs.Geometry.{blocks, imageBytes}
 use Rattle.file_rules.specs.Disk.{diskOf, imageOf}
 use Rattle.files.specs.Laws.Writing.Steps.{FitsRecord}
-use Rattle.files.specs.Laws.Calling.Fresh.{withRecords, freshRecord, records-none, records-more, fresh-fits}
+use Rattle.files.specs.Laws.Calling.BadNoted.{freshRecord}
+use Rattle.files.specs.Laws.Calling.Fresh.{withRecords, records-none, records-more, fresh-fits}
 use Rattle.files.proofs.formatting.write_map.Statement.{statement}
 use Rattle.files.proofs.formatting.write_map.Tie as tie
 
 abbrev Inv-loop : tie.InvT-loop
-Inv-loop image₀ b₀ image b = (b ≤ blocks) × (length image ≡ imageBytes) × (image ≡ imageOf (withRecords (diskOf image₀) freshRecord b))
+Inv-loop image₀ noted b₀ image b = (b ≤ blocks) × (length image ≡ imageBytes) × (image ≡ imageOf (withRecords (diskOf image₀) (freshRecord noted) b))
 
 abbrev μ-loop : tie.MeasureT-loop
-μ-loop image₀ b₀ image b = blocks - b
+μ-loop image₀ noted b₀ image b = blocks - b
 
 loop-holds : tie.Need-loop-holds Inv-loop μ-loop
 loop-holds c = (omega arith, c .before .pre, records-none _ _ (c .before .pre))
@@ -26,7 +27,7 @@ fresh-record-requires : tie.Need-fresh-record-requires Inv-loop μ-loop
 fresh-record-requires c κs = search needs
 
 set-record-requires : tie.Need-set-record-requires Inv-loop μ-loop
-set-record-requires c κs = (c .before .before .before .loop .inv .1, omega arith, subst FitsRecord (sym (c .fresh-record .ensures)) (fresh-fits _))
+set-record-requires c κs = (c .before .before .before .loop .inv .1, omega arith, subst FitsRecord (sym (c .fresh-record .ensures)) (fresh-fits _ _))
 
 add-b : tie.Need-add-b Inv-loop μ-loop
 add-b c = search needs

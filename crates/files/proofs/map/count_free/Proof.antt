@@ -1,79 +1,17 @@
--- `count_free` meets its contract: n of the records below b are free.
--- Rests on: the laws in Loading/Loaded and Loading/Loops; the contracts of map_record and is_free.
+-- `count_free` meets its contract.
+-- Rests on: the contract of count_records.
 -- Assumes nothing.
-use mathlib.Core.Path.{_≡_, refl, sym, ap, _∙_}
-use mathlib.Core.Logic.{⊎-elim}
-use Prim.Native.Nat.{ℕ, _-_, _≤_}
-use native.Mathlib.Omega.{arith}
 use borrow.Author.Needs.{needs}
-use Rattle.laws.specs.Below.{count}
-use Rattle.sector_rules.specs.Geometry.{blocks}
-use Rattle.file_rules.specs.declared.MapRecord.{MapRecord}
-use Rattle.file_rules.specs.Map.{isFree}
-use Rattle.files.specs.Laws.Loading.Loaded.{loadedRecord}
-use Rattle.files.specs.Laws.Loading.Loops.{counted-yes, counted-no}
+use Rattle.files.specs.Laws.Loading.Loaded.{isCounted}
 use Rattle.files.proofs.map.count_free.Statement.{statement}
 use Rattle.files.proofs.map.count_free.Tie as tie
 
-abbrev Inv-loop : tie.InvT-loop
-Inv-loop map n₀ b₀ n b = (b ≤ blocks) × (n ≤ b) × (n ≡ count b (λ (j : ℕ). isFree (loadedRecord map j)))
+count-records-requires : tie.Need-count-records-requires
+count-records-requires c κs = search needs
 
-abbrev μ-loop : tie.MeasureT-loop
-μ-loop map n₀ b₀ n b = blocks - b
-
-loop-holds : tie.Need-loop-holds Inv-loop μ-loop
-unfolding count
-loop-holds c = (omega arith, omega arith, refl)
-
-map-record-requires : tie.Need-map-record-requires Inv-loop μ-loop
-map-record-requires c κs = search needs
-
-is-free-requires : tie.Need-is-free-requires Inv-loop μ-loop
-is-free-requires c κs = search needs
-
-add-n : tie.Need-add-n Inv-loop μ-loop
-add-n c = search needs
-
-add-b : tie.Need-add-b Inv-loop μ-loop
-add-b c = search needs
-
-loop-less : tie.Need-loop-less Inv-loop μ-loop
-loop-less c = omega arith
-
-loop-again : tie.Need-loop-again Inv-loop μ-loop
-loop-again c =
-    let after-map-record = c .before .before in
-    let map-record = after-map-record .map-record in
-    let at-loop = after-map-record .before .before in
-    let loop = at-loop .loop in
-    let start = at-loop .before in
-    let map = start .args .map .now in (
-      omega arith,
-      ⊎-elim (λ w. omega (arith, w .1)) (λ w. omega (arith, w .1)) (c .if1 .came),
-      ⊎-elim
-          (λ w. w .1 ∙ counted-yes (λ (j : ℕ). isFree (loadedRecord map j)) _ _ (loop .inv .2)
-          (sym (ap (λ (m : MapRecord). isFree (m .«record»)) (map-record .ensures)) ∙ sym (c .before .is-free .ensures) ∙
-          w .0 .taken))
-          (λ w. w .1 ∙ counted-no (λ (j : ℕ). isFree (loadedRecord map j)) _ _ (loop .inv .2)
-          (sym (ap (λ (m : MapRecord). isFree (m .«record»)) (map-record .ensures)) ∙ sym (c .before .is-free .ensures) ∙
-          w .0 .left))
-          (c .if1 .came),
-    )
-
-returns : tie.Need-returns Inv-loop μ-loop
-returns c = let e : c .before .loop .b ≡ blocks = omega arith in (rw e at (c .before .loop .inv .2), omega arith)
+returns : tie.Need-returns
+unfolding isCounted
+returns c = c .count-records .ensures
 
 pub count-free-spec : {M : Type 1} → statement M
-count-free-spec =
-    tie.close
-    (tie.spec
-    Inv-loop
-    μ-loop
-    loop-holds
-    map-record-requires
-    is-free-requires
-    add-n
-    add-b
-    loop-less
-    loop-again
-    returns)
+count-free-spec = tie.close (tie.spec count-records-requires returns)

@@ -13,14 +13,17 @@ enum-told c = search needs
 enum-told-2 : tie.Need-enum-told-2
 enum-told-2 c = search needs
 
+enum-told-3 : tie.Need-enum-told-3
+enum-told-3 c = search needs
+
 enum-known-r : tie.Need-enum-known-r
 enum-known-r c = search needs
 
 cast-result : tie.Need-cast-result
 cast-result c = search needs
 
-enum-told-3 : tie.Need-enum-told-3
-enum-told-3 c = search needs
+enum-told-4 : tie.Need-enum-told-4
+enum-told-4 c = search needs
 
 returns : tie.Need-returns
 unfolding bears
@@ -32,11 +35,15 @@ returns-2 c = rw (c .enum-told2 .given .1)
 
 returns-3 : tie.Need-returns-3
 unfolding bears
-returns-3 c = rw (c .before .r .given .1)
+returns-3 c = rw (c .enum-told3 .given .1)
 
 returns-4 : tie.Need-returns-4
 unfolding bears
-returns-4 c = rw (c .enum-told3 .given .1)
+returns-4 c = rw (c .before .r .given .1)
+
+returns-5 : tie.Need-returns-5
+unfolding bears
+returns-5 c = rw (c .enum-told4 .given .1)
 
 pub bears-file-spec : {M : Type 1} → statement M
 bears-file-spec =
@@ -44,10 +51,12 @@ bears-file-spec =
     (tie.spec
     enum-told
     enum-told-2
+    enum-told-3
     enum-known-r
     cast-result
-    enum-told-3
+    enum-told-4
     returns
     returns-2
     returns-3
-    returns-4)
+    returns-4
+    returns-5)

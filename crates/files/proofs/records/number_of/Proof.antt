@@ -12,6 +12,9 @@ enum-told c = search needs
 enum-told-2 : tie.Need-enum-told-2
 enum-told-2 c = search needs
 
+enum-told-3 : tie.Need-enum-told-3
+enum-told-3 c = search needs
+
 enum-known-r : tie.Need-enum-known-r
 enum-known-r c = search needs
 
@@ -27,8 +30,8 @@ cast-result-2 c = search needs
 add-result : tie.Need-add-result
 add-result c = search needs
 
-enum-told-3 : tie.Need-enum-told-3
-enum-told-3 c = search needs
+enum-told-4 : tie.Need-enum-told-4
+enum-told-4 c = search needs
 
 returns : tie.Need-returns
 unfolding numberOf
@@ -40,11 +43,15 @@ returns-2 c = rw (c .enum-told2 .given .1)
 
 returns-3 : tie.Need-returns-3
 unfolding numberOf
-returns-3 c = rw (c .before .r .given .1)
+returns-3 c = rw (c .enum-told3 .given .1)
 
 returns-4 : tie.Need-returns-4
 unfolding numberOf
-returns-4 c = rw (c .enum-told3 .given .1)
+returns-4 c = rw (c .before .r .given .1)
+
+returns-5 : tie.Need-returns-5
+unfolding numberOf
+returns-5 c = rw (c .enum-told4 .given .1)
 
 pub number-of-spec : {M : Type 1} → statement M
 number-of-spec =
@@ -52,13 +59,15 @@ number-of-spec =
     (tie.spec
     enum-told
     enum-told-2
+    enum-told-3
     enum-known-r
     cast-result
     mul-result
     cast-result-2
     add-result
-    enum-told-3
+    enum-told-4
     returns
     returns-2
     returns-3
-    returns-4)
+    returns-4
+    returns-5)

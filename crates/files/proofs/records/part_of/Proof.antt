@@ -13,6 +13,9 @@ enum-told c = search needs
 enum-told-2 : tie.Need-enum-told-2
 enum-told-2 c = search needs
 
+enum-told-3 : tie.Need-enum-told-3
+enum-told-3 c = search needs
+
 enum-known-r : tie.Need-enum-known-r
 enum-known-r c = search needs
 
@@ -28,8 +31,8 @@ cast-if2 c = search needs
 cast-result : tie.Need-cast-result
 cast-result c = search needs
 
-enum-told-3 : tie.Need-enum-told-3
-enum-told-3 c = search needs
+enum-told-4 : tie.Need-enum-told-4
+enum-told-4 c = search needs
 
 returns-2 : tie.Need-returns-2
 unfolding partOf
@@ -40,14 +43,18 @@ unfolding partOf
 returns-3 c = (rw (c .enum-told2 .given .1), omega arith)
 
 returns-4 : tie.Need-returns-4
-returns-4 c = (rw (c .before .before .before .r .given .1) (part-low _ _ _ _ (c .before .if1 .left) (c .if2 .taken)), omega arith)
+unfolding partOf
+returns-4 c = (rw (c .enum-told3 .given .1), omega arith)
 
 returns-5 : tie.Need-returns-5
-returns-5 c = (rw (c .before .before .before .r .given .1) (part-later _ _ _ _ (c .before .if1 .left) (c .if2 .left)), omega arith)
+returns-5 c = (rw (c .before .before .before .r .given .1) (part-low _ _ _ _ (c .before .if1 .left) (c .if2 .taken)), omega arith)
 
 returns-6 : tie.Need-returns-6
+returns-6 c = (rw (c .before .before .before .r .given .1) (part-later _ _ _ _ (c .before .if1 .left) (c .if2 .left)), omega arith)
+
+returns-7 : tie.Need-returns-7
 unfolding partOf
-returns-6 c = (rw (c .enum-told3 .given .1), omega arith)
+returns-7 c = (rw (c .enum-told4 .given .1), omega arith)
 
 pub part-of-spec : {M : Type 1} → statement M
 part-of-spec =
@@ -55,14 +62,16 @@ part-of-spec =
     (tie.spec
     enum-told
     enum-told-2
+    enum-told-3
     enum-known-r
     cast-if1
     returns
     cast-if2
     cast-result
-    enum-told-3
+    enum-told-4
     returns-2
     returns-3
     returns-4
     returns-5
-    returns-6)
+    returns-6
+    returns-7)

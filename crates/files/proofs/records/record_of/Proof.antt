@@ -27,7 +27,17 @@ returns-3 c = simp (c .if3 .taken)
 
 returns-4 : tie.Need-returns-4
 unfolding decode
-returns-4 c = simp (le-ltb _ _ (c .before .before .if1 .left), ne-eqb _ _ (c .before .if2 .left), ne-eqb _ _ (c .if3 .left))
+returns-4 c = simp (c .if4 .taken)
+
+returns-5 : tie.Need-returns-5
+unfolding decode
+returns-5 c =
+    simp (
+      le-ltb _ _ (c .before .before .before .if1 .left),
+      ne-eqb _ _ (c .before .before .if2 .left),
+      ne-eqb _ _ (c .before .if3 .left),
+      ne-eqb _ _ (c .if4 .left),
+    )
 
 pub record-of-spec : {M : Type 1} → statement M
-record-of-spec = tie.close (tie.spec cast-t4 cast-t6 returns returns-2 returns-3 returns-4)
+record-of-spec = tie.close (tie.spec cast-t4 cast-t6 returns returns-2 returns-3 returns-4 returns-5)

@@ -62,7 +62,7 @@ fileCount = fileBound / sequences
 
 no-part : (n k s : ℕ) → fileCount ≤ k → isPart k s (decode n) ≡ false
 unfolding isPart
-no-part n k s hk = decode-none n (isPart k s) refl refl refl (λ f t h. and-false-left (eqb t s) (eq-false {a = f} {b = k} (λ e. omega arith)))
+no-part n k s hk = decode-none n (isPart k s) refl refl refl refl (λ f t h. and-false-left (eqb t s) (eq-false {a = f} {b = k} (λ e. omega arith)))
 
 -- a held slot that is sound has a block
 entry-one : (d : Disk) (k : ℕ) → entryRight d k ≡ true → count blocks (λ (b : ℕ). isPart k 0 (recordAt d b)) ≡ 1

@@ -25,12 +25,12 @@ use Rattle.file_rules.specs.declared.Record.{Record}
 use Rattle.file_rules.specs.declared.Entry.{Entry}
 use Rattle.files.specs.declared.Verdict.{Verdict}
 use Rattle.files.specs.declared.Verdict.the-variants.{Passed, Refused}
-use Rattle.file_rules.specs.Sizes.{slotBytes, slotCount, nameMost, blocksOf, freeSectors}
+use Rattle.file_rules.specs.Sizes.{slotBytes, slotCount, nameMost, blocksOf, freeSectors, goodSectors}
 use Rattle.file_rules.specs.Disk.{Disk, diskOf}
-use Rattle.file_rules.specs.Map.{freeCount, recordAt, bears, isPart, within}
+use Rattle.file_rules.specs.Map.{freeCount, badCount, recordAt, bears, isPart, within}
 use Rattle.file_rules.specs.Directory.{nameEq, nameOf, entryOf, slotEntry, slotName, held, dirBytes, dirEnd}
 use Rattle.file_rules.specs.Check.{recordFault, partsRight, noRecordBears, newName, entryRight, fileRight, fileFault}
-use Rattle.file_rules.specs.Check.{freeRight, refusal9, refusal10, refusal11}
+use Rattle.file_rules.specs.Check.{goodRight, freeRight, refusal9, refusal19, refusal10, refusal11}
 use Rattle.files.specs.Laws.Loading.Loaded.{loadedRecord, MapLoaded, record-loaded, fault-loaded}
 use Rattle.files.specs.Laws.Loading.Chains.{Chained, noRecordBearsIn}
 use Rattle.files.specs.Laws.Loading.Slots.{Located}
@@ -210,3 +210,18 @@ module _ (d : Disk) (w c : ℕ) (ew : w ≡ at16 (d 0) 20) (ec : c ≡ freeCount
   pub refused-free : w ≢ freeSectors c → Refused (refusal 11) ≡ verdictOf (refusal11 d)
   unfolding refusal11 verdictOf
   refused-free h = ap verdictOf (sym (cond-false none (some (refusal 11)) (sym free-is ∙ eq-false h)))
+
+module _ (d : Disk) (w c : ℕ) (ew : w ≡ at16 (d 0) 22) (ec : c ≡ badCount d) where
+  good-is : eqb w (goodSectors c) ≡ goodRight d
+  unfolding goodRight
+  good-is = rw (ew, ec)
+
+  -- a good word that is 1440 less 3 times the bad records passes 19
+  pub passed-good : w ≡ goodSectors c → Passed ≡ verdictOf (refusal19 d)
+  unfolding refusal19 verdictOf
+  passed-good h = ap verdictOf (sym (cond-true none (some (refusal 19)) (sym good-is ∙ eq-true h)))
+
+  -- another good word is refusal 19
+  pub refused-good : w ≢ goodSectors c → Refused (refusal 19) ≡ verdictOf (refusal19 d)
+  unfolding refusal19 verdictOf
+  refused-good h = ap verdictOf (sym (cond-false none (some (refusal 19)) (sym good-is ∙ eq-false h)))

@@ -16,7 +16,7 @@ use Rattle.laws.specs.Laws.Tests.{lt-true, lt-false, eq-true, eq-false, true-eq
 use Rattle.laws.specs.Laws.All.{all-is, all-false}
 use Rattle.sector_rules.specs.Geometry.{blocks}
 use Rattle.file_rules.specs.declared.Record.{Record}
-use Rattle.file_rules.specs.declared.Record.the-variants.{Free, System, File, Other}
+use Rattle.file_rules.specs.declared.Record.the-variants.{Free, Bad, System, File, Other}
 use Rattle.file_rules.specs.Map.{sequences, bears}
 use Rattle.files.specs.Laws.Loading.Loaded.{loadedRecord}
 use Rattle.files.specs.Laws.Loading.Records.{decode-none}
@@ -38,6 +38,11 @@ bearer-none r h = record { low = omega arith; bears-it = λ f l. h f ∙ sym (eq
 pub bearer-free : IsBearer sequences Free
 unfolding bears
 bearer-free = bearer-none Free (λ f. refl)
+
+-- a bad record bears no file
+pub bearer-bad : IsBearer sequences Bad
+unfolding bears
+bearer-bad = bearer-none Bad (λ f. refl)
 
 -- the system's record bears no file
 pub bearer-system : IsBearer sequences System
@@ -163,7 +168,7 @@ noRecordBearsIn map f = all (λ (b : ℕ). not (bears f (loadedRecord map b))) b
 -- no number says a file from `sequences` on
 far-file : (map : List ℕ) (f b : ℕ) → sequences ≤ f → bears f (loadedRecord map b) ≡ false
 unfolding loadedRecord bears
-far-file map f b h = decode-none (getD map b 0) (bears f) refl refl refl (λ g s q. eq-false {a = g} {b = f} (λ e. omega arith))
+far-file map f b h = decode-none (getD map b 0) (bears f) refl refl refl refl (λ g s q. eq-false {a = g} {b = f} (λ e. omega arith))
 
 module _ (first next map : List ℕ) (f : ℕ) (c : Chained first next map 0) where
   -- the first block of a chain is the lowest block of the file

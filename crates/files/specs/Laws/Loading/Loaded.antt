@@ -1,6 +1,7 @@
 -- The map as the code holds it: a number of 24 bits for each record, read from the image once.
 -- Rests on the laws of numbers in bytes (laws, Numbers).
 use mathlib.Core.Path.{_≡_, ap}
+use mathlib.Core.Bool.{Bool, true, false}
 use mathlib.Core.List.{List}
 use Prim.Native.Nat.{ℕ, _+_, _*_, _≤_, _<_}
 use native.Mathlib.Omega.{arith}
@@ -16,7 +17,7 @@ use Rattle.sector_rules.specs.declared.BlockNumber.{BlockNumber}
 use Rattle.file_rules.specs.declared.Record.{Record}
 use Rattle.file_rules.specs.declared.MapRecord.{MapRecord}
 use Rattle.file_rules.specs.Disk.{Disk}
-use Rattle.file_rules.specs.Map.{decode, recordByte, numberAt, recordAt, isFree, isPart, freeAt, freeCount, partBlock}
+use Rattle.file_rules.specs.Map.{decode, recordByte, numberAt, recordAt, isFree, isBad, isPart, freeAt, freeCount, badAt, badCount, partBlock}
 use Rattle.file_rules.specs.Check.{recordFault, mapFault}
 use Rattle.file_rules.specs.Sizes.{blockBytes, mapStart, recordBytes}
 
@@ -27,6 +28,11 @@ loadedRecord map b = decode (getD map b 0)
 -- the same with its block number, as the map is walked
 abbrev pub recordWithBlock : List ℕ → BlockNumber → MapRecord
 recordWithBlock map b = record { block = b; «record» = loadedRecord map (b .0) }
+
+-- whether a record is one of those that are counted: the bad ones, or the free ones
+unfoldable pub isCounted : Bool → Record → Bool
+isCounted true r = isBad r
+isCounted false r = isFree r
 
 -- a loaded map has the numbers of the disk's records
 pub record MapLoaded (map : List ℕ) (d : Disk) : Type 0 where
@@ -70,6 +76,11 @@ module _ (map : List ℕ) (d : Disk) (m : MapLoaded map d) where
   pub free-loaded : count blocks (λ (b : ℕ). isFree (loadedRecord map b)) ≡ freeCount d
   unfolding freeCount freeAt
   free-loaded = count-cong blocks (λ (b : ℕ). isFree (loadedRecord map b)) (λ (b : ℕ). isFree (recordAt d b)) (λ b h. ap isFree (record-loaded b h))
+
+  -- and as many bad ones
+  pub bad-loaded : count blocks (λ (b : ℕ). isBad (loadedRecord map b)) ≡ badCount d
+  unfolding badCount badAt
+  bad-loaded = count-cong blocks (λ (b : ℕ). isBad (loadedRecord map b)) (λ (b : ℕ). isBad (recordAt d b)) (λ b h. ap isBad (record-loaded b h))
 
   -- the block of a part by the loaded map is the disk's
   pub part-loaded : (f s : ℕ) → lowest (λ (b : ℕ). isPart f s (loadedRecord map b)) blocks ≡ partBlock d f s

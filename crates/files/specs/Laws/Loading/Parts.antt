@@ -17,7 +17,7 @@ use Rattle.laws.specs.Laws.Lowest.{lowest-some, lowest-none}
 use Rattle.laws.specs.Laws.Count.{count-cong}
 use Rattle.sector_rules.specs.Geometry.{blocks}
 use Rattle.file_rules.specs.declared.Record.{Record}
-use Rattle.file_rules.specs.declared.Record.the-variants.{Free, System, File, Other}
+use Rattle.file_rules.specs.declared.Record.the-variants.{Free, Bad, System, File, Other}
 use Rattle.file_rules.specs.Map.{isPart, within, bears}
 use Rattle.file_rules.specs.Laws.Base.Ends.{once-most}
 use Rattle.files.specs.Laws.Loading.Loaded.{loadedRecord}
@@ -29,6 +29,7 @@ use Rattle.files.specs.Laws.Loading.Tally.{Tallied, tally-one, tally-zer
 -- its sequence below n, `blocks` for a later one, and one more where it is no part of f
 unfoldable pub partOf : ℕ → ℕ → Record → ℕ
 partOf f n Free = suc blocks
+partOf f n Bad = suc blocks
 partOf f n System = suc blocks
 partOf f n (File g t) = cond (eqb g f) (cond (ltb t n) t blocks) (suc blocks)
 partOf f n Other = suc blocks
@@ -57,6 +58,7 @@ module _ (f n : ℕ) (h : n ≤ blocks) where
   pub part-borne : (r : Record) → bears f r ≡ true → partOf f n r < suc blocks
   unfolding partOf bears
   part-borne Free t = absurd (false≢true t)
+  part-borne Bad t = absurd (false≢true t)
   part-borne System t = absurd (false≢true t)
   part-borne (File g s) t =
       by-test (ltb s n) (λ q. rw (t, q) (omega (arith, true-lt {a = s} {b = n} q))) (λ q. rw (t, q) (omega arith))
@@ -66,6 +68,7 @@ module _ (f n : ℕ) (h : n ≤ blocks) where
   pub part-no-record : (r : Record) → bears f r ≡ false → suc blocks ≡ partOf f n r
   unfolding partOf bears
   part-no-record Free t = refl
+  part-no-record Bad t = refl
   part-no-record System t = refl
   part-no-record (File g s) t = rw t
   part-no-record Other t = refl
@@ -77,6 +80,7 @@ module _ (f n : ℕ) (h : n ≤ blocks) where
   pub part-is : (s : ℕ) → s < n → (r : Record) → eqb (partOf f n r) s ≡ isPart f s r
   unfolding partOf isPart
   part-is s l Free = no-part s l
+  part-is s l Bad = no-part s l
   part-is s l System = no-part s l
   part-is s l (File g t) =
       by-test (eqb g f)
@@ -93,6 +97,7 @@ module _ (f n : ℕ) (h : n ≤ blocks) where
   pub part-within : (r : Record) → not (eqb (partOf f n r) blocks) ≡ within f n r
   unfolding partOf within
   part-within Free = refl
+  part-within Bad = refl
   part-within System = refl
   part-within (File g t) =
       by-test (eqb g f)

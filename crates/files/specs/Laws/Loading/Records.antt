@@ -12,18 +12,18 @@ use Rattle.laws.specs.Numbers.{highByte}
 use Rattle.laws.specs.Laws.Cases.{by-order, by-test}
 use Rattle.laws.specs.Laws.Tests.{lt-true, lt-false, cond-true, cond-false}
 use Rattle.file_rules.specs.declared.Record.{Record}
-use Rattle.file_rules.specs.declared.Record.the-variants.{Free, System, File, Other}
+use Rattle.file_rules.specs.declared.Record.the-variants.{Free, Bad, System, File, Other}
 use Rattle.file_rules.specs.Check.{recordFault}
-use Rattle.file_rules.specs.Map.{fileBound, freeByte, tailCount, systemNumber, sequences, decode, numberOf, encode, isSystem, isOther}
+use Rattle.file_rules.specs.Map.{fileBound, freeByte, tailCount, badNumber, systemNumber, sequences, decode, numberOf, encode, isSystem, isOther}
 use Rattle.file_rules.specs.Sizes.{recordBytes}
 
 -- ---- numbers
 
 -- a test that fails for every kind, and for every file that a record can bear (below 3,968), fails for every number
-pub decode-none : (n : ℕ) (p : Record → Bool) → p Free ≡ false → p System ≡ false → p Other ≡ false
+pub decode-none : (n : ℕ) (p : Record → Bool) → p Free ≡ false → p Bad ≡ false → p System ≡ false → p Other ≡ false
     → ((f s : ℕ) → f < fileBound / sequences → p (File f s) ≡ false) → p (decode n) ≡ false
 unfolding decode
-decode-none n p free system other file =
+decode-none n p free bad system other file =
     by-order n fileBound
     (λ h. ap p (cond-true _ _ (lt-true h)) ∙ file (n / sequences) (n % sequences) (omega arith))
     (λ h.
@@ -31,7 +31,9 @@ decode-none n p free system other file =
     ∙ by-test (eqb (n / tailCount) freeByte)
     (λ t. ap p (cond-true _ _ t) ∙ free)
     (λ t. ap p (cond-false _ _ t)
-    ∙ by-test (eqb n systemNumber) (λ u. ap p (cond-true _ _ u) ∙ system) (λ u. ap p (cond-false _ _ u) ∙ other)))
+    ∙ by-test (eqb n systemNumber)
+    (λ u. ap p (cond-true _ _ u) ∙ system)
+    (λ u. ap p (cond-false _ _ u) ∙ by-test (eqb n badNumber) (λ w. ap p (cond-true _ _ w) ∙ bad) (λ w. ap p (cond-false _ _ w) ∙ other))))
 
 -- the three bytes of a record, written out, are its number's
 pub record-row : (r : Record) (v : ℕ) → v ≡ numberOf r → v / 65536 % 256 ∷ v / 256 % 256 ∷ v % 256 ∷ [] ≡ tab (encode r) recordBytes
@@ -45,6 +47,11 @@ module _ (b : ℕ) where
   pub fault-free : eqb b 0 ≡ recordFault b Free
   unfolding recordFault isSystem isOther
   fault-free = by-test (eqb b 0) (λ e. rw e) (λ e. rw e)
+
+  -- so may a bad one
+  pub fault-bad : eqb b 0 ≡ recordFault b Bad
+  unfolding recordFault isSystem isOther
+  fault-bad = by-test (eqb b 0) (λ e. rw e) (λ e. rw e)
 
   -- the system's record may stand at block 0 alone
   pub fault-system : not (eqb b 0) ≡ recordFault b System

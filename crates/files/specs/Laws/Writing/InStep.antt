@@ -18,7 +18,7 @@ use Rattle.laws.specs.Laws.Changes.{upd₂-same, upd₂-other, patch-above}
 use Rattle.laws.specs.Laws.Numbers.{big-ext, high-is}
 use Rattle.sector_rules.specs.Geometry.{blocks, imageBytes}
 use Rattle.file_rules.specs.declared.Record.{Record}
-use Rattle.file_rules.specs.declared.Record.the-variants.{Free, System, File, Other}
+use Rattle.file_rules.specs.declared.Record.the-variants.{Free, Bad, System, File, Other}
 use Rattle.file_rules.specs.Calls.{endAfter}
 use Rattle.file_rules.specs.Check.{diskRefusal}
 use Rattle.file_rules.specs.Disk.{Disk, diskOf, imageOf}
@@ -46,6 +46,7 @@ in-step map image long m passed =
 number-fits : (r : Record) → FitsRecord r → numberOf r % 0x1000000 ≡ numberOf r
 unfolding numberOf
 number-fits Free v = refl
+number-fits Bad v = refl
 number-fits System v = refl
 number-fits (File f s) v = omega (arith, v .0, v .1)
 number-fits Other v = refl

@@ -20,7 +20,7 @@ use Rattle.laws.specs.Laws.Overlay.{overlay-cong}
 use Rattle.laws.specs.Laws.Count.{count-cong}
 use Rattle.sector_rules.specs.Geometry.{blocks}
 use Rattle.file_rules.specs.declared.Record.{Record}
-use Rattle.file_rules.specs.declared.Record.the-variants.{Free, System, File, Other}
+use Rattle.file_rules.specs.declared.Record.the-variants.{Free, Bad, System, File, Other}
 use Rattle.file_rules.specs.declared.Entry.{Entry}
 use Rattle.file_rules.specs.Directory.{entryByte}
 use Rattle.file_rules.specs.Disk.{Disk, diskOf, imageOf}
@@ -33,6 +33,7 @@ use Rattle.file_rules.specs.Written.{storedByte, part, zeros, setBlock, setWord
 -- the record fits its three bytes: file number and sequence have 12 bits
 abbrev pub FitsRecord : Record → Type 0
 FitsRecord Free = Unit {0}
+FitsRecord Bad = Unit {0}
 FitsRecord System = Unit {0}
 FitsRecord (File f s) = (f < sequences) × (s < sequences)
 FitsRecord Other = Unit {0}

@@ -62,6 +62,19 @@ pub fn format(image: &mut [u8], name: &[u8], number: u16) -> Parts {
     )
 }
 
+pub fn format_bad(image: &mut [u8], name: &[u8], number: u16, bad: &[u16]) -> Parts {
+    // What stands before and after the list would be refused if it were read.
+    let around = [&[0], bad, &[0]].concat();
+    let list = &around[1..=bad.len()];
+    let reply = on_image(
+        image,
+        |lent| raw::format_bad(lent, name, number, list),
+        |lent| reference::format_bad(lent, name, number, bad),
+    );
+    assert!(list == bad, "list changed");
+    reply
+}
+
 pub fn add(image: &mut [u8], name: &[u8], date: u32, data: &[u8]) -> Parts {
     on_image(
         image,

@@ -8,4 +8,6 @@ mod shared;
 
 // What the shared tests ask.
 use both as answer;
+pub use shared::bad_blocks::{random_bad, random_list};
+pub use shared::build::set_word;
 pub use shared::free_tails::random_tails;

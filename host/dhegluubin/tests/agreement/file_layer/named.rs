@@ -2,7 +2,7 @@
 
 use super::shared::build::{patch, set_record, set_word, three_files};
 use dhegluubin::{
-    add, check, first_track, format, list, read, remove, FirstTrack, Lent, Refusal,
+    add, check, first_track, format, format_bad, list, read, remove, FirstTrack, Lent, Refusal,
     FIRST_TRACK_LEN, IMAGE_LEN,
 };
 
@@ -26,9 +26,23 @@ fn done() {
 }
 
 #[test]
+fn done_with_bad_blocks() {
+    let mut image = vec![0xE5; IMAGE_LEN];
+    assert_eq!(format_bad(&mut image, b"DISK", 7, &[18, 17, 18]), Ok(()));
+    assert_eq!(check(&image), Ok(()));
+    let counts = FirstTrack {
+        free: 1428,
+        good: 1434,
+        held: 4,
+    };
+    assert_eq!(first_track(&image[..FIRST_TRACK_LEN]), Ok(counts));
+}
+
+#[test]
 fn wrong_lengths() {
     let refusal = Refusal::Length { lent: Lent::Blocks };
     assert_eq!(format(&mut [], b"DISK", 7), Err(refusal));
+    assert_eq!(format_bad(&mut [], b"DISK", 7, &[0]), Err(refusal));
     assert_eq!(check(&[]), Err(refusal));
     assert_eq!(list(&[], &mut []), Err(refusal));
     assert_eq!(read(&[], b"", &mut []), Err(refusal));
@@ -44,6 +58,10 @@ fn wrong_disks() {
     assert_eq!(check(&image), Err(Refusal::FreeWord));
     patch(&mut image, 1, 64, &[0; 64]);
     assert_eq!(check(&image), Err(Refusal::Directory { file: 1 }));
+    set_word(&mut image, 22, 1437);
+    assert_eq!(check(&image), Err(Refusal::GoodWord));
+    let track = &image[..FIRST_TRACK_LEN];
+    assert_eq!(first_track(track), Err(Refusal::GoodWord));
     set_record(&mut image, 9, [0xFF; 3]);
     assert_eq!(check(&image), Err(Refusal::MapRecord { block: 9 }));
     let track = &image[..FIRST_TRACK_LEN];
@@ -56,6 +74,10 @@ fn wrong_disks() {
 fn own_refusals() {
     let mut image = three_files();
     assert_eq!(format(&mut image, &[b'x'; 11], 7), Err(Refusal::Argument));
+    for bad in [0, 1, 480, 65_535] {
+        let refused = format_bad(&mut image, b"DISK", 7, &[17, bad]);
+        assert_eq!(refused, Err(Refusal::Argument));
+    }
     assert_eq!(read(&image, b"", &mut []), Err(Refusal::Argument));
     let present = Err(Refusal::NamePresent { slot: 3 });
     assert_eq!(add(&mut image, b"f3", 0, &[]), present);

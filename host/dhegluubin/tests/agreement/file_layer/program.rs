@@ -4,7 +4,9 @@
 //! `both::first_track` runs it too, so that it is fed every first track of
 //! the other tests.
 
-use super::shared::build::{fresh, record, set_record, set_word, three_files, word, FREE};
+use super::shared::build::{
+    fresh, fresh_bad, record, set_record, set_word, three_files, word, BAD, FREE,
+};
 use dhegluubin::{FIRST_TRACK_LEN, IMAGE_LEN};
 use std::fs::File;
 use std::io::{ErrorKind, Write};
@@ -133,7 +135,7 @@ fn input_from_a_file() {
 /// its place (§7.8).
 #[test]
 fn each_header_field_is_refused_with_8() {
-    for field in [0, 2, 22, 24, 26, 28, 30, 32, 36, 38, 40, 56, 58, 74] {
+    for field in [0, 2, 24, 26, 28, 30, 32, 36, 38, 40, 56, 58, 74] {
         let mut image = three_files();
         let wrong = word(&image, field) ^ 0x0101;
         set_word(&mut image, field, wrong);
@@ -150,8 +152,15 @@ fn each_header_field_is_refused_with_8() {
 /// A wrong record is 9, which the program prints without its place (§7.9).
 #[test]
 fn each_kind_of_wrong_record_is_refused_with_9() {
-    let of_no_kind = [[0xF8, 0, 1], [0xF9, 0, 0], [0xFC, 0xFF, 0xFF], [0xFF; 3]];
-    let not_block_0 = [FREE, [0xFD, 0, 0], record(0, 0), record(0xF7F, 0xFFF)];
+    let of_no_kind = [
+        [0xF8, 0, 1],
+        [0xF9, 0, 0],
+        [0xFC, 0xFF, 0xFF],
+        [0xFE, 0xFF, 0],
+        [0xFE, 0, 0xFF],
+        [0xFF; 3],
+    ];
+    let not_block_0 = [FREE, [0xFD, 0, 0], BAD, record(0, 0), record(0xF7F, 0xFFF)];
     let not_others = [[0xF8, 0, 0]];
     // The record of block 138 goes over the end of a sector.
     for block in [0, 1, 138, 309, 479] {
@@ -184,12 +193,27 @@ fn wrong_free_words_are_refused_with_11() {
     }
 }
 
-/// The lowest number is given (§7.18).
+/// Bad blocks are held (§8.14). A wrong good word is 19, without a place (§7.26).
+#[test]
+fn bad_blocks_and_good_words() {
+    let mut image = fresh_bad(&[479, 2, 138, 2]);
+    assert_eq!(says(&image), "free 1425\ngood 1431\nheld 5\n");
+    for good in [0, 1428, 1430, 1432, 1434, 1440, 1431 + 256, 0xFFFF] {
+        set_word(&mut image, 22, good);
+        assert_eq!(says(&image), "refused 19\n", "good word {good}");
+    }
+    let all: Vec<u16> = (2..480).collect();
+    assert_eq!(says(&fresh_bad(&all)), "free 0\ngood 6\nheld 480\n");
+}
+
+/// 8, 9, 19 and 11, in this order (§7.18 §8.14).
 #[test]
 fn refusals_in_order() {
     let mut image = three_files();
     set_word(&mut image, 20, 5);
     assert_eq!(says(&image), "refused 11\n");
+    set_word(&mut image, 22, 5);
+    assert_eq!(says(&image), "refused 19\n");
     set_record(&mut image, 479, [0xF8, 0, 0]);
     assert_eq!(says(&image), "refused 9\n");
     set_word(&mut image, 38, 6);

@@ -22,6 +22,11 @@ pub fn all_calls(image: &[u8], name: &[u8]) -> Parts {
     checked
 }
 
+/// Reply and counts for the first track of an image.
+pub fn judged(image: &[u8]) -> (Parts, [usize; 3]) {
+    first_track(&image[..TRACK_LEN])
+}
+
 /// The reply with a short buffer. Where it is too short one that is exactly
 /// as long as needed is tried, and one with a byte less.
 fn into_buffers(call: impl Fn(&[u8]) -> (Parts, Vec<u8>)) -> Parts {

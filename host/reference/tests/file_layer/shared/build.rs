@@ -2,12 +2,17 @@
 
 use reference::geometry::BLOCKS;
 use reference::geometry::IMAGE_LEN;
-use reference::{add, format, place, Reply};
+use reference::{add, format_bad, place, Reply};
 
-/// An empty disk.
+/// An empty disk without bad blocks.
 pub fn fresh() -> Vec<u8> {
+    fresh_bad(&[])
+}
+
+/// An empty disk on which these blocks are bad.
+pub fn fresh_bad(bad: &[u16]) -> Vec<u8> {
     let mut image = vec![0; IMAGE_LEN];
-    assert_eq!(format(&mut image, b"DISK", 7), Reply::DONE);
+    assert_eq!(format_bad(&mut image, b"DISK", 7, bad), Reply::DONE);
     image
 }
 
@@ -55,6 +60,9 @@ pub fn set_word(image: &mut [u8], offset: usize, word: usize) {
 /// The record of a block that we free.
 pub const FREE: [u8; 3] = [0xFD, 0xFF, 0xFF];
 
+/// The record of a bad block.
+pub const BAD: [u8; 3] = [0xFE, 0xFF, 0xFF];
+
 /// The bytes of a record of a file.
 pub fn record(file: usize, sequence: usize) -> [u8; 3] {
     let bits = (file << 12 | sequence) as u32;
@@ -72,11 +80,38 @@ pub fn record_of(image: &[u8], block: usize) -> Vec<u8> {
     peek(image, 0, 96 + 3 * block, 3)
 }
 
+/// The records of all blocks.
+pub fn records(image: &[u8]) -> Vec<Vec<u8>> {
+    (0..BLOCKS).map(|block| record_of(image, block)).collect()
+}
+
+/// The blocks that are free, upwards.
+pub fn free_blocks(image: &[u8]) -> Vec<usize> {
+    let is_free = |block: &usize| record_of(image, *block)[0] == FREE[0];
+    (0..BLOCKS).filter(is_free).collect()
+}
+
+/// The blocks that are bad, upwards.
+pub fn bad_blocks(image: &[u8]) -> Vec<usize> {
+    let is_bad = |block: &usize| record_of(image, *block) == BAD;
+    (0..BLOCKS).filter(is_bad).collect()
+}
+
 /// Sets the free word to what the map says.
 pub fn count_free(image: &mut [u8]) {
-    let free = (0..BLOCKS).filter(|&block| record_of(image, block)[0] == FREE[0]);
-    let free = free.count();
-    set_word(image, 20, 3 * free);
+    set_word(image, 20, 3 * free_blocks(image).len());
+}
+
+/// Sets the good word to what the map says.
+pub fn count_good(image: &mut [u8]) {
+    set_word(image, 22, 1440 - 3 * bad_blocks(image).len());
+}
+
+/// Makes a block bad that was free, and sets both words to what the map says.
+pub fn mark_bad(image: &mut [u8], block: usize) {
+    set_record(image, block, BAD);
+    count_free(image);
+    count_good(image);
 }
 
 /// The bytes of an entry.

@@ -1,6 +1,6 @@
 //! A disk and its model, which get the same calls.
 
-use super::answer::{add, check, format, remove, Parts};
+use super::answer::{add, check, format, format_bad, remove, Parts};
 use super::build::word;
 use reference::geometry::IMAGE_LEN;
 use reference::model::Model;
@@ -20,7 +20,18 @@ impl Disk {
     pub fn formatted(name: &[u8], number: u16, seed: u32) -> Disk {
         let mut image = noise(seed, IMAGE_LEN);
         assert_eq!(format(&mut image, name, number), [0; 4]);
-        let model = Model::format(name, number).unwrap();
+        Disk::of(image, Model::format(name, number))
+    }
+
+    /// The same with a list of bad blocks.
+    pub fn formatted_bad(name: &[u8], number: u16, seed: u32, bad: &[u16]) -> Disk {
+        let mut image = noise(seed, IMAGE_LEN);
+        assert_eq!(format_bad(&mut image, name, number, bad), [0; 4]);
+        Disk::of(image, Model::format_bad(name, number, bad))
+    }
+
+    fn of(image: Vec<u8>, model: Option<Model>) -> Disk {
+        let model = model.unwrap();
         let disk = Disk { image, model };
         disk.assert_is_the_models();
         disk

@@ -16,7 +16,7 @@ fn judged(image: &[u8]) -> [usize; 4] {
 }
 
 /// Letters (§6.1), sizes (§6.5), track offset and tables (§6.7) are judged, and
-/// names and counts are not (§6.2 §6.3).
+/// names and counts are not (§6.2 §6.3). The good word is a matter of 19 (§6.18).
 #[test]
 fn every_byte_alone() {
     let image = fresh();
@@ -26,7 +26,8 @@ fn every_byte_alone() {
             0..=3 => [8, 0, 0, 0],
             4..=19 | 76..=95 => [0; 4],
             20 | 21 => [11, 0, 0, 0],
-            22..=33 => [8, offset & !1, 0, 0],
+            22 | 23 => [19, 0, 0, 0],
+            24..=33 => [8, offset & !1, 0, 0],
             // More blocks than the directory has.
             34 | 35 => [10, 0, 0, 0],
             37 => [8, 34, 0, 0],
@@ -95,7 +96,7 @@ fn directory_lengths() {
 #[test]
 fn lowest_wrong_field_is_named_by_all_calls() {
     let mut image = three_files();
-    for offset in [58, 40, 38, 36, 32, 30, 28, 26, 24, 22, 0] {
+    for offset in [58, 40, 38, 36, 32, 30, 28, 26, 24, 0] {
         let wrong = word(&image, offset) ^ 0x0101;
         set_word(&mut image, offset, wrong);
         let field = if offset == 36 { 34 } else { offset };

@@ -1,19 +1,20 @@
 //! The first track, judged alone.
 
+use super::all_calls::judged;
 use super::answer::first_track;
-use super::build::{fresh, patch, set_record, set_word, three_files};
+use super::build::{fresh, mark_bad, patch, set_record, set_word, three_files};
 use reference::geometry::TRACK_LEN;
 use support::noise::noise;
 
-fn judged(image: &[u8]) -> ([usize; 4], [usize; 3]) {
-    first_track(&image[..TRACK_LEN])
-}
-
-/// Free word, good sectors, and records that are not free (§8.14).
+/// Free word, good word, and records that are not free: with files (§8.14), with
+/// a bad block too.
 #[test]
 fn counts() {
     assert_eq!(judged(&fresh()), ([0; 4], [1434, 1440, 2]));
-    assert_eq!(judged(&three_files()), ([0; 4], [1413, 1440, 9]));
+    let mut image = three_files();
+    assert_eq!(judged(&image), ([0; 4], [1413, 1440, 9]));
+    mark_bad(&mut image, 479);
+    assert_eq!(judged(&image), ([0; 4], [1410, 1437, 10]));
 }
 
 #[test]
@@ -24,11 +25,14 @@ fn other_lengths() {
     }
 }
 
+/// 1, 8, 9, 19 and 11, in this order (§8.14).
 #[test]
 fn refusals_in_order() {
     let mut image = three_files();
     set_word(&mut image, 20, 5);
     assert_eq!(judged(&image), ([11, 0, 0, 0], [0; 3]));
+    set_word(&mut image, 22, 1439);
+    assert_eq!(judged(&image), ([19, 0, 0, 0], [0; 3]));
     set_record(&mut image, 479, [0xF8, 0, 0]);
     assert_eq!(judged(&image), ([9, 479, 0, 0], [0; 3]));
     set_word(&mut image, 36, 63);

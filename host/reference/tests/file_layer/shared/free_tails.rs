@@ -1,11 +1,11 @@
 //! Disks as real controllers leave them: free records whose tails, the two
 //! bytes after FD, are anything.
 
-use super::all_calls::all_calls;
-use super::answer::{add, cases, check, first_track, first_track_text, list, read, remove, Parts};
+use super::all_calls::{all_calls, judged};
+use super::answer::{add, cases, check, first_track_text, list, read, remove};
 use super::build::{
-    count_free, entry, fresh, long_directory, named_files, patch, peek, record, record_of,
-    set_record, set_word, three_files, word, FREE,
+    count_free, entry, free_blocks, fresh, long_directory, named_files, patch, peek, record,
+    record_of, records, set_record, set_word, three_files, word, FREE,
 };
 use reference::geometry::{BLOCKS, TRACK_LEN};
 use support::noise::{noise, Generator};
@@ -13,17 +13,6 @@ use support::noise::{noise, Generator};
 /// Sets the tail of a block's record.
 fn set_tail(image: &mut [u8], block: usize, tail: [u8; 2]) {
     patch(image, 0, 96 + 3 * block + 1, &tail);
-}
-
-/// The blocks that are free, upwards.
-fn free_blocks(image: &[u8]) -> Vec<usize> {
-    let is_free = |block: &usize| record_of(image, *block)[0] == 0xFD;
-    (0..BLOCKS).filter(is_free).collect()
-}
-
-/// The records of all blocks.
-fn records(image: &[u8]) -> Vec<Vec<u8>> {
-    (0..BLOCKS).map(|block| record_of(image, block)).collect()
 }
 
 /// Gives the free records tails: FF FF, numbers of files that may be present,
@@ -47,10 +36,6 @@ fn without_tails(image: &[u8]) -> Vec<u8> {
         set_record(&mut plain, block, FREE);
     }
     plain
-}
-
-fn judged(image: &[u8]) -> (Parts, [usize; 3]) {
-    first_track(&image[..TRACK_LEN])
 }
 
 /// A deleted file's records begin with FD and keep the other 16 bits. Its

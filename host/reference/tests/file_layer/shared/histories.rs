@@ -1,5 +1,6 @@
 //! Histories with the answers of an independent program.
 
+use super::format_call::FormatCall;
 use super::history::History;
 use support::cases::Outside;
 use support::json::Value;
@@ -12,9 +13,11 @@ const CASES: Outside = Outside {
 };
 
 fn history(case: &Value) -> History<'_> {
-    History::of(case.members([
+    let [name, number, old, calls, answers @ ..] = case.members([
         "name", "number", "old", "calls", "format", "replies", "buffers", "image",
-    ]))
+    ]);
+    let format = FormatCall::without_list([name, number, old]);
+    History::of(format, calls, answers)
 }
 
 fn run_on_image(case: &Value) {

@@ -1,26 +1,20 @@
 //! A history with the answers of an independent program, on an image and in
 //! the model.
 
-use super::answer::format;
 use super::call::{Answer, Call};
+use super::format_call::FormatCall;
 use super::outside::assert_answer;
-use reference::geometry::IMAGE_LEN;
-use reference::model::Model;
 use support::cases::expected_reply;
-use support::hex::from_hex;
 use support::json::Value;
-use support::noise::noise;
 use support::sha256::sha256_hex;
 
-/// A format of noise and the calls after it, then the answers to them, all as
-/// they stand in a case.
+/// A format of noise and the calls after it, then the answers to them as they
+/// stand in a case.
 pub struct History<'a> {
-    pub name: &'a Value,
-    pub number: &'a Value,
-    /// The seed of what the image holds before.
-    pub old: &'a Value,
+    pub format: FormatCall,
     pub calls: &'a Value,
-    pub format: &'a Value,
+    /// The reply to the format.
+    pub formatted: &'a Value,
     pub replies: &'a Value,
     pub buffers: &'a Value,
     /// The hash of the image afterwards.
@@ -28,26 +22,18 @@ pub struct History<'a> {
 }
 
 impl<'a> History<'a> {
-    /// The history of these members: name, number and seed of the format, the
-    /// calls, then the answers, the image's hash last.
-    pub fn of(members: [&'a Value; 8]) -> History<'a> {
-        let [name, number, old, calls, format, replies, buffers, image] = members;
+    /// The history of this format and these calls; the answers are those to the
+    /// format and the calls, and the image's hash.
+    pub fn of(format: FormatCall, calls: &'a Value, answers: [&'a Value; 4]) -> History<'a> {
+        let [formatted, replies, buffers, image] = answers;
         History {
-            name,
-            number,
-            old,
-            calls,
             format,
+            calls,
+            formatted,
             replies,
             buffers,
             image,
         }
-    }
-
-    /// Name and number for the format.
-    fn arguments(&self) -> (Vec<u8>, u16) {
-        let name = from_hex(self.name.text());
-        (name, u16::try_from(self.number.number()).unwrap())
     }
 
     /// Makes the calls and compares the answer to each.
@@ -63,14 +49,22 @@ impl<'a> History<'a> {
         }
     }
 
+    /// Asserts that no call is answered: the format is refused.
+    fn assert_not_begun(&self) {
+        assert_eq!(
+            (self.replies.list(), self.buffers.list()),
+            (&[][..], &[][..])
+        );
+    }
+
     /// Compares all answers on an image, and gives the image afterwards.
     pub fn on_image(&self) -> Vec<u8> {
-        let (name, number) = self.arguments();
-        let old = u32::try_from(self.old.number()).unwrap();
-        let mut image = noise(old, IMAGE_LEN);
-        let reply = format(&mut image, &name, number);
-        assert_eq!(reply, *expected_reply(self.format));
-        self.compare(|call| call.on_image(&mut image));
+        let (reply, mut image) = self.format.on_image();
+        assert_eq!(reply, *expected_reply(self.formatted));
+        match reply[0] {
+            0 => self.compare(|call| call.on_image(&mut image)),
+            _ => self.assert_not_begun(),
+        }
         assert_eq!(sha256_hex(&image), self.image.text());
         image
     }
@@ -78,11 +72,10 @@ impl<'a> History<'a> {
     /// Compares all answers of the model, which begins only where the format is
     /// accepted.
     pub fn in_model(&self) {
-        let (name, number) = self.arguments();
-        let expected = expected_reply(self.format);
-        let Some(mut model) = Model::format(&name, number) else {
+        let expected = expected_reply(self.formatted);
+        let Some(mut model) = self.format.in_model() else {
             assert_eq!(expected, [12, 0, 0, 0]);
-            assert_eq!(self.calls.list(), []);
+            self.assert_not_begun();
             return;
         };
         assert_eq!(expected, [0; 4]);

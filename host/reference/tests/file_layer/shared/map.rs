@@ -1,8 +1,9 @@
-//! Refusals 9 and 11: map records and the free word.
+//! Refusals 9 and 11: map records and the free word. Bad blocks and 19 stand in
+//! `bad_blocks`.
 
 use super::all_calls::all_calls;
 use super::answer::{check, first_track};
-use super::build::{count_free, fresh, set_record, set_word, three_files};
+use super::build::{count_free, fresh, set_record, set_word, three_files, BAD, FREE};
 use reference::geometry::TRACK_LEN;
 
 /// Records of none of the kinds.
@@ -15,7 +16,7 @@ const NONE: [[u8; 3]; 10] = [
     [0xFB, 0x00, 0x00],
     [0xFC, 0xFF, 0xFF],
     [0xFE, 0x00, 0x00],
-    [0xFE, 0xFF, 0xFF],
+    [0xFE, 0xFF, 0xFE],
     [0xFF, 0xFF, 0xFF],
 ];
 
@@ -35,7 +36,7 @@ fn records_of_no_kind() {
 /// Block 0 has the system's record and no other block has it (§7.9).
 #[test]
 fn block_0_is_system_and_no_other() {
-    for wrong in [[0xFD, 0xFF, 0xFF], [0, 0, 0], [0, 0, 1], [0xF7, 0xFF, 0xFF]] {
+    for wrong in [FREE, BAD, [0, 0, 0], [0, 0, 1], [0xF7, 0xFF, 0xFF]] {
         let mut image = fresh();
         set_record(&mut image, 0, wrong);
         count_free(&mut image);

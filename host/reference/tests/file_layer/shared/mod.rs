@@ -5,6 +5,7 @@
 use super::answer;
 
 pub mod all_calls;
+pub mod bad_blocks;
 pub mod build;
 mod call;
 mod calls;
@@ -17,6 +18,7 @@ mod disk_header;
 mod first_track;
 mod foreign;
 mod format;
+mod format_call;
 pub mod free_tails;
 mod growth;
 mod histories;

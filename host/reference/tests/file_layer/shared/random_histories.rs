@@ -2,6 +2,7 @@
 //! the files present (§9.7).
 
 use super::answer::cases;
+use super::bad_blocks::random_list;
 use super::call::Call;
 use super::disk::Disk;
 use reference::model::Model;
@@ -21,6 +22,8 @@ struct Kind {
     adds: usize,
     removes: usize,
     calls: usize,
+    /// Most entries of the format's list of bad blocks.
+    bad: usize,
 }
 
 /// Few files, all calls.
@@ -30,6 +33,7 @@ const FEW: Kind = Kind {
     adds: 40,
     removes: 20,
     calls: 60,
+    bad: 2000,
 };
 
 /// The disk is full of long files.
@@ -39,6 +43,7 @@ const LONG: Kind = Kind {
     adds: 55,
     removes: 25,
     calls: 80,
+    bad: 200,
 };
 
 /// The directory grows and its slots are used again.
@@ -48,6 +53,7 @@ const GROWING: Kind = Kind {
     adds: 65,
     removes: 25,
     calls: 200,
+    bad: 120,
 };
 
 /// Many files until the disk is full.
@@ -57,6 +63,7 @@ const MANY: Kind = Kind {
     adds: 94,
     removes: 3,
     calls: 560,
+    bad: 60,
 };
 
 /// Almost only removes and reads of what is not there.
@@ -66,6 +73,7 @@ const REFUSED: Kind = Kind {
     adds: 15,
     removes: 45,
     calls: 40,
+    bad: 20,
 };
 
 impl Kind {
@@ -118,9 +126,11 @@ struct Added {
 }
 
 /// The files that accepted calls leave, by their names in small letters
-/// (§6.14), how many there were at most, and how many were added.
+/// (§6.14), how many there were at most, and how many were added; and the bad
+/// blocks of their disk.
 #[derive(Default)]
 struct Present {
+    bad: BTreeSet<u16>,
     files: BTreeMap<Vec<u8>, Added>,
     most: usize,
     added: usize,
@@ -165,7 +175,8 @@ impl Present {
             .files
             .values()
             .map(|file| (64 + file.data.len()).div_ceil(1536));
-        3 * (479 - (1 + self.most / 24) - blocks.sum::<usize>())
+        let directory = 1 + self.most / 24;
+        3 * (479 - self.bad.len() - directory - blocks.sum::<usize>())
     }
 
     fn assert_same_files(&self, model: &Model) {
@@ -189,6 +200,8 @@ struct Shown {
     again: usize,
     /// Calls that named a file present by another spelling.
     respelled: usize,
+    /// Calls on disks with bad blocks.
+    beside_bad: usize,
     /// Whether there were as many as usual.
     enough: bool,
 }
@@ -209,14 +222,20 @@ impl Shown {
         println!("seed {seed}");
         let mut generator = Generator::new(seed);
         let name = &b"random dsk"[..generator.below(11)];
-        let mut disk = Disk::formatted(name, generator.below(65_536) as u16, seed);
-        let mut present = Present::default();
+        let number = generator.below(65_536) as u16;
+        let bad = random_list(&mut generator, kind.bad);
+        let mut disk = Disk::formatted_bad(name, number, seed, &bad);
+        let mut present = Present {
+            bad: bad.into_iter().collect(),
+            ..Present::default()
+        };
         for index in 0..kind.calls {
             let call = kind.call(&mut generator);
             let answer = call.on_image(&mut disk.image);
             assert!(answer == call.in_model(&mut disk.model), "call {index}");
             let [number, ..] = answer.0;
             self.numbers.insert(number);
+            self.beside_bad += usize::from(!present.bad.is_empty());
             self.respelled += usize::from(present.judge(&call, number));
             if number == 0 {
                 present.accept(&call);
@@ -233,19 +252,24 @@ impl Shown {
     }
 
     /// Asserts that these numbers were given, that a directory had so many
-    /// blocks, that so many slots were taken again and that files were named by
-    /// other spellings. Too few histories need not show all that.
+    /// blocks, that so many slots were taken again, that files were named by
+    /// other spellings and that there were bad blocks. Too few histories need not
+    /// show all that.
     fn assert(&self, numbers: &[usize], blocks: usize, again: usize) {
         let Shown {
-            slots, respelled, ..
+            slots,
+            respelled,
+            beside_bad,
+            ..
         } = self;
         println!("{:?}, {slots} slots, {} again", self.numbers, self.again);
-        println!("{respelled} calls by another spelling");
+        println!("{respelled} calls by another spelling, {beside_bad} beside bad blocks");
         if self.enough {
             assert!(numbers.iter().all(|number| self.numbers.contains(number)));
             assert!(slots.div_ceil(24) >= blocks);
             assert!(self.again >= again);
             assert!(*respelled >= 10);
+            assert!(*beside_bad >= 10);
         }
     }
 }

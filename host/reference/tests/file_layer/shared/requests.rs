@@ -2,10 +2,11 @@
 //! independent program at the project's level.
 
 use super::call::Call;
+use super::format_call::FormatCall;
 use super::history::History;
 use super::outside::{assert_answer, assert_judged};
 use reference::geometry::IMAGE_LEN;
-use support::cases::Requested;
+use support::cases::{expected_reply, Requested};
 use support::hex::from_hex;
 use support::json::Value;
 use support::noise::noise;
@@ -26,11 +27,15 @@ const FIVE: Requested = Requested {
     count: 70,
 };
 
+const SIX: Requested = Requested {
+    lines: include_str!("../../data/requests/six.jsonl"),
+    count: 80,
+};
+
 /// A history, then what check and the program say of its last image.
 fn history<'a>(case: &'a Value, answer: &'a Value) -> (History<'a>, [&'a Value; 2]) {
-    let [_, arguments, calls] = case.members(["kind", "format", "calls"]);
-    let [name, number, old] = arguments.members(["name", "number", "old"]);
-    let [format, replies, buffers, image, checked, printed] = answer.members([
+    let [_, format, calls] = case.members(["kind", "format", "calls"]);
+    let [formatted, replies, buffers, image, checked, printed] = answer.members([
         "format",
         "replies",
         "buffers",
@@ -38,8 +43,9 @@ fn history<'a>(case: &'a Value, answer: &'a Value) -> (History<'a>, [&'a Value; 
         "check",
         "first_track",
     ]);
-    let members = [name, number, old, calls, format, replies, buffers, image];
-    (History::of(members), [checked, printed])
+    let format = FormatCall::from_json(format);
+    let answers = [formatted, replies, buffers, image];
+    (History::of(format, calls, answers), [checked, printed])
 }
 
 fn run_history(case: &Value, answer: &Value) {
@@ -81,6 +87,22 @@ fn run_disk(case: &Value, answer: &Value) {
         let mut image = image.clone();
         let answer = Call::from_json(call).on_image(&mut image);
         assert_answer(answer, reply, buffer);
+        assert_eq!(sha256_hex(&image), after.text());
+    }
+}
+
+/// Each format is of its own image.
+fn run_formats(case: &Value, answer: &Value) {
+    let [_, calls] = case.members(["kind", "calls"]);
+    let [answers] = answer.members(["calls"]);
+    assert_eq!(calls.list().len(), answers.list().len());
+    for (index, (call, expected)) in calls.list().iter().zip(answers.list()).enumerate() {
+        println!("format {index}");
+        let [reply, after] = expected.list() else {
+            panic!("answer {expected:?}");
+        };
+        let (given, image) = FormatCall::from_json(call).on_image();
+        assert_eq!(given, *expected_reply(reply));
         assert_eq!(sha256_hex(&image), after.text());
     }
 }
@@ -158,4 +180,29 @@ fn histories_of_five() {
 #[test]
 fn five_in_the_model() {
     FIVE.run_kind("history", 14, run_in_model);
+}
+
+/// Disks of other makers with bad blocks and with wrong good words: 9 (§6.9),
+/// 19 (§7.26) and what each call leaves (§8.12 §8.13).
+#[test]
+fn disks_of_six() {
+    SIX.run_kind("disk", 42, run_disk);
+}
+
+/// Histories after formats with lists of bad blocks (§9.1 §9.7).
+#[test]
+fn histories_of_six() {
+    SIX.run_kind("history", 31, run_history);
+}
+
+/// The model has the bad blocks from the format's arguments (§9.2 §9.5).
+#[test]
+fn six_in_the_model() {
+    SIX.run_kind("history", 31, run_in_model);
+}
+
+/// Lists of bad blocks, good ones and those that are refused (§8.4 §7.12).
+#[test]
+fn formats_of_six() {
+    SIX.run_kind("formats", 7, run_formats);
 }
