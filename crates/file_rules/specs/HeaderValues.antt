@@ -6,7 +6,7 @@ use mathlib.Core.Bool.{true}
 use mathlib.Core.List.{List, [], _∷_, _++_}
 use mathlib.Core.Path.{_≡_, _∙_}
 use Prim.Native.Nat.{ℕ, _+_, _-_, _*_, _/_, _%_, _≤_, _<_}
-use lib.ListN.{length, set, take, replicate}
+use lib.ListN.{length, set, take, drop, replicate}
 use Rattle.laws.specs.Lists.{tab}
 use Rattle.sector_rules.specs.declared.Fault.{Fault}
 use Rattle.sector_rules.specs.Geometry.{blocks, imageBytes}
@@ -46,6 +46,10 @@ pub record DiskHeaderValues : Type 0 where
   pub format-bad : (old : List ℕ) → length old ≡ imageBytes
       → take 108 (format old (argumentsOf title 0x1234 (100 ∷ 2 ∷ 479 ∷ 2 ∷ [])) .image)
       ≡ set (set diskHeader 21 0x91) 23 0x97 ++ (0xF8 ∷ 0x00 ∷ 0x00 ∷ 0x00 ∷ 0x00 ∷ 0x00 ∷ 0xFE ∷ 0xFF ∷ 0xFF ∷ 0xFD ∷ 0xFF ∷ 0xFF ∷ [])
+  -- the list changes no byte of the header but those of the two words (§8.4)
+  pub list-elsewhere : (old title bad : List ℕ) (number : ℕ) → length old ≡ imageBytes → length title ≤ 10 → EachCanBeBad bad
+      → (take 20 (format old (argumentsOf title number bad) .image) ≡ take 20 (format old (argumentsOf title number []) .image))
+      × (drop 24 (take 96 (format old (argumentsOf title number bad) .image)) ≡ drop 24 (take 96 (format old (argumentsOf title number []) .image)))
   -- the check of an image that begins with the header, one byte of which is one more: the offset that 8 names, or 96. It accepts the lengths of a directory
   -- with 256 blocks more or one more (34, 35), and with five slots (36), and judges neither 4 to 23 nor 76 to 95
   pub one-more : (rest : List ℕ) → 96 + length rest ≡ imageBytes → tab (λ (o : ℕ). diskFieldNamed (changedAt oneMore diskHeader o) rest) 96

@@ -83,7 +83,7 @@ EveryHistory =
     (filesLeft [] calls (imageOuts (formatted old args) calls))
     (mostPresent [] calls (imageOuts (formatted old args) calls))
 
--- history-check: after every history check accepts the image, so that none of 1 and 8 to 11 is found (§9.5)
+-- history-check: after every history check accepts the image, so that nothing is found that it judges (§9.5)
 abbrev pub HistoryCheck : Type 0
 HistoryCheck =
     (old : List ℕ) (args : FormatArguments) (calls : List Call) → length old ≡ imageBytes → length (args .title) ≤ titleMost → EachCanBeBad (args .bad)

@@ -14,6 +14,7 @@ pub mod Histories
 pub mod History
 pub mod Refusals
 pub mod FreeTails
+pub mod BadBlocks
 pub mod Values
 pub mod HeaderValues
 pub mod CheckValues

@@ -11,6 +11,9 @@ pub use Rattle.file_rules.specs.Laws.Theorem.TailsUnread.{tails-unread}
 -- free-tails: a record is free by its first byte, in every count and for 9; what an add or a remove writes as each record and which it leaves, tails of free
 -- records among them; no history makes another tail than FF FF. FreeTails.antt
 pub use Rattle.file_rules.specs.Laws.Theorem.FreeTails.{free-tails}
+-- bad-blocks: a record is bad if it is FE FF FF; the good word and 19, in which order; what a format makes of its list and every history leaves of it; bad blocks
+-- and the good word stay through adds and removes. BadBlocks.antt
+pub use Rattle.file_rules.specs.Laws.Theorem.BadBlocks.{bad-blocks}
 -- history: for every history of calls after a format, each reply, each result buffer and the whole final image are the model's. History.antt
 pub use Rattle.file_rules.specs.Laws.Theorem.History.{history}
 -- history-check: the check passes after every history. History.antt
@@ -20,9 +23,9 @@ pub use Rattle.file_rules.specs.Laws.Theorem.History.{every-byte}
 -- disk-header-values: the header of a formatted disk as a row of bytes, and for each byte of it what 8 names where it is one more or one less.
 -- HeaderValues.antt
 pub use Rattle.file_rules.specs.Laws.Values.HeaderValues.{disk-header-values}
--- check-values: the places that 9 and 10 name, of formatted disks with one record of the map changed. CheckValues.antt
+-- check-values: the places that 9 and 10 name, and 19 with its order, of formatted disks with one record of the map or the good word changed. CheckValues.antt
 pub use Rattle.file_rules.specs.Laws.Values.CheckValues.{check-values}
--- first-track-values: judging the first track is judging the image that it begins by 8, 9 and 11; what it gives of a formatted disk. TrackValues.antt
+-- first-track-values: judging the first track is judging the image that it begins by 8, 9, 19 and 11; what it gives of a formatted disk. TrackValues.antt
 pub use Rattle.file_rules.specs.Laws.Values.TrackValues.{first-track-values}
 -- values-to-check: eleven placements, and a file's map record; record-values: a map record of each kind by its bytes, read and written; entry-values: a
 -- directory entry so. Values.antt

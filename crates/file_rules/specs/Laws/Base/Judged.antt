@@ -25,7 +25,7 @@ use Rattle.file_rules.specs.Check.{refusal8, refusal9, refusal19, startR
 use Rattle.file_rules.specs.Disk.{Disk, diskOf}
 use Rattle.file_rules.specs.FirstTrack.{refusedTrack, counted, firstTrackResult}
 use Rattle.file_rules.specs.Laws.Base.OnSound.{sound-length, sound-refused, sound-passed}
-use Rattle.file_rules.specs.Laws.Base.Sound.{or-none-right, sound-eleven, NotDone, not-done-or, not-done-eleven, not-done-start, refused-number}
+use Rattle.file_rules.specs.Laws.Base.Sound.{or-none-left, or-none-right, start-nineteen, sound-eleven, NotDone, not-done-or, not-done-eleven, not-done-start, refused-number}
 use Rattle.file_rules.specs.Laws.Base.Track.{track-is}
 use Rattle.file_rules.specs.Map.{recordAt}
 use Rattle.file_rules.specs.Sizes.{slotCount}
@@ -169,21 +169,15 @@ module _ (image : List ℕ) where
       (start-given r (λ z. omega arith) (λ z. omega arith) (check-refused r (λ z. omega arith) (λ z. omega arith) e)) in
       by-test (goodRight d) (λ t. none-some r (sym (cond-true none (some (refusal 19)) t) ∙ given)) (λ t. t)
 
-  -- where 8 and 9 pass and the good word is wrong, 19 is what a judgement begins with
-  wrong-start : refusal8 d ≡ none → refusal9 d ≡ none → goodRight d ≡ false → startRefusal d ≡ some (refusal 19)
+  -- where 8 and 9 pass and the good word is wrong, a judgement begins with 19
+  pub wrong-start : refusal8 d ≡ none → refusal9 d ≡ none → goodRight d ≡ false → startRefusal d ≡ some (refusal 19)
   unfolding startRefusal orElse refusal19
   wrong-start a b wrong = let given : refusal19 d ≡ some (refusal 19) = cond-false none (some (refusal 19)) wrong in rw (a, b, given)
 
-  -- so check gives it
-  pub nineteen-check : length image ≡ imageBytes → refusal8 d ≡ none → refusal9 d ≡ none → goodRight d ≡ false → check image ≡ refusal 19
-  unfolding check diskRefusal orElse
-  nineteen-check long a b wrong = sound-refused image _ _ long (refusal 19) (rw (wrong-start a b wrong))
-
-  -- and the first track
-  pub nineteen-track : length image ≡ imageBytes → refusal8 d ≡ none → refusal9 d ≡ none → goodRight d ≡ false
-      → firstTrackResult (take 9216 image) ≡ refusedTrack (refusal 19)
-  unfolding judgedFirst orElse unless
-  nineteen-track long a b wrong = track-is image long ∙ rw (wrong-start a b wrong)
+  -- what a judgement begins with is what check and the first track give
+  pub start-refused : length image ≡ imageBytes → (r : Reply) → startRefusal d ≡ some r → (check image ≡ r) × (firstTrackResult (take 9216 image) ≡ refusedTrack r)
+  unfolding check diskRefusal judgedFirst orElse unless
+  start-refused long r e = (sound-refused image _ _ long r (rw e), track-is image long ∙ rw e)
 
   -- where 11 is not given, the free word is right
   pub passed-eleven : refusal11 d ≡ none → freeRight d ≡ true
@@ -214,22 +208,23 @@ module _ (image : List ℕ) where
   -- ---- the first track
 
   track-by : (v : Option Reply) → orElse (startRefusal d) (refusal11 d) ≡ v → judgedFirst d .reply ≡ done
-      → (judgedFirst d ≡ counted d) × (freeRight d ≡ true)
+      → (judgedFirst d ≡ counted d) × (freeRight d ≡ true) × (goodRight d ≡ true)
   unfolding judgedFirst unless
   track-by none e p =
       let counts : judgedFirst d ≡ counted d = rw e in
-      (counts, passed-eleven (or-none-right (startRefusal d) (refusal11 d) e))
+      let start : startRefusal d ≡ none = or-none-left (startRefusal d) (refusal11 d) e in
+      (counts, passed-eleven (or-none-right (startRefusal d) (refusal11 d) e), passed-nineteen (start-nineteen d start))
   track-by (some r) e p =
       let refused : judgedFirst d ≡ refusedTrack r = rw e in
       let number : NotDone (some r) =
       subst NotDone e (not-done-or _ _ (not-done-start d) (not-done-eleven d)) in
       absurd (number (ap (λ (x : FirstTrack). x .reply .number) (sym refused) ∙ ap (λ (x : Reply). x .number) p))
 
-  -- an accepted first track gives the counts, and its free word is right
+  -- an accepted first track gives the counts, and its free word and good word are right
   pub track-accepted : length image ≡ imageBytes → firstTrackResult (take 9216 image) .reply ≡ done
-      → (firstTrackResult (take 9216 image) ≡ counted d) × (freeRight d ≡ true)
+      → (firstTrackResult (take 9216 image) ≡ counted d) × (freeRight d ≡ true) × (goodRight d ≡ true)
   track-accepted long e =
       let is : firstTrackResult (take 9216 image) ≡ judgedFirst d = track-is image long in
-      let w : (judgedFirst d ≡ counted d) × (freeRight d ≡ true) =
+      let w : (judgedFirst d ≡ counted d) × (freeRight d ≡ true) × (goodRight d ≡ true) =
       track-by (orElse (startRefusal d) (refusal11 d)) refl (ap (λ (x : FirstTrack). x .reply) (sym is) ∙ e) in
-      (is ∙ w .0, w .1)
+      (is ∙ w .0, w .1, w .2)

@@ -216,11 +216,15 @@ module _ (d : Disk) (first : recordAt d 0 ≡ System) where
     add-beside : SameRecord d d₁ b → Avoids b (firsts blocks n (freeAt d₁)) → SameRecord d (addAt d k e content) b
     add-beside p a = same-then d d₁ (addAt d k e content) b p (grown-added a)
 
-    -- an add leaves each record that is not free
-    pub add-held : freeAt d b ≡ false → SameRecord d (addAt d k e content) b
-    add-held t =
+    -- a block that is not free is not among those given
+    pub held-beside : freeAt d b ≡ false → (opensBlock d k ≡ true → Avoids b (firsts blocks 1 (freeAt d))) × Avoids b (firsts blocks n (freeAt d₁))
+    held-beside t =
         let p : SameRecord d d₁ b = grow-beside k b l (λ o. firsts-fails (freeAt d) b t blocks 1) in
-        add-beside p (firsts-fails (freeAt d₁) b (sym (free-same d d₁ b p) ∙ t) blocks n)
+        (λ o. firsts-fails (freeAt d) b t blocks 1, firsts-fails (freeAt d₁) b (sym (free-same d d₁ b p) ∙ t) blocks n)
+
+    -- so an add leaves its record
+    pub add-held : freeAt d b ≡ false → SameRecord d (addAt d k e content) b
+    add-held t = let apart = held-beside t in add-beside (grow-beside k b l (apart .0)) (apart .1)
 
     -- a block that has as many free ones below it as the add needs is not among those given
     pub left-beside : needed d k (length content) ≤ count b (freeAt d)

@@ -1,5 +1,4 @@
--- free-tails (FreeTails.antt). What the calls leave of a record is what their steps leave (OnAnyDisk.Kept), on a sound disk; every refusal leaves
--- the image. That no history makes another tail is read off the inner model's disk, whose free records are written ones.
+-- free-tails (FreeTails.antt). What the calls leave of a record is what their steps leave (OnAnyDisk.Kept, Stays). That no history makes another tail is read off the inner model's disk, whose free records are written ones.
 use mathlib.Core.Path.{_≡_, refl, sym, ap, ap₂, _∙_, subst}
 use mathlib.Core.Bool.{Bool, true, not, cond, _&&_}
 use mathlib.Core.List.{List}
@@ -42,78 +41,14 @@ use Rattle.file_rules.specs.Laws.Base.Whole.{with-is, free-is}
 use Rattle.file_rules.specs.Laws.InnerModel.Inner.{Inner, render, innerFormat, innerEnd}
 use Rattle.file_rules.specs.Laws.InnerModel.Invariant.{Inv}
 use Rattle.file_rules.specs.Laws.OnImages.Run.{format-inv, img-disk, end-inv}
-use Rattle.file_rules.specs.Laws.OnAnyDisk.Kept.{free-same, word-written, grow-system, add-held, add-left, remove-beside, remove-freed}
-use Rattle.file_rules.specs.Laws.OnAnyDisk.FreeBytes.{SameBlock, add-bytes, remove-bytes, remove-zeros}
+use Rattle.file_rules.specs.Laws.OnAnyDisk.Kept.{free-same, word-written, grow-system, add-held, left-beside, add-left, remove-beside, remove-freed}
+use Rattle.file_rules.specs.Laws.OnAnyDisk.BlockBytes.{free-no-file, free-not-zero, add-bytes, remove-bytes, remove-zeros}
+use Rattle.file_rules.specs.Laws.OnAnyDisk.Stays.{record-image, add-kept, remove-kept, add-stays, remove-stays}
 use Rattle.file_rules.specs.Laws.OnAnyDisk.Taken.{HasRecord, taken-is, add-gives-record}
 use Rattle.file_rules.specs.Laws.Theorem.History.{end-is}
 use Rattle.file_rules.specs.Map.{sequences, numberOf, encode, recordByte, recordAt, isSystem, isOther, bears, freeAt, freeCount}
 use Rattle.file_rules.specs.Sizes.{blockBytes, blockSlots, mapStart, recordBytes, nameMost, titleMost, freeSectors}
 use Rattle.file_rules.specs.Written.{setFree, stepUpdate}
-
--- ---- what stays
-
--- what holds of the disk before, and of that which the steps of a call leave, holds of the disk after the call, whatever its reply
-module _ (image : List ℕ) (P : Disk → Type 0) (on-image : (e : Disk) → P e → P (diskOf (imageOf e))) (before : P (diskOf image)) where
-  abbrev OnDisk : DiskChanged → Type 0
-  OnDisk c = P (c .diskAfter)
-
-  abbrev OnImage : ImageChanged → Type 0
-  OnImage w = P (diskOf (w .image))
-
-  by-add : (name : List ℕ) (date : ℕ) (content : List ℕ)
-      → (recordAt (diskOf image) 0 ≡ System → (x : Entry) → P (addAt (diskOf image) (vacantSlot (diskOf image)) x content))
-      → OnImage (add image name date content)
-  unfolding add addSound imaged diskKept imageKept
-  by-add name date content steps =
-      let d : Disk = diskOf image in
-      by-sound image (imageKept image) (λ (x : Disk). imaged (addSound x name date content)) OnImage (λ r. before)
-      (λ long passed. on-image (addSound d name date content .diskAfter)
-      (by-cond OnDisk (nameRight name) _ _
-      (λ t. by-cond OnDisk (ltb (findName d name) (dirEnd d)) _ _ (λ u. before)
-      (λ u. by-cond OnDisk (leb (needed d (vacantSlot d) (length content)) (freeCount d)) _ _
-      (λ r. steps (first-system d passed) (entryFor name date (length content))) (λ r. before)))
-      (λ t. before)))
-
-  by-remove : (name : List ℕ) → (recordAt (diskOf image) 0 ≡ System → P (removeAt (diskOf image) (findName (diskOf image) name)))
-      → OnImage (remove image name)
-  unfolding remove removeSound imaged diskKept imageKept
-  by-remove name steps =
-      let d : Disk = diskOf image in
-      by-sound image (imageKept image) (λ (x : Disk). imaged (removeSound x name)) OnImage (λ r. before)
-      (λ long passed. on-image (removeSound d name .diskAfter)
-      (by-cond OnDisk (nameRight name) _ _
-      (λ t. by-cond OnDisk (ltb (findName d name) (dirEnd d)) _ _ (λ u. steps (first-system d passed)) (λ u. before))
-      (λ t. before)))
-
-module _ (image : List ℕ) (b : ℕ) (l : b < blocks) where
-  abbrev d : Disk
-  d = diskOf image
-
-  record-image : (e : Disk) (i : ℕ) → i < recordBytes → recordByte (diskOf (imageOf e)) b i ≡ recordByte e b i
-  record-image e i k = inside-disk e 0 (mapStart + recordBytes * b + i) (omega arith) (omega arith)
-
-  -- of a record
-  add-kept : (name : List ℕ) (date : ℕ) (content : List ℕ)
-      → (recordAt d 0 ≡ System → (x : Entry) → SameRecord d (addAt d (vacantSlot d) x content) b) → SameRecord d (diskOf (add image name date content .image)) b
-  add-kept = by-add image (λ (e : Disk). SameRecord d e b) (λ e s i k. s i k ∙ sym (record-image e i k)) (λ i k. refl)
-
-  remove-kept : (name : List ℕ) → (recordAt d 0 ≡ System → SameRecord d (removeAt d (findName d name)) b)
-      → SameRecord d (diskOf (remove image name .image)) b
-  remove-kept = by-remove image (λ (e : Disk). SameRecord d e b) (λ e s i k. s i k ∙ sym (record-image e i k)) (λ i k. refl)
-
-  -- of a block's bytes
-  bytes-image : (e : Disk) → SameBlock d e b → SameBlock d (diskOf (imageOf e)) b
-  bytes-image e s o =
-      by-order o blockBytes
-      (λ h. s o ∙ sym (inside-disk e b o l h)) (λ h. outside-disk image b o h ∙ sym (outside-disk (imageOf e) b o h))
-
-  add-stays : (name : List ℕ) (date : ℕ) (content : List ℕ)
-      → (recordAt d 0 ≡ System → (x : Entry) → SameBlock d (addAt d (vacantSlot d) x content) b) → SameBlock d (diskOf (add image name date content .image)) b
-  add-stays = by-add image (λ (e : Disk). SameBlock d e b) bytes-image (λ o. refl)
-
-  remove-stays : (name : List ℕ) → (recordAt d 0 ≡ System → SameBlock d (removeAt d (findName d name)) b)
-      → SameBlock d (diskOf (remove image name .image)) b
-  remove-stays = by-remove image (λ (e : Disk). SameBlock d e b) bytes-image (λ o. refl)
 
 -- as many free blocks as it takes, said as add asks for them
 as-needed : (image content : List ℕ) (b : ℕ) → blocksTaken (diskOf image) (vacantSlot (diskOf image)) (length content) ≤ count b (freeAt (diskOf image))
@@ -147,7 +82,7 @@ module _ (image : List ℕ) (act : Disk → DiskChanged) (P : List ℕ → Type 
       (λ short. subst IfDone (sym (sound-length image _ _ short)) (not-done wrongLength (λ z. omega arith)))
 
 -- a record with the bytes of the free one is FD FF FF
-written-free : (e : Disk) (b : ℕ) → HasRecord e b Free → IsWrittenFree e b
+pub written-free : (e : Disk) (b : ℕ) → HasRecord e b Free → IsWrittenFree e b
 unfolding encode numberOf highByte
 written-free e b h = (h 0 (omega arith), h 1 (omega arith), h 2 (omega arith))
 
@@ -327,9 +262,13 @@ free-tails =
           (λ first e. add-left (diskOf image) first (vacantSlot (diskOf image)) e content b l (as-needed image content b h));
       add-bytes-stay = λ image name date content b l t h.
           add-stays image b l name date content
-          (λ first x. add-bytes (diskOf image) first (vacantSlot (diskOf image)) x content b l t (as-needed image content b h));
+          (λ first x.
+          let k : ℕ = vacantSlot (diskOf image) in
+          add-bytes (diskOf image) first k x content b l (free-no-file (diskOf image) b t) (free-not-zero (diskOf image) first b t)
+          (left-beside (diskOf image) first k x content b l (as-needed image content b h)));
       remove-bytes-stay = λ image name b l t.
-          remove-stays image b l name (λ first. remove-bytes (diskOf image) first (findName (diskOf image) name) b l t);
+          remove-stays image b l name (λ first. remove-bytes (diskOf image) first (findName (diskOf image) name) b l (free-no-file (diskOf image) b t)
+          (free-not-zero (diskOf image) first b t));
       add-taken = λ image name date content b l e t few. add-given image b l name date content e t few;
       remove-others = λ image name b l t.
           remove-kept image b l name (λ first. remove-beside (diskOf image) first (findName (diskOf image) name) b l t);

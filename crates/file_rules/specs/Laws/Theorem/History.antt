@@ -135,7 +135,7 @@ next-arguments (toAdd x) m =
     (λ h. by-cond same (roomFor m x) _ _ (λ r. refl) (λ r. refl))) (λ t. refl)
 
 -- a history keeps the arguments of its format
-same-arguments : (cs : List Call) (m : Inner) → innerEnd m cs .arguments ≡ m .arguments
+pub same-arguments : (cs : List Call) (m : Inner) → innerEnd m cs .arguments ≡ m .arguments
 unfolding innerEnd
 same-arguments [] m = refl
 same-arguments (c ∷ cs) m = same-arguments cs (innerStep m c) ∙ next-arguments c m

@@ -3,11 +3,11 @@
 use mathlib.Core.Bool.{Bool, true, false, cond, _&&_}
 use mathlib.Core.List.{List, [], _∷_, _++_}
 use mathlib.Core.Option.{none, some}
-use mathlib.Core.Path.{_≡_, refl, ap, ap₂, _∙_}
+use mathlib.Core.Path.{_≡_, refl, sym, ap, ap₂, _∙_}
 use Prim.Native.Nat.{ℕ, _+_, _-_, _≤_, _<_}
 use native.Mathlib.Omega.{arith}
 use lib.Dec.{leb, lit≤}
-use lib.ListN.{length, getD, set, take, length-append, List·getD-append}
+use lib.ListN.{length, getD, set, take, drop, length-append, List·getD-append}
 use Rattle.laws.specs.Laws.Tests.{eq-true, le-false, cond-true, cond-false, and-false-left, and-false-right}
 use Rattle.laws.specs.Laws.Tab.{tab-ext, take-tab}
 use Rattle.laws.specs.Lists.{same, bytesAre, tab}
@@ -115,6 +115,27 @@ unfolding tab formatDisk diskWith diskHeaderByte fixedByte patch highByte diskSi
     badBlocks count listed
 bad-is old long = formatted-begins old (argumentsOf title 0x1234 three-bad) 108 (lit≤ tt) long (lit≤ tt) three-each ∙ refl
 
+module _ (title bad : List ℕ) (number : ℕ) where
+  same-start : tab (formatDisk (argumentsOf title number bad) 0) 20 ≡ tab (formatDisk (argumentsOf title number []) 0) 20
+  unfolding tab formatDisk diskWith diskHeaderByte fixedByte patch
+  same-start = refl
+
+  same-rest : drop 24 (tab (formatDisk (argumentsOf title number bad) 0) 96) ≡ drop 24 (tab (formatDisk (argumentsOf title number []) 0) 96)
+  unfolding tab formatDisk diskWith diskHeaderByte fixedByte patch
+  same-rest = refl
+
+elsewhere-is : (old title bad : List ℕ) (number : ℕ) → length old ≡ imageBytes → length title ≤ titleMost → EachCanBeBad bad
+    → (take 20 (format old (argumentsOf title number bad) .image) ≡ take 20 (format old (argumentsOf title number []) .image))
+    × (drop 24 (take 96 (format old (argumentsOf title number bad) .image)) ≡ drop 24 (take 96 (format old (argumentsOf title number []) .image)))
+elsewhere-is old title bad number long short each =
+    let begins-with : (n : ℕ) → n ≤ sectorBytes → take n (format old (argumentsOf title number bad) .image) ≡ tab (formatDisk (argumentsOf title number bad) 0) n =
+    λ n l. formatted-begins old (argumentsOf title number bad) n l long short each in
+    let plain : (n : ℕ) → n ≤ sectorBytes → take n (format old (argumentsOf title number []) .image) ≡ tab (formatDisk (argumentsOf title number []) 0) n =
+    λ n l. formatted-begins old (argumentsOf title number []) n l long short none-bad in (
+      begins-with 20 (lit≤ tt) ∙ same-start title bad number ∙ sym (plain 20 (lit≤ tt)),
+      ap (drop 24) (begins-with 96 (lit≤ tt)) ∙ same-rest title bad number ∙ sym (ap (drop 24) (plain 96 (lit≤ tt))),
+    )
+
 module _ (old : List ℕ) (args : FormatArguments) (long : length old ≡ imageBytes) where
   refused-is : (leb (length (args .title)) titleMost && badListRight (args .bad)) ≡ false → format old args .answer ≡ refusal 12
   unfolding format imageRight imageKept
@@ -134,6 +155,7 @@ disk-header-values =
     record {
       format-header = format-is;
       format-bad = bad-is;
+      list-elsewhere = elsewhere-is;
       one-more = λ rest long. rows rest long (changedAt oneMore diskHeader) (λ o l. changed-length oneMore diskHeader o) ∙ refl;
       one-less = λ rest long. rows rest long (changedAt oneLess diskHeader) (λ o l. changed-length oneLess diskHeader o) ∙ refl;
       all-less = λ rest long. rows rest long (changedFrom oneLess diskHeader) (λ o l. changed-from-length oneLess diskHeader o l) ∙ refl;

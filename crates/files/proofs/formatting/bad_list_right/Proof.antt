@@ -37,7 +37,7 @@ returns c =
     let at-loop = after-block-number .before .before .before in
     let start = at-loop .before .before in
     sym (right-entries _ ∙ all-false _ (length (start .args .bad .now)) (at-loop .loop .i) (omega arith)
-    (ap canBeBad (sym (after-block-number .block-number .ensures)) ∙ low-cannot _ (c .if1 .taken)))
+    (ap canBeBad (sym (after-block-number .block-number .ensures)) ∙ low-cannot _ (omega (arith, c .if1 .taken))))
 
 returns-2 : tie.Need-returns-2 Inv-loop μ-loop
 returns-2 c =
@@ -45,7 +45,7 @@ returns-2 c =
     let at-loop = after-block-number .before .before .before in
     let start = at-loop .before .before in
     sym (right-entries _ ∙ all-false _ (length (start .args .bad .now)) (at-loop .loop .i) (omega arith)
-    (ap canBeBad (sym (after-block-number .block-number .ensures)) ∙ high-cannot _ (c .if2 .taken)))
+    (ap canBeBad (sym (after-block-number .block-number .ensures)) ∙ high-cannot _ (omega (arith, c .if2 .taken))))
 
 add-i : tie.Need-add-i Inv-loop μ-loop
 add-i c = search needs
@@ -59,7 +59,7 @@ loop-again c =
     let at-loop = after-block-number .before .before .before in (
       omega arith,
       below-more _ _ (at-loop .loop .inv .1)
-          (ap canBeBad (sym (after-block-number .block-number .ensures)) ∙ between-can _ (c .before .if1 .left) (c .if2 .left)),
+          (ap canBeBad (sym (after-block-number .block-number .ensures)) ∙ between-can _ (omega (arith, c .before .if1 .left)) (omega (arith, c .if2 .left))),
     )
 
 returns-3 : tie.Need-returns-3 Inv-loop μ-loop

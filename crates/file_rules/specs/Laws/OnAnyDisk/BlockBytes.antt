@@ -1,4 +1,5 @@
--- The bytes of free blocks: a block that is free, and that an add does not take, keeps them on add and remove; one that a remove frees has zeros.
+-- The bytes of blocks that no file has, free and bad ones: such a block, if an add does not take it, keeps them on add and remove; one that a remove frees has
+-- zeros.
 -- Rests on which records the steps leave (Kept) and on a sound disk's block 0 (Base.Sound).
 use mathlib.Core.Path.{_≡_, refl, sym, ap, _∙_}
 use mathlib.Core.Logic.{_≢_}
@@ -8,24 +9,24 @@ use Prim.Native.Nat.{ℕ, zero, suc, _/_, _≤_, _<_}
 use native.Mathlib.Omega.{arith}
 use lib.Dec.{eqb}
 use lib.ListN.{length}
-use Rattle.laws.specs.Below.{count, firsts}
+use Rattle.laws.specs.Below.{firsts}
 use Rattle.laws.specs.Laws.Cases.{by-equal, by-cond}
-use Rattle.laws.specs.Laws.Tests.{true≢false, cond-true}
+use Rattle.laws.specs.Laws.Tests.{true≢false, cond-true, and-false-left}
 use Rattle.laws.specs.Laws.Changes.{upd₂-same, upd₂-other}
 use Rattle.laws.specs.Laws.Firsts.{Avoids}
 use Rattle.sector_rules.specs.Geometry.{blocks}
 use Rattle.file_rules.specs.declared.Record.{Record}
-use Rattle.file_rules.specs.declared.Record.the-variants.{Free, System, File}
+use Rattle.file_rules.specs.declared.Record.the-variants.{Free, Bad, System, File, Other}
 use Rattle.file_rules.specs.declared.Entry.{Entry}
-use Rattle.file_rules.specs.Calls.{opensBlock, growDir, endAfter, addAt, needed, removeAt}
+use Rattle.file_rules.specs.Calls.{opensBlock, growDir, endAfter, addAt, removeAt}
 use Rattle.file_rules.specs.Directory.{entryByte, dirEnd}
 use Rattle.file_rules.specs.Disk.{Disk}
 use Rattle.file_rules.specs.FreeTails.{SameRecord}
-use Rattle.file_rules.specs.Laws.Base.Records.{free-only}
+use Rattle.file_rules.specs.Laws.Base.Records.{free-only, bad-only}
 use Rattle.file_rules.specs.Laws.Base.Sound.{part-not}
 use Rattle.file_rules.specs.Laws.Base.Whole.{bears-not-system}
-use Rattle.file_rules.specs.Laws.OnAnyDisk.Kept.{record-same, freed-later, freed-record, firsts-beside, grow-beside, grow-system, left-beside, freed-kept}
-use Rattle.file_rules.specs.Map.{recordAt, isFree, isPart, bears, freeAt, partBlock}
+use Rattle.file_rules.specs.Laws.OnAnyDisk.Kept.{record-same, freed-later, freed-record, firsts-beside, grow-beside, grow-system, freed-kept}
+use Rattle.file_rules.specs.Map.{recordAt, isFree, isBad, isPart, bears, freeAt, badAt, partBlock}
 use Rattle.file_rules.specs.Sizes.{blockSlots}
 use Rattle.file_rules.specs.Written.{storedByte, part, blocksFor, zeros, setBlock, setRecord, setSlot, setWord, setFree, setEnd, stepUpdate}
 use Rattle.file_rules.specs.Written.{giveBlocks, freeBlock, freeBlocks}
@@ -65,24 +66,55 @@ module _ (b : ℕ) (z : b ≢ 0) where
   give-bytes (x ∷ bs) d f c s a =
       λ i. given-bytes d x (part c s) (File f s) (a .0) i ∙ give-bytes bs (setRecord (setBlock d x (part c s)) x (File f s)) f c (suc s) (a .1) i
 
--- a slot does not lie in a free block
-slot-bytes : (d : Disk) (b : ℕ) → b < blocks → freeAt d b ≡ true → (k : ℕ) (g : ℕ → ℕ) → SameBlock d (setSlot d k g) b
-unfolding setSlot freeAt isPart
-slot-bytes d b l t k g i =
-    let free : recordAt d b ≡ Free = free-only (recordAt d b) t in
-    sym (upd₂-other d (partBlock d 0 (k / blockSlots)) _ b i (λ z. part-not d 0 (k / blockSlots) b l (ap (isPart 0 (k / blockSlots)) free) (sym z)))
+-- ---- blocks that no file has
 
-free-not-zero : (d : Disk) → recordAt d 0 ≡ System → (b : ℕ) → freeAt d b ≡ true → b ≢ 0
+-- a record that no file has
+abbrev pub NoFile : Record → Type 0
+NoFile r = (f : ℕ) → bears f r ≡ false
+
+-- a free one is such
+pub free-no-file : (d : Disk) (b : ℕ) → freeAt d b ≡ true → NoFile (recordAt d b)
+unfolding freeAt bears
+free-no-file d b t f = ap (bears f) (free-only (recordAt d b) t)
+
+-- so is a bad one
+pub bad-no-file : (d : Disk) (b : ℕ) → badAt d b ≡ true → NoFile (recordAt d b)
+unfolding badAt bears
+bad-no-file d b t f = ap (bears f) (bad-only (recordAt d b) t)
+
+-- it is no part of a file
+no-part : (f s : ℕ) (r : Record) → NoFile r → isPart f s r ≡ false
+unfolding bears isPart
+no-part f s Free n = refl
+no-part f s Bad n = refl
+no-part f s System n = refl
+no-part f s (File g t) n = and-false-left (eqb t s) (n f)
+no-part f s Other n = refl
+
+-- a slot does not lie in such a block
+slot-bytes : (d : Disk) (b : ℕ) → b < blocks → NoFile (recordAt d b) → (k : ℕ) (g : ℕ → ℕ) → SameBlock d (setSlot d k g) b
+unfolding setSlot
+slot-bytes d b l n k g i =
+    sym (upd₂-other d (partBlock d 0 (k / blockSlots)) _ b i
+    (λ z. part-not d 0 (k / blockSlots) b l (no-part 0 (k / blockSlots) (recordAt d b) n) (sym z)))
+
+-- a free block is not block 0
+pub free-not-zero : (d : Disk) → recordAt d 0 ≡ System → (b : ℕ) → freeAt d b ≡ true → b ≢ 0
 unfolding freeAt isFree
 free-not-zero d first b t z = true≢false (freeAt d b) t (ap (freeAt d) z ∙ ap isFree first)
 
-free-still : (d e : Disk) (b : ℕ) → SameRecord d e b → freeAt d b ≡ true → freeAt e b ≡ true
-unfolding freeAt
-free-still d e b s t = ap isFree (sym (record-same d e b s)) ∙ t
+-- nor is a bad one
+pub bad-not-zero : (d : Disk) → recordAt d 0 ≡ System → (b : ℕ) → badAt d b ≡ true → b ≢ 0
+unfolding badAt isBad
+bad-not-zero d first b t z = true≢false (badAt d b) t (ap (badAt d) z ∙ ap isBad first)
+
+still-none : (d e : Disk) (b : ℕ) → SameRecord d e b → NoFile (recordAt d b) → NoFile (recordAt e b)
+still-none d e b s n f = ap (bears f) (sym (record-same d e b s)) ∙ n f
 
 -- ---- an add
 
-module _ (d : Disk) (first : recordAt d 0 ≡ System) (k : ℕ) (x : Entry) (content : List ℕ) (b : ℕ) (l : b < blocks) (t : freeAt d b ≡ true) where
+module _ (d : Disk) (first : recordAt d 0 ≡ System) (k : ℕ) (x : Entry) (content : List ℕ) (b : ℕ) (l : b < blocks)
+    (none : NoFile (recordAt d b)) (z : b ≢ 0) where
   abbrev n : ℕ
   n = blocksFor (length content)
 
@@ -92,36 +124,31 @@ module _ (d : Disk) (first : recordAt d 0 ≡ System) (k : ℕ) (x : Entry) (con
   abbrev d₂ : Disk
   d₂ = giveBlocks d₁ k (storedByte x content) 0 (firsts blocks n (freeAt d₁))
 
-  z : b ≢ 0
-  z = free-not-zero d first b t
-
   grow-bytes : (opensBlock d k ≡ true → Avoids b (firsts blocks 1 (freeAt d))) → SameBlock d d₁ b
   unfolding growDir
   grow-bytes a =
       by-cond (λ (e : Disk). SameBlock d e b) (opensBlock d k) _ d
       (λ o. give-bytes b z (firsts blocks 1 (freeAt d)) d 0 zeros (k / blockSlots) (a o)) (λ o i. refl)
 
-  -- a free block that an add does not take keeps its bytes
-  pub add-bytes : needed d k (length content) ≤ count b (freeAt d) → SameBlock d (addAt d k x content) b
+  -- a block that an add does not take keeps its bytes
+  pub add-bytes : (opensBlock d k ≡ true → Avoids b (firsts blocks 1 (freeAt d))) × Avoids b (firsts blocks n (freeAt d₁)) → SameBlock d (addAt d k x content) b
   unfolding addAt
-  add-bytes h o =
-      let apart = left-beside d first k x content b l h in
-      let free₁ : freeAt d₁ b ≡ true = free-still d d₁ b (grow-beside d first k b l (apart .0)) t in
+  add-bytes apart o =
+      let none₁ : NoFile (recordAt d₁ b) = still-none d d₁ b (grow-beside d first k b l (apart .0)) none in
       let kept₂ : SameRecord d₁ d₂ b = firsts-beside d₁ (grow-system d first k) k (storedByte x content) 0 n b l (apart .1) in
-      let free₂ : freeAt d₂ b ≡ true = free-still d₁ d₂ b kept₂ free₁ in
+      let none₂ : NoFile (recordAt d₂ b) = still-none d₁ d₂ b kept₂ none₁ in
       let d₃ : Disk = setSlot d₂ k (entryByte x) in
       let d₄ : Disk = endAfter k (dirEnd d) d₃ in
       grow-bytes (apart .0) o
       ∙ give-bytes b z (firsts blocks n (freeAt d₁)) d₁ k (storedByte x content) 0 (apart .1) o
-      ∙ slot-bytes d₂ b l free₂ k (entryByte x) o
+      ∙ slot-bytes d₂ b l none₂ k (entryByte x) o
       ∙ end-bytes b z d₃ k (dirEnd d) o ∙ free-bytes b z d₄ o ∙ update-bytes b z (setFree d₄) o
 
 -- ---- a remove
 
-module _ (d : Disk) (first : recordAt d 0 ≡ System) (f b : ℕ) (l : b < blocks) (t : freeAt d b ≡ true) where
+module _ (d : Disk) (first : recordAt d 0 ≡ System) (f b : ℕ) (l : b < blocks) (none : NoFile (recordAt d b)) (z : b ≢ 0) where
   not-borne : bears f (recordAt d b) ≡ false
-  unfolding freeAt bears
-  not-borne = ap (bears f) (free-only (recordAt d b) t)
+  not-borne = none f
 
   freed-bytes : (n : ℕ) → n ≤ blocks → SameBlock d (freeBlocks n d f) b
   unfolding freeBlocks freeBlock
@@ -131,19 +158,18 @@ module _ (d : Disk) (first : recordAt d 0 ≡ System) (f b : ℕ) (l : b < block
       let kept : bears f (recordAt dn b) ≡ false = ap (bears f) (sym (record-same d dn b (freed-kept d first f n b (omega arith) l not-borne))) ∙ not-borne in
       λ i. freed-bytes n (omega arith) i
       ∙ by-cond (λ (e : Disk). dn b i ≡ e b i) (bears f (recordAt dn n)) _ dn
-      (λ u. given-bytes b (free-not-zero d first b t) dn n zeros Free
+      (λ u. given-bytes b z dn n zeros Free
       (λ q. true≢false (bears f (recordAt dn n)) u (ap (λ (y : ℕ). bears f (recordAt dn y)) (sym q) ∙ kept)) i)
       (λ u. refl)
 
-  -- a free block keeps its bytes
+  -- a remove leaves its bytes
   pub remove-bytes : SameBlock d (removeAt d f) b
   unfolding removeAt
   remove-bytes o =
-      let z : b ≢ 0 = free-not-zero d first b t in
       let d₁ : Disk = freeBlocks blocks d f in
-      let free₁ : freeAt d₁ b ≡ true = free-still d d₁ b (freed-kept d first f blocks b (omega arith) l not-borne) t in
+      let none₁ : NoFile (recordAt d₁ b) = still-none d d₁ b (freed-kept d first f blocks b (omega arith) l not-borne) none in
       let d₂ : Disk = setSlot d₁ f zeros in
-      freed-bytes blocks (omega arith) o ∙ slot-bytes d₁ b l free₁ f zeros o ∙ free-bytes b z d₂ o ∙ update-bytes b z (setFree d₂) o
+      freed-bytes blocks (omega arith) o ∙ slot-bytes d₁ b l none₁ f zeros o ∙ free-bytes b z d₂ o ∙ update-bytes b z (setFree d₂) o
 
 -- ---- blocks that are freed
 
@@ -173,4 +199,4 @@ module _ (d : Disk) (first : recordAt d 0 ≡ System) (f b : ℕ) (l : b < block
       let d₁ : Disk = freeBlocks blocks d f in
       let free₁ : freeAt d₁ b ≡ true = ap isFree (freed-record d first f b l t) in
       let d₂ : Disk = setSlot d₁ f zeros in
-      sym (slot-bytes d₁ b l free₁ f zeros o ∙ free-bytes b pos d₂ o ∙ update-bytes b pos (setFree d₂) o) ∙ freed-zeros blocks (omega arith) l o
+      sym (slot-bytes d₁ b l (free-no-file d₁ b free₁) f zeros o ∙ free-bytes b pos d₂ o ∙ update-bytes b pos (setFree d₂) o) ∙ freed-zeros blocks (omega arith) l o
