@@ -154,6 +154,14 @@ pub fn named_files(names: &[&[u8]]) -> Vec<u8> {
     image
 }
 
+/// A disk whose directory has one block and a file in each of its slots, 1 to
+/// 23; the next file takes a block for the directory.
+pub fn full_directory() -> Vec<u8> {
+    let names: Vec<[u8; 1]> = (0..23).map(|index| [b'a' + index]).collect();
+    let names: Vec<&[u8]> = names.iter().map(|name| name.as_slice()).collect();
+    named_files(&names)
+}
+
 /// A directory of two blocks, 300 before 20, with a file in slots 1 and 24;
 /// the file in slot 24 has its blocks in backward order.
 pub fn scattered() -> Vec<u8> {

@@ -4,7 +4,7 @@
 use super::all_calls::{all_calls, judged};
 use super::answer::{add, cases, check, first_track_text, list, read, remove};
 use super::build::{
-    count_free, entry, free_blocks, fresh, long_directory, named_files, patch, peek, record,
+    count_free, entry, free_blocks, fresh, full_directory, long_directory, patch, peek, record,
     record_of, records, set_record, set_word, three_files, word, FREE,
 };
 use reference::geometry::{BLOCKS, TRACK_LEN};
@@ -159,9 +159,7 @@ fn adds_take_the_lowest_and_leave_the_others() {
 /// (§8.10), before those of the file.
 #[test]
 fn directory_grows_into_a_block_with_a_tail() {
-    let names: Vec<[u8; 1]> = (0..23).map(|index| [b'a' + index]).collect();
-    let names: Vec<&[u8]> = names.iter().map(|name| name.as_slice()).collect();
-    let mut image = named_files(&names);
+    let mut image = full_directory();
     random_tails(&mut Generator::new(6), &mut image);
     // Tails: sequence 1 of file 0, sequences 0 and 1 of file 24 (018 hex).
     for (block, tail) in [(2, [0x00, 0x01]), (3, [0x80, 0x00]), (4, [0x80, 0x01])] {
@@ -180,9 +178,7 @@ fn directory_grows_into_a_block_with_a_tail() {
 /// So it is where the directory's first block is not block 1 (§8.10).
 #[test]
 fn directory_grows_into_block_1() {
-    let names: Vec<[u8; 1]> = (0..23).map(|index| [b'a' + index]).collect();
-    let names: Vec<&[u8]> = names.iter().map(|name| name.as_slice()).collect();
-    let mut image = named_files(&names);
+    let mut image = full_directory();
     let slots = peek(&image, 1, 0, 1536);
     patch(&mut image, 400, 0, &slots);
     set_record(&mut image, 400, record(0, 0));

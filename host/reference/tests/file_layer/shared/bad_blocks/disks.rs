@@ -3,9 +3,9 @@
 use super::super::all_calls::{all_calls, judged};
 use super::super::answer::{add, cases, check, list, read, remove};
 use super::super::build::{
-    bad_blocks, count_free, count_good, entry, fresh, long_directory, mark_bad, named_files, patch,
-    peek, record, record_of, records, scattered, set_record, set_word, three_files, word, BAD,
-    FREE,
+    bad_blocks, count_free, count_good, entry, fresh, full_directory, long_directory, mark_bad,
+    patch, peek, record, record_of, records, scattered, set_record, set_word, three_files, word,
+    BAD, FREE,
 };
 use super::random_bad;
 use support::noise::{noise, Generator};
@@ -154,9 +154,7 @@ fn bad_records_bear_no_file_number() {
 /// The directory grows past bad blocks (§8.10), and their old bytes stay (§8.12).
 #[test]
 fn directory_grows_past_old_bytes() {
-    let names: Vec<[u8; 1]> = (0..23).map(|index| [b'a' + index]).collect();
-    let names: Vec<&[u8]> = names.iter().map(|name| name.as_slice()).collect();
-    let mut image = named_files(&names);
+    let mut image = full_directory();
     for block in [2, 3, 5, 456, 455] {
         mark_bad(&mut image, block);
         patch(&mut image, block, 0, &[block as u8; 1536]);
