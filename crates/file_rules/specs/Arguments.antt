@@ -31,8 +31,8 @@ badListRight [] = true
 badListRight (x ∷ xs) = (leb 2 x && ltb x blocks) && badListRight xs
 
 -- how many blocks of the disk the list has (§8.4)
-unfoldable pub badBlocks : List ℕ → ℕ
-badBlocks bad = count blocks (λ (b : ℕ). listed b bad)
+unfoldable pub countListed : List ℕ → ℕ
+countListed bad = count blocks (λ (b : ℕ). listed b bad)
 
 -- each block in the list is one of 2 to 479, as statements ask it of the list of an accepted format (§7.12)
 abbrev pub EachCanBeBad : List ℕ → Type 0

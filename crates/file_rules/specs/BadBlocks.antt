@@ -49,7 +49,7 @@ pub record AnswersAs (image : List ℕ) (r : Reply) : Type 0 where
   pub add-answers : (name : List ℕ) (date : ℕ) (content : List ℕ) → add image name date content .answer ≡ r
   pub remove-answers : (name : List ℕ) → remove image name .answer ≡ r
 
--- bad-blocks
+-- bad-blocks (§6.9 §6.18 §7.8 §7.9 §7.26 §8.4 §8.12 §8.13)
 pub record BadBlocks : Type 0 where
   -- ---- records and the good word
   -- a record is bad if and only if it is FE FF FF
@@ -67,9 +67,11 @@ pub record BadBlocks : Type 0 where
   pub track-counts : (image : List ℕ) → length image ≡ imageBytes → MapInBytes (diskOf image) → firstTrackResult (take 9216 image) .reply ≡ done
       → firstTrackResult (take 9216 image) .good + 3 * badByBytes (diskOf image) ≡ 1440
   -- and where neither 8 nor 9 is found and they are another number, 19 is given, whatever else is wrong, by check and for the first track
-  pub nineteen-check : (image : List ℕ) → length image ≡ imageBytes → MapInBytes (diskOf image) → refusal8 (diskOf image) ≡ none → refusal9 (diskOf image) ≡ none
+  pub nineteen-check : (image : List ℕ) → length image ≡ imageBytes → MapInBytes (diskOf image) → refusal8 (diskOf image) ≡ none
+      → refusal9 (diskOf image) ≡ none
       → at16 (diskOf image 0) 22 + 3 * badByBytes (diskOf image) ≢ 1440 → check image ≡ refusal 19
-  pub nineteen-track : (image : List ℕ) → length image ≡ imageBytes → MapInBytes (diskOf image) → refusal8 (diskOf image) ≡ none → refusal9 (diskOf image) ≡ none
+  pub nineteen-track : (image : List ℕ) → length image ≡ imageBytes → MapInBytes (diskOf image) → refusal8 (diskOf image) ≡ none
+      → refusal9 (diskOf image) ≡ none
       → at16 (diskOf image 0) 22 + 3 * badByBytes (diskOf image) ≢ 1440 → firstTrackResult (take 9216 image) ≡ refusedTrack (refusal 19)
   -- 8 comes before it, and 9
   pub eight-first : (image : List ℕ) (r : Reply) → length image ≡ imageBytes → refusal8 (diskOf image) ≡ some r
@@ -94,10 +96,12 @@ pub record BadBlocks : Type 0 where
   pub history-good : (old : List ℕ) (args : FormatArguments) (calls : List Call) → length old ≡ imageBytes → length (args .title) ≤ titleMost
       → EachCanBeBad (args .bad) → at16 (diskAtEnd old args calls 0) 22 + 3 * differentBlocks (args .bad) ≡ 1440
   -- ---- what stays
-  -- an add or remove, whatever its reply, leaves record and bytes of each bad block, and every byte of the header that it does not write, the good word among them
+  -- an add or remove, whatever its reply, leaves record and bytes of each bad block, and of the header every byte that it does not write, the good word's too
   pub add-keeps : (image name : List ℕ) (date : ℕ) (content : List ℕ) (b : ℕ) → b < blocks → badAt (diskOf image) b ≡ true
-      → SameRecord (diskOf image) (diskOf (add image name date content .image)) b × ((o : ℕ) → diskOf image b o ≡ diskOf (add image name date content .image) b o)
+      → SameRecord (diskOf image) (diskOf (add image name date content .image)) b
+      × ((o : ℕ) → diskOf image b o ≡ diskOf (add image name date content .image) b o)
   pub remove-keeps : (image name : List ℕ) (b : ℕ) → b < blocks → badAt (diskOf image) b ≡ true
       → SameRecord (diskOf image) (diskOf (remove image name .image)) b × ((o : ℕ) → diskOf image b o ≡ diskOf (remove image name .image) b o)
-  pub add-header : (image name : List ℕ) (date : ℕ) (content : List ℕ) (o : ℕ) → Unwritten o → diskOf image 0 o ≡ diskOf (add image name date content .image) 0 o
+  pub add-header : (image name : List ℕ) (date : ℕ) (content : List ℕ) (o : ℕ) → Unwritten o
+      → diskOf image 0 o ≡ diskOf (add image name date content .image) 0 o
   pub remove-header : (image name : List ℕ) (o : ℕ) → Unwritten o → diskOf image 0 o ≡ diskOf (remove image name .image) 0 o

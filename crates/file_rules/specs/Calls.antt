@@ -16,7 +16,7 @@ use Rattle.sector_rules.specs.Geometry.{blocks, imageBytes}
 use Rattle.file_rules.specs.declared.Record.{Record}
 use Rattle.file_rules.specs.declared.Record.the-variants.{Free, Bad, System, File}
 use Rattle.file_rules.specs.declared.Entry.{Entry}
-use Rattle.file_rules.specs.Arguments.{FormatArguments, listed, badListRight, badBlocks}
+use Rattle.file_rules.specs.Arguments.{FormatArguments, listed, badListRight, countListed}
 use Rattle.file_rules.specs.Sizes.{slotBytes, blockSlots, titleMost, freeSectors}
 use Rattle.file_rules.specs.Disk.{Disk, diskOf, imageOf}
 use Rattle.file_rules.specs.Map.{freeAt, freeCount, fileByte}
@@ -73,18 +73,19 @@ freshOwner args (suc (suc b)) = cond (listed (suc (suc b)) (args .bad)) Bad Free
 
 -- the header of a fresh disk: update count 0, free word 3 x (480 - 2 - B), a directory of one slot (§8.4)
 abbrev pub freshHeader : FormatArguments → ℕ → ℕ
-freshHeader args = diskHeaderByte args 0 (freeSectors (blocks - 2 - badBlocks (args .bad))) 1
+freshHeader args = diskHeaderByte args 0 (freeSectors (blocks - 2 - countListed (args .bad))) 1
 
 -- a fresh disk: this header, these records, and zero in all other bytes (§8.4)
 unfoldable pub formatDisk : FormatArguments → Disk
 formatDisk args = diskWith (freshHeader args) (freshOwner args) (λ (r : Record) (o : ℕ). 0)
 
--- the call format: 1, 12 where the disk's name is too long or the list has a number that cannot be a bad block's, or the image of a fresh disk
--- (§8.4 §7.1 §7.12 §6.15)
+-- the call format: 1, 12 where the disk's name is too long (§6.15) or the list has a number that cannot be a bad block's (§7.12), or the image of a
+-- fresh disk (§8.4 §7.1)
 unfoldable pub format : List ℕ → FormatArguments → ImageChanged
 format image args =
     cond (imageRight image)
-    (cond (leb (length (args .title)) titleMost && badListRight (args .bad)) (record { answer = done; image = imageOf (formatDisk args) }) (imageKept image (refusal 12)))
+    (cond (leb (length (args .title)) titleMost && badListRight (args .bad)) (record { answer = done; image = imageOf (formatDisk args) })
+    (imageKept image (refusal 12)))
     (imageKept image wrongLength)
 
 -- ---- check

@@ -1,5 +1,5 @@
--- check-values: the places that 9 and 10 name (§7.9, §7.10), and when 19 is given (§7.26), by value: what the check says of a formatted disk of which one record
--- of the map, or the good word, is another, and of a disk with two spellings of one name.
+-- check-values: the places that 9 and 10 name (§7.9, §7.10), and when 19 is given (§7.26), by value: what the check says of a formatted disk of which one
+-- record of the map, or the good word, is another, and of a disk with two spellings of one name.
 -- Assumes nothing: these are definitions. The proof is `check-values` in Laws/Values/CheckValues.antt.
 use mathlib.Core.Bool.{true}
 use mathlib.Core.List.{List, [], _∷_}

@@ -121,7 +121,8 @@ pub record FreeTails : Type 0 where
       → at16 (diskOf (remove image name .image) 0) 20 ≡ 3 * freeByFirst (diskOf (remove image name .image))
   -- after every history each free record is FD FF FF (§6.9 §9.5)
   pub history-free : (old : List ℕ) (args : FormatArguments) (calls : List Call) → length old ≡ imageBytes → length (args .title) ≤ titleMost
-      → EachCanBeBad (args .bad) → (b : ℕ) → b < blocks → freeAt (diskOf (imageEnd (formatted old args) calls)) b ≡ true → IsWrittenFree (diskOf (imageEnd (formatted old args) calls)) b
+      → EachCanBeBad (args .bad) → (b : ℕ) → b < blocks → freeAt (diskOf (imageEnd (formatted old args) calls)) b ≡ true
+      → IsWrittenFree (diskOf (imageEnd (formatted old args) calls)) b
 
 -- ---- what is promised: tails that are not read
 

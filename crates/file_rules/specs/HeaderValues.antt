@@ -36,8 +36,8 @@ diskFieldNamed start rest = placeNamed 8 96 (check (start ++ rest))
 
 -- ---- what is promised
 
--- by value: the header that format writes, what 8 names where bytes of it are one more or one less, and the names and lists that 12 refuses
--- (§6.7 §7.8 §7.12 §8.4)
+-- by value: the header that format writes, what 8 names where bytes of it are one more or one less, and the names and lists that 12
+-- refuses (§6.7 §7.8 §7.12 §8.4)
 pub record DiskHeaderValues : Type 0 where
   -- what format writes: the header, and then the records of blocks 0, 1 and 2: the system's, file 0 with sequence 0, free
   pub format-header : (old : List ℕ) → length old ≡ imageBytes

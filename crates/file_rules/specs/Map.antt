@@ -84,12 +84,12 @@ isFree (File f s) = false
 isFree Other = false
 
 -- whether a record is bad (§6.9)
-unfoldable pub isBad : Record → Bool
-isBad Free = false
-isBad Bad = true
-isBad System = false
-isBad (File f s) = false
-isBad Other = false
+unfoldable pub isBadRecord : Record → Bool
+isBadRecord Free = false
+isBadRecord Bad = true
+isBadRecord System = false
+isBadRecord (File f s) = false
+isBadRecord Other = false
 
 -- whether a record is the system's (§6.9)
 unfoldable pub isSystem : Record → Bool
@@ -143,7 +143,7 @@ freeCount d = count blocks (freeAt d)
 
 -- whether block b's record is bad (§6.18)
 unfoldable pub badAt : Disk → ℕ → Bool
-badAt d b = isBad (recordAt d b)
+badAt d b = isBadRecord (recordAt d b)
 
 -- how many records of the map are bad (§6.18)
 unfoldable pub badCount : Disk → ℕ

@@ -1,7 +1,7 @@
 -- The model (docs/RULES.md, section 9). What the caller gives to format and calls is all that it knows; it never sees an image.
 -- It shares with the calls the sizes, what an Outcome is, and the layout: header, entry, record and file bytes (diskHeaderByte, entryFor, entryByte,
--- diskWith, storedByte, part), isFree of a record, whether a block is in the list of bad ones, blocksFor as the number of blocks of a file (§6.17), and equality of
--- names. The decisions are its own.
+-- diskWith, storedByte, part), isFree of a record, whether a block is in the list of bad ones, blocksFor as the number of blocks of a file (§6.17), and
+-- equality of names. The good word stands among the header's bytes. The decisions are its own.
 -- Assumes nothing: these are definitions.
 use mathlib.Core.Bool.{Bool, false, not, cond, _&&_}
 use mathlib.Core.List.{List, [], _∷_, _++_}

@@ -11,8 +11,8 @@ pub use Rattle.file_rules.specs.Laws.Theorem.TailsUnread.{tails-unread}
 -- free-tails: a record is free by its first byte, in every count and for 9; what an add or a remove writes as each record and which it leaves, tails of free
 -- records among them; no history makes another tail than FF FF. FreeTails.antt
 pub use Rattle.file_rules.specs.Laws.Theorem.FreeTails.{free-tails}
--- bad-blocks: a record is bad if it is FE FF FF; the good word and 19, in which order; what a format makes of its list and every history leaves of it; bad blocks
--- and the good word stay through adds and removes. BadBlocks.antt
+-- bad-blocks: a record is bad if it is FE FF FF; the good word and 19, in which order; what a format makes of its list and every history leaves of it; bad
+-- blocks and the good word stay through adds and removes. BadBlocks.antt
 pub use Rattle.file_rules.specs.Laws.Theorem.BadBlocks.{bad-blocks}
 -- history: for every history of calls after a format, each reply, each result buffer and the whole final image are the model's. History.antt
 pub use Rattle.file_rules.specs.Laws.Theorem.History.{history}

@@ -23,8 +23,8 @@ judgedFirst d = unless (orElse (startRefusal d) (refusal11 d)) refusedTrack (cou
 
 -- ---- what is promised
 
--- by value: what first track gives of a track of another length, of a formatted disk, of one with bad blocks, of one with another tail and of those with another
--- good word or free word (§8.14)
+-- by value: what first track gives of a track of another length, of a formatted disk, of one with bad blocks, of one with another tail and of those with
+-- another good word or free word (§8.14)
 pub record FirstTrackValues : Type 0 where
   -- the first 9,216 bytes of an image are enough
   pub whole-image : (image : List ℕ) → length image ≡ imageBytes → firstTrackResult (take 9216 image) ≡ judgedFirst (diskOf image)
@@ -32,7 +32,8 @@ pub record FirstTrackValues : Type 0 where
   pub track-length : (track : List ℕ) → length track ≢ 9216 → firstTrackResult track ≡ record { reply = replyWith 1 2 0 0; free = 0; good = 0; held = 0 }
   -- the free word, the good word, and the records of header and directory
   pub formatted-track : (old title : List ℕ) (number : ℕ) → length old ≡ imageBytes → length title ≤ titleMost
-      → firstTrackResult (take 9216 (format old (argumentsOf title number []) .image)) ≡ record { reply = replyWith 0 0 0 0; free = 1434; good = 1440; held = 2 }
+      → firstTrackResult (take 9216 (format old (argumentsOf title number []) .image))
+      ≡ record { reply = replyWith 0 0 0 0; free = 1434; good = 1440; held = 2 }
   -- with blocks 2 and 479 bad, of which one stands in the list twice (§6.18)
   pub bad-track : (old title : List ℕ) (number : ℕ) → length old ≡ imageBytes → length title ≤ titleMost
       → firstTrackResult (take 9216 (format old (argumentsOf title number (2 ∷ 479 ∷ 2 ∷ [])) .image))

@@ -11,8 +11,9 @@ use Rattle.sector_rules.specs.Geometry.{tracks, sectors, blockSectors, trackOff
 use Rattle.file_rules.specs.declared.Record.{Record}
 use Rattle.file_rules.specs.declared.Record.the-variants.{Free, File}
 use Rattle.file_rules.specs.declared.Entry.{Entry}
-use Rattle.file_rules.specs.Arguments.{FormatArguments, badBlocks}
-use Rattle.file_rules.specs.Sizes.{blockBytes, slotBytes, blockSlots, mapStart, recordBytes, titleMost, blocksOf, freeSectors, goodSectors, wholeBlocks, bytesOver}
+use Rattle.file_rules.specs.Arguments.{FormatArguments, countListed}
+use Rattle.file_rules.specs.Sizes.{blockBytes, slotBytes, blockSlots, mapStart, recordBytes, titleMost, blocksOf, freeSectors, goodSectors}
+use Rattle.file_rules.specs.Sizes.{wholeBlocks, bytesOver}
 use Rattle.file_rules.specs.Disk.{Disk}
 use Rattle.file_rules.specs.Map.{encode, recordAt, bears, freeCount, partBlock}
 use Rattle.file_rules.specs.Directory.{entryByte}
@@ -26,7 +27,7 @@ unfoldable pub fixedByte : FormatArguments → ℕ → ℕ
 fixedByte args =
     let f₀ : ℕ → ℕ = patch (λ (o : ℕ). 0xFF) 0 4 (λ (i : ℕ). getD diskSignature i 0) in
     let f₁ : ℕ → ℕ = patch (patch f₀ 4 titleMost (λ (i : ℕ). getD (args .title) i 32)) 14 2 (highByte 2 (args .number)) in
-    let f₂ : ℕ → ℕ = patch (patch f₁ 22 2 (highByte 2 (goodSectors (badBlocks (args .bad))))) 24 2 (highByte 2 allSectors) in
+    let f₂ : ℕ → ℕ = patch (patch f₁ 22 2 (highByte 2 (goodSectors (countListed (args .bad))))) 24 2 (highByte 2 allSectors) in
     let f₃ : ℕ → ℕ = patch (patch f₂ 26 2 (highByte 2 sectors)) 28 2 (highByte 2 trackSectors) in
     let f₄ : ℕ → ℕ = patch (patch f₃ 30 2 (highByte 2 tracks)) 32 2 (highByte 2 blockSectors) in
     let f₅ : ℕ → ℕ = patch f₄ 38 2 (highByte 2 trackOffset) in

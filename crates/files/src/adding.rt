@@ -159,7 +159,7 @@ fn add_sound(
     done()
 }
 
-// The call add (§8.9), or 1 (§7.1) or 8 to 11 (§8.5); by it a slot of the model is filled (§9.4). A refusal leaves the
+// The call add (§8.9), or 1 (§7.1) or the refusal of the disk (§8.5); by it a slot of the model is filled (§9.4). A refusal leaves the
 // image as it was (§7.19). In a history the next call is on this image (§9.1).
 pub fn add(image: &mut [u8], name: &[u8], date: u32, content: &[u8]) -> Reply
     ensures { λ r. ⌜ (r ≡ Calls.add (now (image .entry)) (now (name .entry)) date (now (content .entry)) .answer) × (now (image .exit) ≡ Calls.add (now (image .entry)) (now (name .entry)) date (now (content .entry)) .image) ⌝ }

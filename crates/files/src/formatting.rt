@@ -9,7 +9,7 @@ ghost use Rattle.laws.specs.Lists.{tab};
 ghost use Rattle.sector_rules.specs.Geometry.{blocks, imageBytes};
 ghost use Rattle.file_rules.specs.Sizes.{mapStart, titleMost};
 ghost use Rattle.file_rules.specs.Disk.{diskOf, imageOf};
-ghost use Rattle.file_rules.specs.Arguments.{argumentsOf, badListRight, badBlocks};
+ghost use Rattle.file_rules.specs.Arguments.{argumentsOf, badListRight, countListed};
 ghost use Rattle.file_rules.specs.Calls as Calls;
 ghost use Rattle.file_rules.specs.Calls.{freshHeader, formatDisk};
 ghost use Rattle.files.specs.Laws.Calling.BadNoted.{BadNoted, isNoted, freshRecord};
@@ -124,7 +124,7 @@ fn put_start(head: &mut [u8], n: usize)
 // The header of a fresh disk with n bad blocks (§8.4).
 fn header_bytes(name: &[u8], number: u16, n: usize) -> [u8; MAP_START]
     requires { ⌜ (length (now name) ≤ titleMost) × (n + 2 ≤ blocks) ⌝ }
-    ensures { λ r. ⌜ ((bad : List ℕ) → n ≡ badBlocks bad → r ≡ tab (freshHeader (argumentsOf (now (name .entry)) number bad)) mapStart) ⌝ }
+    ensures { λ r. ⌜ ((bad : List ℕ) → n ≡ countListed bad → r ≡ tab (freshHeader (argumentsOf (now (name .entry)) number bad)) mapStart) ⌝ }
 {
     let mut head = [0xFFu8; MAP_START];
     put_title(&mut head, name, number);

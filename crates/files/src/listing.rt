@@ -93,7 +93,7 @@ fn list_sound(image: &[u8], map: &MapNumbers, out: &mut [u8]) -> Reply
     done_with(needed)
 }
 
-// The call list (§8.6), or 1 (§7.1) or 8 to 11 (§8.5): the held entries, 64 bytes each, as the model answers it (§9.3).
+// The call list (§8.6), or 1 (§7.1) or the refusal of the disk (§8.5): the held entries, 64 bytes each, as the model answers it (§9.3).
 // A refusal leaves the buffer as it was (§7.19).
 pub fn list(image: &[u8], out: &mut [u8]) -> Reply
     ensures { λ r. ⌜ (r ≡ Calls.list (now (image .entry)) (now (out .entry)) .answer) × (now (out .exit) ≡ Calls.list (now (image .entry)) (now (out .entry)) .buffer) ⌝ }

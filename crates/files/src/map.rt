@@ -5,7 +5,7 @@ ghost use lib.ListN.{length};
 ghost use Rattle.laws.specs.Below.{lowest, count};
 ghost use Rattle.sector_rules.specs.Geometry.{blocks};
 ghost use Rattle.file_rules.specs.Disk.{diskOf};
-ghost use Rattle.file_rules.specs.Map.{numberAt, isFree, isBad, isPart};
+ghost use Rattle.file_rules.specs.Map.{numberAt, isFree, isBadRecord, isPart};
 ghost use Rattle.file_rules.specs.Check.{recordFault};
 ghost use Rattle.files.specs.Laws.Loading.Loaded.{loadedRecord, recordWithBlock, isCounted, MapLoaded};
 use crate::blocks::block_byte;
@@ -107,7 +107,7 @@ pub fn count_free(map: &MapNumbers) -> usize
 
 // How many records are bad (§6.18): `badCount`.
 pub fn count_bad(map: &MapNumbers) -> usize
-    ensures { λ r. ⌜ (r ≡ count blocks (λ (b : ℕ). isBad (loadedRecord (now (map .entry)) b))) × (r ≤ blocks) ⌝ }
+    ensures { λ r. ⌜ (r ≡ count blocks (λ (b : ℕ). isBadRecord (loadedRecord (now (map .entry)) b))) × (r ≤ blocks) ⌝ }
 {
     count_records(map, true)
 }

@@ -140,7 +140,7 @@ fn read_sound(image: &[u8], map: &MapNumbers, name: &[u8], out: &mut [u8]) -> Re
     read_slot(image, map, &dir, k, out)
 }
 
-// The call read (§8.7), or 1 (§7.1) or 8 to 11 (§8.5): a file's data. A file present is read as it was added (§9.6), as
+// The call read (§8.7), or 1 (§7.1) or the refusal of the disk (§8.5): a file's data. A file present is read as it was added (§9.6), as
 // the model answers it (§9.3). A refusal leaves the buffer as it was (§7.19).
 pub fn read(image: &[u8], name: &[u8], out: &mut [u8]) -> Reply
     ensures { λ r. ⌜ (r ≡ Calls.read (now (image .entry)) (now (name .entry)) (now (out .entry)) .answer) × (now (out .exit) ≡ Calls.read (now (image .entry)) (now (name .entry)) (now (out .entry)) .buffer) ⌝ }

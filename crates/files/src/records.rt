@@ -5,7 +5,7 @@ ghost use Prim.Native.Nat.{_+_, _≤_, _<_};
 ghost use Rattle.laws.specs.Lists.{tab};
 ghost use Rattle.sector_rules.specs.Geometry.{blocks};
 ghost use Rattle.file_rules.specs.Sizes.{recordBytes};
-ghost use Rattle.file_rules.specs.Map.{decode, numberOf, encode, isFree, isBad, bears, isPart};
+ghost use Rattle.file_rules.specs.Map.{decode, numberOf, encode, isFree, isBadRecord, bears, isPart};
 ghost use Rattle.file_rules.specs.Check.{recordFault};
 ghost use Rattle.files.specs.Laws.Loading.Parts.{partOf};
 ghost use Rattle.files.specs.Laws.Loading.Chains.{IsBearer};
@@ -106,7 +106,7 @@ pub fn is_free(r: Record) -> bool
 
 // Whether a record is bad (§6.9).
 pub fn is_bad(r: Record) -> bool
-    ensures { λ a. ⌜ a ≡ isBad r ⌝ }
+    ensures { λ a. ⌜ a ≡ isBadRecord r ⌝ }
 {
     match r {
         Record::Free => false,

@@ -53,7 +53,7 @@ fn remove_sound(image: &mut [u8], map: &mut MapNumbers, name: &[u8]) -> Reply
     done()
 }
 
-// The call remove (§8.13), or 1 (§7.1) or 8 to 11 (§8.5); by it the model's slot is emptied (§9.4). A refusal leaves the
+// The call remove (§8.13), or 1 (§7.1) or the refusal of the disk (§8.5); by it the model's slot is emptied (§9.4). A refusal leaves the
 // image as it was (§7.19).
 pub fn remove(image: &mut [u8], name: &[u8]) -> Reply
     ensures { λ r. ⌜ (r ≡ Calls.remove (now (image .entry)) (now (name .entry)) .answer) × (now (image .exit) ≡ Calls.remove (now (image .entry)) (now (name .entry)) .image) ⌝ }

@@ -1,5 +1,5 @@
 -- Stage 1: the definitions by themselves. The disk in block order and its image, its header, its records in their bytes, disks given by header, records and
--- contents, names, lists of bad blocks, result buffers, what a sound disk has, what its first track says, calls that judge a disk first, and what a reply tells.
+-- contents, names, lists of bad blocks, result buffers, what a sound disk has, what its first track says, calls that judge a disk, and what a reply tells.
 pub mod Disk
 pub mod Header
 pub mod Records

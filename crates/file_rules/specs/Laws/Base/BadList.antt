@@ -12,19 +12,10 @@ use Rattle.laws.specs.Laws.Tests.{lt-true, lt-false, le-true, le-false, eq-true
 use Rattle.laws.specs.Laws.Tests.{and-true, and-false-left, and-false-right, and-left, and-right, or-left, or-right, or-other}
 use Rattle.laws.specs.Laws.Count.{count-cong, count-none, count-one, count-or, count-le}
 use Rattle.sector_rules.specs.Geometry.{blocks}
-use Rattle.file_rules.specs.Arguments.{listed, badListRight, badBlocks, EachCanBeBad}
+use Rattle.file_rules.specs.Arguments.{listed, badListRight, countListed, EachCanBeBad}
 use Rattle.file_rules.specs.Model.{differentBlocks}
 
 -- ---- which lists are accepted
-
--- a list of blocks 2 to 479 is accepted
-pub each-right : (bad : List ℕ) → EachCanBeBad bad → badListRight bad ≡ true
-unfolding listed badListRight
-each-right [] h = refl
-each-right (x ∷ xs) h =
-    let here : (2 ≤ x) × (x ≤ 479) = h x (or-left (eqb x x) (listed x xs) (eq-true {a = x} {b = x} refl)) in
-    and-true (and-true (le-true (here .0)) (lt-true {a = x} {b = blocks} (omega (arith, here .1))))
-    (each-right xs (λ b t. h b (or-right (eqb x b) (listed b xs) t)))
 
 -- an accepted list has blocks 2 to 479
 pub right-each : (bad : List ℕ) → badListRight bad ≡ true → EachCanBeBad bad
@@ -37,6 +28,15 @@ right-each (x ∷ xs) t b e =
     by-test (eqb x b)
     (λ q. let is : x ≡ b = true-eq q in (omega arith, omega arith))
     (λ q. right-each xs (and-right (leb 2 x && ltb x blocks) (badListRight xs) t) b (or-other (eqb x b) (listed b xs) e q))
+
+-- a list of blocks 2 to 479 is accepted
+pub each-right : (bad : List ℕ) → EachCanBeBad bad → badListRight bad ≡ true
+unfolding listed badListRight
+each-right [] h = refl
+each-right (x ∷ xs) h =
+    let here : (2 ≤ x) × (x ≤ 479) = h x (or-left (eqb x x) (listed x xs) (eq-true {a = x} {b = x} refl)) in
+    and-true (and-true (le-true (here .0)) (lt-true {a = x} {b = blocks} (omega (arith, here .1))))
+    (each-right xs (λ b t. h b (or-right (eqb x b) (listed b xs) t)))
 
 -- the empty list has none
 pub none-bad : EachCanBeBad []
@@ -55,8 +55,8 @@ low-unlisted bad h b l = by-test (listed b bad) (λ t. absurd (omega (arith, h b
 -- ---- how many blocks a list has
 
 -- no more than there are
-pub bad-most : (bad : List ℕ) → badBlocks bad ≤ blocks
-unfolding badBlocks
+pub bad-most : (bad : List ℕ) → countListed bad ≤ blocks
+unfolding countListed
 bad-most bad = count-le blocks (λ (b : ℕ). listed b bad)
 
 listed-again : (x : ℕ) (xs : List ℕ) → listed x xs ≡ true → (b : ℕ) → listed b xs ≡ listed b (x ∷ xs)
@@ -67,8 +67,8 @@ listed-again x xs t b =
     (λ q. sym (ap (λ (a : Bool). a || listed b xs) q))
 
 -- counted one by one, where a block that stands there again is passed over, they are the blocks of the disk that the list has
-pub different-is : (bad : List ℕ) → EachCanBeBad bad → differentBlocks bad ≡ badBlocks bad
-unfolding differentBlocks badBlocks listed
+pub different-is : (bad : List ℕ) → EachCanBeBad bad → differentBlocks bad ≡ countListed bad
+unfolding differentBlocks countListed listed
 different-is [] h = sym (count-none blocks (λ (b : ℕ). listed b []) (λ b l. refl))
 different-is (x ∷ xs) h =
     let rest : EachCanBeBad xs = λ b t. h b (or-right (eqb x b) (listed b xs) t) in

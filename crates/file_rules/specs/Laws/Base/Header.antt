@@ -19,7 +19,7 @@ use Rattle.sector_rules.specs.declared.Fault.the-variants.{Sound}
 use Rattle.sector_rules.specs.Faults.{refusalAt}
 use Rattle.sector_rules.specs.Geometry.{trackOffset, trackSectors, sidePlace, backward}
 use Rattle.sector_rules.specs.Laws.Base.Geometry.{side-place-length, backward-length}
-use Rattle.file_rules.specs.Arguments.{FormatArguments, badBlocks}
+use Rattle.file_rules.specs.Arguments.{FormatArguments, countListed}
 use Rattle.file_rules.specs.Check.{diskSignature, lengthRight, dimensionsFault, diskHeaderFault, refusal8}
 use Rattle.file_rules.specs.Directory.{dirBytes}
 use Rattle.file_rules.specs.Disk.{Disk}
@@ -86,9 +86,9 @@ module _ (args : FormatArguments) (updates word end : ℕ) where
   at-20 h = high2-at word h
 
   -- its good word
-  pub at-22 : at16 written 22 ≡ goodSectors (badBlocks (args .bad))
+  pub at-22 : at16 written 22 ≡ goodSectors (countListed (args .bad))
   unfolding at16 bigEndian diskHeaderByte fixedByte patch
-  at-22 = high2-at (goodSectors (badBlocks (args .bad))) (omega arith)
+  at-22 = high2-at (goodSectors (countListed (args .bad))) (omega arith)
 
   -- its word of whole directory blocks; a directory of 1,572,863 slots is the longest that the word holds
   pub at-34 : end < 1572864 → at16 written 34 ≡ wholeBlocks end

@@ -25,7 +25,8 @@ use Rattle.file_rules.specs.Check.{refusal8, refusal9, refusal19, startR
 use Rattle.file_rules.specs.Disk.{Disk, diskOf}
 use Rattle.file_rules.specs.FirstTrack.{refusedTrack, counted, firstTrackResult}
 use Rattle.file_rules.specs.Laws.Base.OnSound.{sound-length, sound-refused, sound-passed}
-use Rattle.file_rules.specs.Laws.Base.Sound.{or-none-left, or-none-right, start-nineteen, sound-eleven, NotDone, not-done-or, not-done-eleven, not-done-start, refused-number}
+use Rattle.file_rules.specs.Laws.Base.Sound.{or-none-left, or-none-right, start-nineteen, sound-eleven, NotDone, not-done-or, not-done-eleven}
+use Rattle.file_rules.specs.Laws.Base.Sound.{not-done-start, refused-number}
 use Rattle.file_rules.specs.Laws.Base.Track.{track-is}
 use Rattle.file_rules.specs.Map.{recordAt}
 use Rattle.file_rules.specs.Sizes.{slotCount}
@@ -175,7 +176,8 @@ module _ (image : List ℕ) where
   wrong-start a b wrong = let given : refusal19 d ≡ some (refusal 19) = cond-false none (some (refusal 19)) wrong in rw (a, b, given)
 
   -- what a judgement begins with is what check and the first track give
-  pub start-refused : length image ≡ imageBytes → (r : Reply) → startRefusal d ≡ some r → (check image ≡ r) × (firstTrackResult (take 9216 image) ≡ refusedTrack r)
+  pub start-refused : length image ≡ imageBytes → (r : Reply) → startRefusal d ≡ some r
+      → (check image ≡ r) × (firstTrackResult (take 9216 image) ≡ refusedTrack r)
   unfolding check diskRefusal judgedFirst orElse unless
   start-refused long r e = (sound-refused image _ _ long r (rw e), track-is image long ∙ rw e)
 

@@ -1,4 +1,4 @@
--- A call that judges a disk first (§8.5), by its three cases: another length, a refusal by 8 to 11, and a sound disk.
+-- A call that judges a disk first (§8.5), by its three cases: another length, a refusal of the disk, and a sound disk.
 -- Rests on the definition of `onSound` alone.
 use mathlib.Core.Path.{_≡_, refl, sym, _∙_, subst}
 use mathlib.Core.Logic.{_≢_}
@@ -21,7 +21,7 @@ module _ {A : Type 0} (image : List ℕ) (refuse : Reply → A) (act : Disk → 
   sound-length h = cond-false _ _ (eq-false h)
 
   module _ (long : length image ≡ imageBytes) where
-    -- what 8 to 11 refuse is refused with their reply
+    -- a disk that is refused is refused with that reply
     pub sound-refused : (r : Reply) → diskRefusal (diskOf image) ≡ some r → onSound image refuse act ≡ refuse r
     unfolding onSound imageRight unless
     sound-refused r e = cond-true _ _ (eq-true long) ∙ rw e

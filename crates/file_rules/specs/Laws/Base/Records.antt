@@ -2,7 +2,7 @@
 -- Rests on the laws of numbers in bytes and of changed rows (laws, Numbers and Changes).
 use mathlib.Core.Path.{_≡_, refl, sym, ap, ap₂, _∙_}
 use mathlib.Core.Logic.{_≢_}
-use mathlib.Core.Bool.{true, false, cond, _&&_, false≢true}
+use mathlib.Core.Bool.{true, false, _&&_, false≢true}
 use Prim.Native.Nat.{ℕ, _+_, _-_, _*_, _/_, _%_, _<_}
 use native.Mathlib.Omega.{arith}
 use lib.Dec.{ltb, eqb}
@@ -17,7 +17,7 @@ use Rattle.file_rules.specs.declared.Record.{Record}
 use Rattle.file_rules.specs.declared.Record.the-variants.{Free, Bad, System, File, Other}
 use Rattle.file_rules.specs.Disk.{Disk}
 use Rattle.file_rules.specs.Map.{fileBound, freeByte, tailCount, badNumber, systemNumber, sequences, decode, numberOf, encode}
-use Rattle.file_rules.specs.Map.{recordByte, numberAt, recordAt, isFree, isBad, freeAt, badAt}
+use Rattle.file_rules.specs.Map.{recordByte, numberAt, recordAt, isFree, isBadRecord, freeAt, badAt}
 use Rattle.file_rules.specs.Sizes.{mapStart, recordBytes}
 use Rattle.file_rules.specs.Written.{setRecord}
 
@@ -69,8 +69,8 @@ free-only (File f s) t = absurd (false≢true t)
 free-only Other t = absurd (false≢true t)
 
 -- a record that is bad is the bad one
-pub bad-only : (r : Record) → isBad r ≡ true → r ≡ Bad
-unfolding isBad
+pub bad-only : (r : Record) → isBadRecord r ≡ true → r ≡ Bad
+unfolding isBadRecord
 bad-only Free t = absurd (false≢true t)
 bad-only Bad t = refl
 bad-only System t = absurd (false≢true t)
@@ -92,14 +92,14 @@ free-by-byte d b h =
     (λ t. ap isFree (cond-true _ _ t) ∙ sym (eq-true (sym top ∙ true-eq t)))
     (λ t.
     ap isFree (cond-false _ _ t)
-    ∙ by-cond (λ (r : Record). isFree r ≡ false) (eqb n systemNumber) System (cond (eqb n badNumber) Bad Other) (λ u. refl)
+    ∙ by-cond (λ (r : Record). isFree r ≡ false) (eqb n systemNumber) System _ (λ u. refl)
     (λ u. by-cond (λ (r : Record). isFree r ≡ false) (eqb n badNumber) Bad Other (λ w. refl) (λ w. refl))
     ∙ sym (eq-false (λ e. false-eq t (top ∙ e)))))
 
 -- it is bad by all three
 pub bad-by-bytes : (d : Disk) (b : ℕ) → ((i : ℕ) → i < recordBytes → recordByte d b i < 256)
     → badAt d b ≡ (eqb (recordByte d b 0) 0xFE && (eqb (recordByte d b 1) 0xFF && eqb (recordByte d b 2) 0xFF))
-unfolding badAt recordAt numberAt bigEndian decode isBad
+unfolding badAt recordAt numberAt bigEndian decode isBadRecord
 bad-by-bytes d b h =
     let x : ℕ = recordByte d b 0 in
     let y : ℕ = recordByte d b 1 in
@@ -110,21 +110,22 @@ bad-by-bytes d b h =
     let p : x ≡ 0xFE = omega (arith, h 0 (omega arith), h 1 (omega arith), h 2 (omega arith)) in
     let q : y ≡ 0xFF = omega (arith, h 0 (omega arith), h 1 (omega arith), h 2 (omega arith)) in
     let r : z ≡ 0xFF = omega (arith, h 0 (omega arith), h 1 (omega arith), h 2 (omega arith)) in
-    ap (λ (m : ℕ). isBad (decode m)) e ∙ sym (and-true (eq-true p) (and-true (eq-true q) (eq-true r))))
+    ap (λ (m : ℕ). isBadRecord (decode m)) e ∙ sym (and-true (eq-true p) (and-true (eq-true q) (eq-true r))))
     (λ e.
     not-bad n e
     ∙ sym (by-test (eqb x 0xFE)
     (λ p. by-test (eqb y 0xFF)
-    (λ q. and-false-right (eqb x 0xFE) (and-false-right (eqb y 0xFF) (eq-false {a = z} {b = 0xFF} (λ r. e (omega (arith, r, true-eq {a = x} {b = 0xFE} p, true-eq {a = y} {b = 0xFF} q))))))
+    (λ q. and-false-right (eqb x 0xFE) (and-false-right (eqb y 0xFF) (eq-false {a = z} {b = 0xFF}
+    (λ r. e (omega (arith, r, true-eq {a = x} {b = 0xFE} p, true-eq {a = y} {b = 0xFF} q))))))
     (λ q. and-false-right (eqb x 0xFE) (and-false-left (eqb z 0xFF) q)))
     (λ p. and-false-left (eqb y 0xFF && eqb z 0xFF) p)))
   where
-    not-bad : (n : ℕ) → n ≢ badNumber → isBad (decode n) ≡ false
+    not-bad : (n : ℕ) → n ≢ badNumber → isBadRecord (decode n) ≡ false
     not-bad n e =
-        by-cond (λ (r : Record). isBad r ≡ false) (ltb n fileBound) (File (n / sequences) (n % sequences)) _ (λ t. refl)
-        (λ t. by-cond (λ (r : Record). isBad r ≡ false) (eqb (n / tailCount) freeByte) Free _ (λ u. refl)
-        (λ u. by-cond (λ (r : Record). isBad r ≡ false) (eqb n systemNumber) System _ (λ v. refl)
-        (λ v. by-cond (λ (r : Record). isBad r ≡ false) (eqb n badNumber) Bad Other (λ w. absurd (e (true-eq w))) (λ w. refl))))
+        by-cond (λ (r : Record). isBadRecord r ≡ false) (ltb n fileBound) (File (n / sequences) (n % sequences)) _ (λ t. refl)
+        (λ t. by-cond (λ (r : Record). isBadRecord r ≡ false) (eqb (n / tailCount) freeByte) Free _ (λ u. refl)
+        (λ u. by-cond (λ (r : Record). isBadRecord r ≡ false) (eqb n systemNumber) System _ (λ v. refl)
+        (λ v. by-cond (λ (r : Record). isBadRecord r ≡ false) (eqb n badNumber) Bad Other (λ w. absurd (e (true-eq w))) (λ w. refl))))
 
 -- a record in bytes that begins with FD is the free one
 pub begins-free : (d : Disk) (b : ℕ) → ((i : ℕ) → i < recordBytes → recordByte d b i < 256) → recordByte d b 0 ≡ freeByte → recordAt d b ≡ Free

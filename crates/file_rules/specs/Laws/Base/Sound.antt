@@ -1,5 +1,5 @@
 -- What a sound disk has: no refusal, block 0 as the system's and so no file in it. A disk that is not sound gets a refusal's number.
--- Rests on the definitions of 8 to 11 and on the lowest number that passes a test (laws, Lowest).
+-- Rests on the definitions of 8, 9, 19, 10 and 11 and on the lowest number that passes a test (laws, Lowest).
 use mathlib.Core.Path.{_≡_, refl, sym, ap, _∙_}
 use mathlib.Core.Logic.{_≢_}
 use mathlib.Core.Bool.{Bool, true, false}
@@ -22,7 +22,8 @@ use Rattle.file_rules.specs.declared.Record.{Record}
 use Rattle.file_rules.specs.declared.Record.the-variants.{Free, Bad, System, File, Other}
 use Rattle.file_rules.specs.Map.{recordAt, isSystem, isPart, partBlock}
 use Rattle.file_rules.specs.Sizes.{slotCount}
-use Rattle.file_rules.specs.Check.{diskHeaderFault, recordFault, mapFault, fileFault, goodRight, freeRight, refusal8, refusal9, refusal19, refusal10, refusal11}
+use Rattle.file_rules.specs.Check.{diskHeaderFault, recordFault, mapFault, fileFault, goodRight, freeRight, refusal8, refusal9, refusal19}
+use Rattle.file_rules.specs.Check.{refusal10, refusal11}
 use Rattle.file_rules.specs.Check.{startRefusal, diskRefusal}
 
 -- ---- a disk without a refusal

@@ -11,7 +11,8 @@ use lib.Seq.{getD-take}
 use Rattle.laws.specs.Laws.Cases.{by-order}
 use Rattle.laws.specs.Laws.Tests.{eq-true, cond-true}
 use Rattle.sector_rules.specs.Geometry.{blocks, imageBytes}
-use Rattle.file_rules.specs.Check.{lengthRight, dimensionsFault, diskHeaderFault, mapFault, goodRight, freeRight, refusal8, refusal9, refusal19, startRefusal, refusal11}
+use Rattle.file_rules.specs.Check.{lengthRight, dimensionsFault, diskHeaderFault, mapFault, goodRight, freeRight, refusal8, refusal9, refusal19}
+use Rattle.file_rules.specs.Check.{startRefusal, refusal11}
 use Rattle.file_rules.specs.Directory.{dirBytes}
 use Rattle.file_rules.specs.Disk.{Disk, imagePlace, diskOf}
 use Rattle.file_rules.specs.FirstTrack.{counted, firstTrackResult}
@@ -22,8 +23,8 @@ use Rattle.file_rules.specs.TrackValues.{judgedFirst}
 
 -- only block 0 is judged
 block-alone : (d : Disk) → judgedFirst d ≡ judgedFirst (λ (b : ℕ). d 0)
-unfolding judgedFirst startRefusal refusal8 refusal9 refusal19 refusal11 diskHeaderFault dimensionsFault lengthRight dirBytes mapFault recordAt numberAt freeRight freeCount freeAt
-    goodRight badCount badAt counted
+unfolding judgedFirst startRefusal refusal8 refusal9 refusal19 refusal11 diskHeaderFault dimensionsFault lengthRight dirBytes mapFault recordAt
+    numberAt freeRight freeCount freeAt goodRight badCount badAt counted
 block-alone d = refl
 
 zero-alike : (image : List ℕ) → diskOf (take 9216 image) 0 ≡ diskOf image 0

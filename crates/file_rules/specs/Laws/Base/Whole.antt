@@ -17,7 +17,8 @@ use Rattle.sector_rules.specs.Geometry.{blocks}
 use Rattle.file_rules.specs.declared.Record.{Record}
 use Rattle.file_rules.specs.declared.Record.the-variants.{Free, System}
 use Rattle.file_rules.specs.Disk.{Disk}
-use Rattle.file_rules.specs.Map.{encode, recordByte, numberAt, recordAt, isFree, isBad, bears, isPart, freeAt, freeCount, badAt, badCount, partBlock}
+use Rattle.file_rules.specs.Map.{encode, recordByte, numberAt, recordAt, isFree, isBadRecord, bears, isPart, freeAt, freeCount, badAt, badCount}
+use Rattle.file_rules.specs.Map.{partBlock}
 use Rattle.file_rules.specs.Laws.Base.Records.{Valid, decode-bytes, record-set, record-beside}
 use Rattle.file_rules.specs.Sizes.{blockBytes, mapStart, recordBytes}
 use Rattle.file_rules.specs.Written.{diskWith, part, zeros, setBlock, setRecord, freeBlock, freeBlocks}
@@ -95,9 +96,9 @@ module _ (d : Disk) (h : ℕ → ℕ) (owner : ℕ → Record) (content : Record
     freeCount-is = count-cong blocks (freeAt d) (λ (b : ℕ). isFree (owner b)) free-is
 
     -- as many blocks are bad on the disk as have the bad record
-    pub badCount-is : badCount d ≡ count blocks (λ (b : ℕ). isBad (owner b))
+    pub badCount-is : badCount d ≡ count blocks (λ (b : ℕ). isBadRecord (owner b))
     unfolding badCount badAt
-    badCount-is = count-cong blocks (badAt d) (λ (b : ℕ). isBad (owner b)) (λ b k. ap isBad (record-is b k (v b k)))
+    badCount-is = count-cong blocks (badAt d) (λ (b : ℕ). isBadRecord (owner b)) (λ b k. ap isBadRecord (record-is b k (v b k)))
 
     -- the block of a file's part is the lowest whose record says so
     pub partBlock-is : (f s : ℕ) → partBlock d f s ≡ lowest (λ (b : ℕ). isPart f s (owner b)) blocks

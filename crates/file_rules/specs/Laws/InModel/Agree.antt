@@ -29,7 +29,8 @@ use Rattle.file_rules.specs.Laws.OnImages.Slot.{k-pos, k-none, by-growth
 use Rattle.file_rules.specs.Laws.OnImages.Added.{dir-parts, first-length, owned₁, bad₁, parts₁-k, parts-after}
 use Rattle.file_rules.specs.Laws.InnerModel.Fields.{parts-none}
 use Rattle.file_rules.specs.Laws.InnerModel.Reads.{found-slot}
-use Rattle.file_rules.specs.Laws.InnerModel.Inner.{Inner, presentCount, fileBlocks, innerBad, header, render, emptySlots, innerFormat, innerFind, emptySlot}
+use Rattle.file_rules.specs.Laws.InnerModel.Inner.{Inner, presentCount, fileBlocks, innerBad, header, render, emptySlots, innerFormat}
+use Rattle.file_rules.specs.Laws.InnerModel.Inner.{innerFind, emptySlot}
 use Rattle.file_rules.specs.Laws.InnerModel.Inner.{give, freeOf, innerList, innerRead, InnerChanged, innerRefused, innerRemoveAt, innerRemove, growOwner}
 use Rattle.file_rules.specs.Laws.InnerModel.Inner.{peakAfter, innerAddAt, roomFor, innerAdd, innerStep, innerOut, innerOuts, innerEnd}
 use Rattle.file_rules.specs.Laws.InnerModel.Invariant.{partsOf, Inv}

@@ -25,7 +25,7 @@ use Rattle.file_rules.specs.Laws.InnerModel.Invariant.{Owned}
 use Rattle.file_rules.specs.Laws.InnerModel.Owners.{keeps, still-free}
 use Rattle.file_rules.specs.Laws.Base.Records.{Valid, bad-only}
 use Rattle.file_rules.specs.Laws.Base.Whole.{unowned}
-use Rattle.file_rules.specs.Map.{isFree, isBad}
+use Rattle.file_rules.specs.Map.{isFree, isBadRecord}
 use Rattle.file_rules.specs.Model.{FilledSlot, Model, fileOf, takenBy, position, orRecord, slotRecord, modelRecord}
 
 -- ---- positions
@@ -80,7 +80,7 @@ pub record BlocksListed (slots : ℕ → Option FilledSlot) (dir : List ℕ) (ow
   pub each : (k s : ℕ) → s < parts k → (getD (listedBlocks slots dir k) s 0 < blocks) × (owner (getD (listedBlocks slots dir k) s 0) ≡ File k s)
 
 module _ (slots : ℕ → Option FilledSlot) (dir : List ℕ) (owner : ℕ → Record) (parts : ℕ → ℕ) (v : Owned owner parts) (r : BlocksListed slots dir owner parts)
-    (first : slots 0 ≡ none) (bad : List ℕ) (marked : (b : ℕ) → b < blocks → isBad (owner b) ≡ listed b bad)
+    (first : slots 0 ≡ none) (bad : List ℕ) (marked : (b : ℕ) → b < blocks → isBadRecord (owner b) ≡ listed b bad)
     (peak : ℕ) (past : (k : ℕ) → peak < k → parts k ≡ 0) where
   -- what a search finds is the owner
   hit : (b k s : ℕ) → position b 0 (listedBlocks slots dir k) ≡ some s → owner b ≡ File k s
@@ -123,7 +123,7 @@ module _ (slots : ℕ → Option FilledSlot) (dir : List ℕ) (owner : ℕ → R
 
   -- the record that the model finds for a block in its lists is the block's owner
   pub owner-is : (b : ℕ) → b < blocks → modelRecord bad slots dir peak b ≡ owner b
-  unfolding modelRecord orRecord listedBlocks isBad
+  unfolding modelRecord orRecord listedBlocks isBadRecord
   owner-is b l =
       by-equal b 0
       (λ z. cond-true _ _ (eq-true z) ∙ sym (ap owner z ∙ v .own-zero))
@@ -134,7 +134,7 @@ module _ (slots : ℕ → Option FilledSlot) (dir : List ℕ) (owner : ℕ → R
       ∙ by-position (position b 0 dir)
       (λ e. ap (λ (o : Option ℕ). orRecord 0 o (slotRecord slots (suc peak) b)) e
       ∙ slot-is (suc peak) b l (λ k s h q. omega (arith, v .own-below b k s l q, past k (omega arith)))
-      (λ s q. miss b 0 s l e q) (λ q. true≢false (isBad (owner b)) (ap isBad q) (marked b l ∙ t)) (λ q. z (v .own-system b l q)))
+      (λ s q. miss b 0 s l e q) (λ q. true≢false (isBadRecord (owner b)) (ap isBadRecord q) (marked b l ∙ t)) (λ q. z (v .own-system b l q)))
       (λ s e. ap (λ (o : Option ℕ). orRecord 0 o (slotRecord slots (suc peak) b)) e ∙ sym (hit b 0 s e))))
 
 -- ---- blocks are given

@@ -22,7 +22,8 @@ use Rattle.file_rules.specs.Disk.{Disk}
 use Rattle.file_rules.specs.Histories.{Call, toAdd, toRemove, toList, toRead}
 use Rattle.file_rules.specs.Laws.Base.Whole.{unowned}
 use Rattle.file_rules.specs.Map.{isFree}
-use Rattle.file_rules.specs.Model.{NamedFile, HeldFile, heldBlocks, dirBlocks, differentBlocks, usable, freeWord, content, hasName, heldEntries, heldData, wrap}
+use Rattle.file_rules.specs.Model.{NamedFile, HeldFile, heldBlocks, dirBlocks, differentBlocks, usable, freeWord, content, hasName, heldEntries}
+use Rattle.file_rules.specs.Model.{heldData, wrap}
 use Rattle.file_rules.specs.Written.{diskHeaderByte, diskWith, blocksFor}
 
 -- the inner model's state

@@ -13,7 +13,7 @@ use Rattle.file_rules.specs.Arguments.{listed}
 use Rattle.file_rules.specs.Directory.{nameEq}
 use Rattle.file_rules.specs.Laws.InnerModel.Inner.{Inner, fileBlocks, innerBad, freeOf}
 use Rattle.file_rules.specs.Laws.Base.Records.{Valid}
-use Rattle.file_rules.specs.Map.{isBad}
+use Rattle.file_rules.specs.Map.{isBadRecord}
 use Rattle.file_rules.specs.Model.{NamedFile, heldBlocks, dirBlocks, usable}
 use Rattle.file_rules.specs.Sizes.{nameMost}
 
@@ -35,7 +35,7 @@ pub record Owned (owner : ℕ → Record) (parts : ℕ → ℕ) : Type 0 where
 pub record Inv (m : Inner) : Type 0 where
   pub own : Owned (m .owner) (partsOf m)
   -- bad are the blocks of the format's list
-  pub bad-is : (b : ℕ) → b < blocks → isBad (m .owner b) ≡ listed b (m .arguments .bad)
+  pub bad-is : (b : ℕ) → b < blocks → isBadRecord (m .owner b) ≡ listed b (m .arguments .bad)
   -- the slots: none but 1 to the peak has a file, names are acceptable, and no name is in two slots
   pub slot-zero : m .slots 0 ≡ none
   pub slot-past : (k : ℕ) → m .peak < k → m .slots k ≡ none

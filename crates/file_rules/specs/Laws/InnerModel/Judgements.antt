@@ -24,7 +24,8 @@ use Rattle.file_rules.specs.declared.Record.{Record}
 use Rattle.file_rules.specs.declared.Record.the-variants.{Free, Bad, System, File, Other}
 use Rattle.file_rules.specs.Check.{diskHeaderFault}
 use Rattle.file_rules.specs.Check.{recordFault, mapFault, partsRight, noRecordBears, newName}
-use Rattle.file_rules.specs.Check.{entryRight, fileRight, fileFault, goodRight, freeRight, refusal8, refusal9, refusal19, startRefusal, refusal10, refusal11, diskRefusal}
+use Rattle.file_rules.specs.Check.{entryRight, fileRight, fileFault, goodRight, freeRight, refusal8, refusal9, refusal19, startRefusal}
+use Rattle.file_rules.specs.Check.{refusal10, refusal11, diskRefusal}
 use Rattle.file_rules.specs.Directory.{nameEq, slotEntry, slotName, held, dirBytes, dirEnd}
 use Rattle.file_rules.specs.Disk.{Disk}
 use Rattle.file_rules.specs.Laws.InnerModel.Inner.{Inner, header, render}

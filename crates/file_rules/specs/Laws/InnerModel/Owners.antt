@@ -24,7 +24,7 @@ use Rattle.file_rules.specs.Laws.InnerModel.Inner.{give, freeOf}
 use Rattle.file_rules.specs.Laws.InnerModel.Invariant.{Owned}
 use Rattle.file_rules.specs.Laws.Base.Records.{Valid, free-only}
 use Rattle.file_rules.specs.Laws.Base.Whole.{unowned}
-use Rattle.file_rules.specs.Map.{fileBound, sequences, isFree, isBad, isSystem, bears, isPart}
+use Rattle.file_rules.specs.Map.{fileBound, sequences, isFree, isBadRecord, isSystem, bears, isPart}
 
 -- ---- one record freed
 
@@ -82,13 +82,13 @@ unowned-free k (File f s) =
     by-test (eqb f k) (λ t. ap isFree (cond-true _ _ t) ∙ sym t) (λ t. ap isFree (cond-false _ _ t) ∙ sym t)
 
 -- freeing a file leaves the same blocks bad
-pub unowned-bad : (k : ℕ) (r : Record) → isBad (unowned k r) ≡ isBad r
-unfolding unowned isBad bears
+pub unowned-bad : (k : ℕ) (r : Record) → isBadRecord (unowned k r) ≡ isBadRecord r
+unfolding unowned isBadRecord bears
 unowned-bad k Free = refl
 unowned-bad k Bad = refl
 unowned-bad k System = refl
 unowned-bad k Other = refl
-unowned-bad k (File f s) = by-test (eqb f k) (λ t. ap isBad (cond-true _ _ t)) (λ t. ap isBad (cond-false _ _ t))
+unowned-bad k (File f s) = by-test (eqb f k) (λ t. ap isBadRecord (cond-true _ _ t)) (λ t. ap isBadRecord (cond-false _ _ t))
 
 free-apart : (k : ℕ) (r : Record) → (isFree r && bears k r) ≡ false
 unfolding isFree bears
@@ -298,14 +298,14 @@ still-free owner b r bs t =
     (λ j h l a. ap isFree (upd-other owner b r j (omega arith)) ∙ a) t
 
 -- giving free blocks away leaves the same blocks bad
-pub give-bad : (bs : List ℕ) (owner : ℕ → Record) (f s i b : ℕ) → Picks blocks (freeOf owner) i bs → isBad (give owner f s bs b) ≡ isBad (owner b)
-unfolding give freeOf isBad
+pub give-bad : (bs : List ℕ) (owner : ℕ → Record) (f s i b : ℕ) → Picks blocks (freeOf owner) i bs → isBadRecord (give owner f s bs b) ≡ isBadRecord (owner b)
+unfolding give freeOf isBadRecord
 give-bad [] owner f s i b t = refl
 give-bad (x ∷ xs) owner f s i b t =
     give-bad xs (upd owner x (File f s)) f (suc s) (suc x) b (still-free owner x (File f s) xs (t .3))
     ∙ by-equal b x
-    (λ q. ap isBad (upd-same owner x (File f s) b q) ∙ sym (ap (λ (j : ℕ). isBad (owner j)) q ∙ ap isBad (free-only (owner x) (t .2))))
-    (λ q. ap isBad (upd-other owner x (File f s) b q))
+    (λ q. ap isBadRecord (upd-same owner x (File f s) b q) ∙ sym (ap (λ (j : ℕ). isBadRecord (owner j)) q ∙ ap isBadRecord (free-only (owner x) (t .2))))
+    (λ q. ap isBadRecord (upd-other owner x (File f s) b q))
 
 -- after free blocks are given to file f as its next parts, each part of each file has one block
 pub give-owned : (bs : List ℕ) (owner : ℕ → Record) (parts : ℕ → ℕ) (f s i : ℕ) → Owned owner parts → Picks blocks (freeOf owner) i bs

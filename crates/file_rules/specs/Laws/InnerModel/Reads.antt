@@ -24,7 +24,7 @@ use Rattle.sector_rules.specs.Geometry.{blocks}
 use Rattle.sector_rules.specs.Replies.{refusal}
 use Rattle.file_rules.specs.declared.Record.{Record}
 use Rattle.file_rules.specs.declared.Record.the-variants.{File}
-use Rattle.file_rules.specs.Arguments.{listed, badBlocks}
+use Rattle.file_rules.specs.Arguments.{listed, countListed}
 use Rattle.file_rules.specs.Calls.{Outcome, bufferKept, deliver, entries, listSound, dataOf, readSound}
 use Rattle.file_rules.specs.Directory.{nameEq, nameRight, entryOf, entryByte, nameOf, entryFor, slotByte, slotEntry, slotName, held, dirBytes}
 use Rattle.file_rules.specs.Directory.{dirEnd, findName, vacantSlot}
@@ -33,7 +33,7 @@ use Rattle.file_rules.specs.Laws.InnerModel.Inner.{Inner, fileBlocks, in
 use Rattle.file_rules.specs.Laws.InnerModel.Invariant.{partsOf, Inv}
 use Rattle.file_rules.specs.Laws.Base.Header.{at-20, at-22, at-34, at-36}
 use Rattle.file_rules.specs.Laws.Base.Whole.{With, with-is, record-is, freeCount-is, badCount-is, partBlock-is}
-use Rattle.file_rules.specs.Map.{recordAt, isBad, isSystem, isPart, freeCount, badCount, partBlock, fileByte}
+use Rattle.file_rules.specs.Map.{recordAt, isBadRecord, isSystem, isPart, freeCount, badCount, partBlock, fileByte}
 use Rattle.file_rules.specs.Model.{NamedFile, HeldFile, heldBlocks, dirBlocks, usable, freeWord, slotOf, heldBytes, dirByte, content, hasName}
 use Rattle.file_rules.specs.Model.{heldEntry, heldEntries, heldData}
 use Rattle.file_rules.specs.Sizes.{blockBytes, slotBytes, blockSlots, mapStart, nameMost, goodSectors, wholeBlocks, bytesOver}
@@ -91,16 +91,16 @@ module _ (m : Inner) (v : Inv m) where
   word20 = head16 20 (omega arith) ∙ at-20 _ _ (freeWord (innerBad m) (m .peak) (fileBlocks m)) _ (omega arith)
 
   -- the good word that is read is that of the list of bad blocks
-  pub word22 : at16 (d 0) 22 ≡ goodSectors (badBlocks (m .arguments .bad))
+  pub word22 : at16 (d 0) 22 ≡ goodSectors (countListed (m .arguments .bad))
   unfolding header
   word22 = head16 22 (omega arith) ∙ at-22 _ _ _ _
 
   -- as many blocks are read as bad as the list has
-  pub badCount-at : badCount d ≡ badBlocks (m .arguments .bad)
-  unfolding badBlocks
+  pub badCount-at : badCount d ≡ countListed (m .arguments .bad)
+  unfolding countListed
   badCount-at =
       badCount-is d (header m) (m .owner) (content (m .slots) (m .slots)) P (v .own .own-valid)
-      ∙ count-cong blocks (λ (b : ℕ). isBad (m .owner b)) (λ (b : ℕ). listed b (m .arguments .bad)) (v .bad-is)
+      ∙ count-cong blocks (λ (b : ℕ). isBadRecord (m .owner b)) (λ (b : ℕ). listed b (m .arguments .bad)) (v .bad-is)
 
   -- as many blocks are read as free as have the free owner
   pub freeCount-at : freeCount d ≡ count blocks (freeOf (m .owner))

@@ -31,7 +31,7 @@ use Rattle.file_rules.specs.Laws.Base.Header.{judged-alike}
 use Rattle.file_rules.specs.Laws.Base.Records.{begins-free}
 use Rattle.file_rules.specs.Laws.Base.Sound.{first-passed, start-nine, part-not-first}
 use Rattle.file_rules.specs.Laws.OnAnyDisk.Kept.{record-same}
-use Rattle.file_rules.specs.Map.{recordAt, isFree, isBad, bears, isPart, within, freeAt, freeCount, badAt, badCount, partBlock, fileByte}
+use Rattle.file_rules.specs.Map.{recordAt, isFree, isBadRecord, bears, isPart, within, freeAt, freeCount, badAt, badCount, partBlock, fileByte}
 use Rattle.file_rules.specs.Sizes.{blockBytes, slotBytes, blockSlots, slotCount, mapStart, recordBytes, blocksOf, freeSectors, goodSectors}
 
 -- ---- records
@@ -105,7 +105,7 @@ module _ (d e : Disk) (a : Alike d e) where
   nineteen-alike : refusal19 d ≡ refusal19 e
   unfolding refusal19 goodRight badCount badAt
   nineteen-alike =
-      ap₂ (λ (x : ℕ) (r : ℕ → Record). cond (eqb x (goodSectors (count blocks (λ (b : ℕ). isBad (r b))))) none (some (refusal 19)))
+      ap₂ (λ (x : ℕ) (r : ℕ → Record). cond (eqb x (goodSectors (count blocks (λ (b : ℕ). isBadRecord (r b))))) none (some (refusal 19)))
       (word-alike 22 (omega arith)) records-alike
 
   -- what a judgement begins with is alike

@@ -26,7 +26,7 @@ use Rattle.file_rules.specs.Laws.Base.Records.{free-only, bad-only}
 use Rattle.file_rules.specs.Laws.Base.Sound.{part-not}
 use Rattle.file_rules.specs.Laws.Base.Whole.{bears-not-system}
 use Rattle.file_rules.specs.Laws.OnAnyDisk.Kept.{record-same, freed-later, freed-record, firsts-beside, grow-beside, grow-system, freed-kept}
-use Rattle.file_rules.specs.Map.{recordAt, isFree, isBad, isPart, bears, freeAt, badAt, partBlock}
+use Rattle.file_rules.specs.Map.{recordAt, isFree, isBadRecord, isPart, bears, freeAt, badAt, partBlock}
 use Rattle.file_rules.specs.Sizes.{blockSlots}
 use Rattle.file_rules.specs.Written.{storedByte, part, blocksFor, zeros, setBlock, setRecord, setSlot, setWord, setFree, setEnd, stepUpdate}
 use Rattle.file_rules.specs.Written.{giveBlocks, freeBlock, freeBlocks}
@@ -105,8 +105,8 @@ free-not-zero d first b t z = true≢false (freeAt d b) t (ap (freeAt d) z ∙ a
 
 -- nor is a bad one
 pub bad-not-zero : (d : Disk) → recordAt d 0 ≡ System → (b : ℕ) → badAt d b ≡ true → b ≢ 0
-unfolding badAt isBad
-bad-not-zero d first b t z = true≢false (badAt d b) t (ap (badAt d) z ∙ ap isBad first)
+unfolding badAt isBadRecord
+bad-not-zero d first b t z = true≢false (badAt d b) t (ap (badAt d) z ∙ ap isBadRecord first)
 
 still-none : (d e : Disk) (b : ℕ) → SameRecord d e b → NoFile (recordAt d b) → NoFile (recordAt e b)
 still-none d e b s n f = ap (bears f) (sym (record-same d e b s)) ∙ n f
@@ -199,4 +199,5 @@ module _ (d : Disk) (first : recordAt d 0 ≡ System) (f b : ℕ) (l : b < block
       let d₁ : Disk = freeBlocks blocks d f in
       let free₁ : freeAt d₁ b ≡ true = ap isFree (freed-record d first f b l t) in
       let d₂ : Disk = setSlot d₁ f zeros in
-      sym (slot-bytes d₁ b l (free-no-file d₁ b free₁) f zeros o ∙ free-bytes b pos d₂ o ∙ update-bytes b pos (setFree d₂) o) ∙ freed-zeros blocks (omega arith) l o
+      sym (slot-bytes d₁ b l (free-no-file d₁ b free₁) f zeros o ∙ free-bytes b pos d₂ o ∙ update-bytes b pos (setFree d₂) o)
+      ∙ freed-zeros blocks (omega arith) l o

@@ -50,7 +50,8 @@ other-file E F G (File zero s) o e = refl
 other-file E F G (File (suc f) s) o e = ap (λ (x : HeldFile). part (heldBytes x) s o) (e (suc f) s refl)
 
 module _ (m : Inner) (v : Inv m) (x : NamedFile) (right : (1 ≤ length (x .name)) × (length (x .name) ≤ nameMost))
-    (new : suc (m .peak) ≤ innerFind m (x .name)) (room : innerBad m + (dirBlocks (peakAfter m) + (fileBlocks m + blocksFor (length (x .content)))) ≤ usable) where
+    (new : suc (m .peak) ≤ innerFind m (x .name))
+    (room : innerBad m + (dirBlocks (peakAfter m) + (fileBlocks m + blocksFor (length (x .content)))) ≤ usable) where
   abbrev kk : ℕ
   kk = emptySlot m
 

@@ -22,11 +22,12 @@ use Rattle.file_rules.specs.declared.Record.{Record}
 use Rattle.file_rules.specs.Arguments.{listed}
 use Rattle.file_rules.specs.Directory.{nameEq}
 use Rattle.file_rules.specs.Laws.InnerModel.Fields.{parts-none}
-use Rattle.file_rules.specs.Laws.InnerModel.Inner.{Inner, presentCount, fileBlocks, innerBad, innerFind, emptySlot, give, freeOf, growOwner, peakAfter, innerAddAt}
+use Rattle.file_rules.specs.Laws.InnerModel.Inner.{Inner, presentCount, fileBlocks, innerBad, innerFind, emptySlot, give, freeOf, growOwner}
+use Rattle.file_rules.specs.Laws.InnerModel.Inner.{peakAfter, innerAddAt}
 use Rattle.file_rules.specs.Laws.InnerModel.Invariant.{partsOf, Owned, Inv}
 use Rattle.file_rules.specs.Laws.Base.Names.{name-sym}
 use Rattle.file_rules.specs.Laws.InnerModel.Owners.{owned-cong, give-bad, give-owned, give-count}
-use Rattle.file_rules.specs.Map.{isBad}
+use Rattle.file_rules.specs.Map.{isBadRecord}
 use Rattle.file_rules.specs.Model.{NamedFile, HeldFile, heldBlocks, dirBlocks, usable, content, hasName, wrap}
 use Rattle.file_rules.specs.Sizes.{nameMost}
 use Rattle.file_rules.specs.Written.{blocksFor}
@@ -36,7 +37,8 @@ some-same : (x y : NamedFile) → _≡_ {A = HeldFile} (some x) (some y) → x �
 some-same x y e = cc
 
 module _ (m : Inner) (v : Inv m) (x : NamedFile) (right : (1 ≤ length (x .name)) × (length (x .name) ≤ nameMost))
-    (new : suc (m .peak) ≤ innerFind m (x .name)) (room : innerBad m + (dirBlocks (peakAfter m) + (fileBlocks m + blocksFor (length (x .content)))) ≤ usable) where
+    (new : suc (m .peak) ≤ innerFind m (x .name))
+    (room : innerBad m + (dirBlocks (peakAfter m) + (fileBlocks m + blocksFor (length (x .content)))) ≤ usable) where
   abbrev kk : ℕ
   kk = emptySlot m
 
@@ -87,14 +89,14 @@ module _ (m : Inner) (v : Inv m) (x : NamedFile) (right : (1 ≤ length (x .name
       (λ q. sym (upd-other (partsOf m) 0 (dirBlocks (peakAfter m)) f q))) (v .own)))
 
   -- and the same blocks are bad
-  pub bad₁ : (b : ℕ) → b < blocks → isBad (owner₁ b) ≡ listed b (m .arguments .bad)
+  pub bad₁ : (b : ℕ) → b < blocks → isBadRecord (owner₁ b) ≡ listed b (m .arguments .bad)
   unfolding growOwner
   bad₁ b l =
       by-growth m v
       (λ t e q r.
-      ap (λ (o : ℕ → Record). isBad (o b)) (cond-true _ _ t)
+      ap (λ (o : ℕ → Record). isBadRecord (o b)) (cond-true _ _ t)
       ∙ give-bad first (m .owner) 0 (dirBlocks (m .peak)) 0 b (firsts-picks blocks 1 (freeOf (m .owner))) ∙ v .bad-is b l)
-      (λ t r. ap (λ (o : ℕ → Record). isBad (o b)) (cond-false _ _ t) ∙ v .bad-is b l)
+      (λ t r. ap (λ (o : ℕ → Record). isBadRecord (o b)) (cond-false _ _ t) ∙ v .bad-is b l)
 
   count₁ : count blocks (freeOf owner₁) + dirBlocks (peakAfter m) ≡ count blocks (freeOf (m .owner)) + dirBlocks (m .peak)
   unfolding growOwner

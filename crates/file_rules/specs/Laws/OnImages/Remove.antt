@@ -131,9 +131,11 @@ module _ (m : Inner) (v : Inv m) (k : ℕ) (pos : 0 < k) (low : k ≤ m .peak) w
       slot-step d₁ h own′ (partsOf m′) owned (m .slots) (m .slots) p₁ k none zeros (λ i l. unfold zeros slotOf in refl) in-dir in
       let p₃ : With d₂ h own′ (content L′ L′) =
       with-same d₂ h own′ (content L′ (m .slots)) p₂ h own′ (content L′ L′) (λ o l. refl) (λ b l. refl) (λ b o i j l. file-slots b o j) in
-      let w : freeSectors (count blocks (freeOf own′)) ≡ freeWord (innerBad m) (m .peak) (fileBlocks m′) = unfold freeWord in omega (arith, remove-inv .free-sum) in
+      let w : freeSectors (count blocks (freeOf own′)) ≡ freeWord (innerBad m) (m .peak) (fileBlocks m′) =
+      unfold freeWord in omega (arith, remove-inv .free-sum) in
       let p₄ =
-      finish (m .arguments) (m .updates) (freeWord (innerBad m) (m .peak) (fileBlocks m)) (suc (m .peak)) own′ (content L′ L′) d₂ p₃ (owned .own-valid) (v .updates-fit) in
+      finish (m .arguments) (m .updates) (freeWord (innerBad m) (m .peak) (fileBlocks m)) (suc (m .peak)) own′ (content L′ L′) d₂ p₃ (owned .own-valid)
+      (v .updates-fit) in
       with-only (header m′) own′ (content L′ L′) (removeAt (render m) k)
       (subst (λ (x : ℕ). With (removeAt (render m) k) (diskHeaderByte (m .arguments) (wrap (m .updates + 1)) x (suc (m .peak))) own′ (content L′ L′)) w p₄)
 

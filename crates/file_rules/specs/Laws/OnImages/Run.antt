@@ -23,7 +23,7 @@ use Rattle.file_rules.specs.Calls.{Outcome, DiskChanged, ImageChanged, b
 use Rattle.file_rules.specs.Calls.{freshHeader, formatDisk, format, list, read, addSound, imaged, add, removeSound, remove}
 use Rattle.file_rules.specs.Check.{diskRefusal}
 use Rattle.file_rules.specs.Directory.{nameEq, nameRight}
-use Rattle.file_rules.specs.Arguments.{FormatArguments, listed, badBlocks, EachCanBeBad}
+use Rattle.file_rules.specs.Arguments.{FormatArguments, listed, countListed, EachCanBeBad}
 use Rattle.file_rules.specs.Disk.{Disk, diskOf, imageOf}
 use Rattle.file_rules.specs.Histories.{Call, imageOut, imageStep, imageOuts, imageEnd, toAdd, toRemove, toList, toRead}
 use Rattle.file_rules.specs.Laws.OnImages.Slot.{room-is}
@@ -43,7 +43,7 @@ use Rattle.file_rules.specs.Laws.InnerModel.Fields.{isPart-true}
 use Rattle.file_rules.specs.Laws.OnImages.Remove.{remove-inv, remove-image}
 use Rattle.file_rules.specs.Laws.Base.Records.{Valid}
 use Rattle.file_rules.specs.Laws.Base.Whole.{with-is, with-only, with-same}
-use Rattle.file_rules.specs.Map.{isFree, isBad, isSystem, isPart}
+use Rattle.file_rules.specs.Map.{isFree, isBadRecord, isSystem, isPart}
 use Rattle.file_rules.specs.Model.{NamedFile, heldBlocks, dirBlocks, differentBlocks, usable, freeWord, slotOf, heldBytes, dirByte, content}
 use Rattle.file_rules.specs.Sizes.{blockBytes, nameMost, titleMost, freeSectors}
 use Rattle.file_rules.specs.Written.{diskHeaderByte, part}
@@ -93,12 +93,12 @@ module _ (args : FormatArguments) where
 
   module _ (each : EachCanBeBad (args .bad)) where
     -- bad are those of the list
-    fresh-bad : (b : ℕ) → isBad (freshOwner args b) ≡ listed b (args .bad)
-    unfolding freshOwner isBad
+    fresh-bad : (b : ℕ) → isBadRecord (freshOwner args b) ≡ listed b (args .bad)
+    unfolding freshOwner isBadRecord
     fresh-bad zero = sym (low-unlisted (args .bad) each 0 (omega arith))
     fresh-bad (suc zero) = sym (low-unlisted (args .bad) each 1 (omega arith))
     fresh-bad (suc (suc b)) =
-        by-test (listed (suc (suc b)) (args .bad)) (λ t. ap isBad (cond-true _ _ t) ∙ sym t) (λ t. ap isBad (cond-false _ _ t) ∙ sym t)
+        by-test (listed (suc (suc b)) (args .bad)) (λ t. ap isBadRecord (cond-true _ _ t) ∙ sym t) (λ t. ap isBadRecord (cond-false _ _ t) ∙ sym t)
 
     -- taken are blocks 0 and 1 and those of the list
     fresh-taken : (b : ℕ) → not (freeOf (freshOwner args) b) ≡ (ltb b 2 || listed b (args .bad))
@@ -109,7 +109,8 @@ module _ (args : FormatArguments) where
         let off : (ltb (suc (suc b)) 2 || listed (suc (suc b)) (args .bad)) ≡ listed (suc (suc b)) (args .bad) =
         ap (λ (a : Bool). a || listed (suc (suc b)) (args .bad)) (lt-false {a = suc (suc b)} {b = 2} (omega arith)) in
         by-test (listed (suc (suc b)) (args .bad))
-        (λ t. ap (λ (r : Record). not (isFree r)) (cond-true _ _ t) ∙ sym (off ∙ t)) (λ t. ap (λ (r : Record). not (isFree r)) (cond-false _ _ t) ∙ sym (off ∙ t))
+        (λ t. ap (λ (r : Record). not (isFree r)) (cond-true _ _ t) ∙ sym (off ∙ t))
+        (λ t. ap (λ (r : Record). not (isFree r)) (cond-false _ _ t) ∙ sym (off ∙ t))
 
     two-low : count blocks (λ (b : ℕ). ltb b 2) ≡ 2
     unfolding count
@@ -120,12 +121,13 @@ module _ (args : FormatArguments) where
         by-order b 2 (λ h. and-false-right (ltb b 2) (low-unlisted (args .bad) each b h)) (λ h. and-false-left (listed b (args .bad)) (lt-false h))
 
     -- free are all others
-    fresh-count : count blocks (freeOf (freshOwner args)) + (2 + badBlocks (args .bad)) ≡ blocks
-    unfolding badBlocks
+    fresh-count : count blocks (freeOf (freshOwner args)) + (2 + countListed (args .bad)) ≡ blocks
+    unfolding countListed
     fresh-count =
         let held : count blocks (λ (b : ℕ). not (freeOf (freshOwner args) b)) ≡ count blocks (λ (b : ℕ). (ltb b 2 || listed b (args .bad))) =
         count-cong blocks (λ (b : ℕ). not (freeOf (freshOwner args) b)) (λ (b : ℕ). (ltb b 2 || listed b (args .bad))) (λ b l. fresh-taken b) in
-        let both : count blocks (λ (b : ℕ). (ltb b 2 || listed b (args .bad))) ≡ count blocks (λ (b : ℕ). ltb b 2) + count blocks (λ (b : ℕ). listed b (args .bad)) =
+        let both : count blocks (λ (b : ℕ). (ltb b 2 || listed b (args .bad)))
+        ≡ count blocks (λ (b : ℕ). ltb b 2) + count blocks (λ (b : ℕ). listed b (args .bad)) =
         count-or blocks (λ (b : ℕ). ltb b 2) (λ (b : ℕ). listed b (args .bad)) (λ b l. low-apart b) in
         omega (arith, two-low, count-not blocks (freeOf (freshOwner args)))
 
@@ -134,7 +136,7 @@ module _ (args : FormatArguments) where
     fresh-sum = omega (arith, fresh-count, different-is (args .bad) each)
 
     -- the free word of a fresh disk is that of demand 3
-    fresh-word : freeSectors (blocks - 2 - badBlocks (args .bad)) ≡ freeWord (differentBlocks (args .bad)) 0 0
+    fresh-word : freeSectors (blocks - 2 - countListed (args .bad)) ≡ freeWord (differentBlocks (args .bad)) 0 0
     unfolding freeWord dirBlocks
     fresh-word = omega (arith, different-is (args .bad) each)
 

@@ -204,6 +204,7 @@ module _ (m : Inner) (v : Inv m) where
       (λ h. omega (arith, v .free-sum, freeCount-at m v)) (λ h. omega (arith, v .free-sum, freeCount-at m v)))
 
 -- where there is room, bad blocks and those of the directory, of the files and of the new file are at most the usable ones
-pub room-fits : (m : Inner) (x : NamedFile) → roomFor m x ≡ true → innerBad m + (dirBlocks (peakAfter m) + (fileBlocks m + blocksFor (length (x .content)))) ≤ usable
+pub room-fits : (m : Inner) (x : NamedFile) → roomFor m x ≡ true
+    → innerBad m + (dirBlocks (peakAfter m) + (fileBlocks m + blocksFor (length (x .content)))) ≤ usable
 unfolding roomFor
 room-fits m x t = true-le t

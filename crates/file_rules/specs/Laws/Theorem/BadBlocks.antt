@@ -51,7 +51,7 @@ use Rattle.file_rules.specs.Laws.OnAnyDisk.Stays.{by-add, by-remove, add
 use Rattle.file_rules.specs.Laws.OnImages.Run.{format-inv, img-disk, end-inv}
 use Rattle.file_rules.specs.Laws.Theorem.FreeTails.{written-free}
 use Rattle.file_rules.specs.Laws.Theorem.History.{same-arguments, end-is}
-use Rattle.file_rules.specs.Map.{encode, recordAt, isFree, isBad, isSystem, isOther, freeAt, badAt, badCount}
+use Rattle.file_rules.specs.Map.{encode, recordAt, isFree, isBadRecord, isSystem, isOther, freeAt, badAt, badCount}
 use Rattle.file_rules.specs.Model.{differentBlocks, content}
 use Rattle.file_rules.specs.Sizes.{blockBytes, mapStart, titleMost, goodSectors}
 
@@ -173,13 +173,14 @@ module _ (m : Inner) (v : Inv m) where
 
   bad-listed : (b : ℕ) → b < blocks → hasBadBytes e b ≡ listed b (m .arguments .bad)
   unfolding badAt
-  bad-listed b l = sym (three-is e b (in-bytes b l)) ∙ ap isBad (rec m v b l) ∙ v .bad-is b l
+  bad-listed b l = sym (three-is e b (in-bytes b l)) ∙ ap isBadRecord (rec m v b l) ∙ v .bad-is b l
 
   bad-blank : (b o : ℕ) → b < blocks → listed b (m .arguments .bad) ≡ true → e b o ≡ 0
-  unfolding content isBad
+  unfolding content isBadRecord
   bad-blank b o l t =
       let owned : m .owner b ≡ Bad = bad-only (m .owner b) (v .bad-is b l ∙ t) in
-      let pos : b ≢ 0 = λ z. true≢false (isBad (m .owner b)) (ap isBad owned) (ap (λ (j : ℕ). isBad (m .owner j)) z ∙ ap isBad (v .own .own-zero)) in
+      let pos : b ≢ 0 = λ z. true≢false (isBadRecord (m .owner b)) (ap isBadRecord owned) (ap (λ (j : ℕ). isBadRecord (m .owner j)) z
+      ∙ ap isBadRecord (v .own .own-zero)) in
       by-order o blockBytes
       (λ h. whole .block b o (omega arith) l h ∙ ap (λ (r : Record). content (m .slots) (m .slots) r o) owned) (λ h. whole .out b o h)
 
@@ -249,7 +250,8 @@ module _ (image : List ℕ) (b : ℕ) (l : b < blocks) (t : badAt (diskOf image)
       let busy : freeAt before b ≡ false = bad-not-free before b t in (
         add-kept image b l name date content (λ first x. add-held before first k x content b l busy),
         add-stays image b l name date content
-            (λ first x. add-bytes before first k x content b l (bad-no-file before b t) (bad-not-zero before first b t) (held-beside before first k x content b l busy)),
+            (λ first x. add-bytes before first k x content b l (bad-no-file before b t) (bad-not-zero before first b t)
+            (held-beside before first k x content b l busy)),
       )
 
   remove-leaves : (name : List ℕ)

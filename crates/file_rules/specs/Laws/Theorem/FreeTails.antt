@@ -1,4 +1,5 @@
--- free-tails (FreeTails.antt). What the calls leave of a record is what their steps leave (OnAnyDisk.Kept, Stays). That no history makes another tail is read off the inner model's disk, whose free records are written ones.
+-- free-tails (FreeTails.antt). What the calls leave of a record is what their steps leave (OnAnyDisk.Kept, Stays). That no history makes another tail is read
+-- off the inner model's disk, whose free records are written ones.
 use mathlib.Core.Path.{_≡_, refl, sym, ap, ap₂, _∙_, subst}
 use mathlib.Core.Bool.{Bool, true, not, cond, _&&_}
 use mathlib.Core.List.{List}
@@ -154,7 +155,8 @@ render-freed m v b l t =
     written-free (render m) b (λ i k. w .map b i l k ∙ ap (λ (r : Record). encode r i) owned)
 
 history-frees : (old : List ℕ) (args : FormatArguments) (calls : List Call) → length old ≡ imageBytes → length (args .title) ≤ titleMost
-    → EachCanBeBad (args .bad) → (b : ℕ) → b < blocks → freeAt (diskOf (imageEnd (formatted old args) calls)) b ≡ true → IsWrittenFree (diskOf (imageEnd (formatted old args) calls)) b
+    → EachCanBeBad (args .bad) → (b : ℕ) → b < blocks → freeAt (diskOf (imageEnd (formatted old args) calls)) b ≡ true
+    → IsWrittenFree (diskOf (imageEnd (formatted old args) calls)) b
 history-frees old args calls long short each =
     let m : Inner = innerEnd (innerFormat args) calls in
     let v : Inv m = end-inv calls (innerFormat args) (format-inv args each) in

@@ -27,7 +27,8 @@ use Rattle.file_rules.specs.Laws.InModel.Agree.{agree, fresh-listed, sta
 use Rattle.file_rules.specs.Laws.Base.Disk.{block-lt, offset-lt, byte-is, length-image}
 use Rattle.file_rules.specs.Laws.InnerModel.Reads.{dirEnd-is, word20, held-is, found-slot}
 use Rattle.file_rules.specs.Laws.InnerModel.Inner.{Inner, presentCount, fileBlocks, innerBad, render, emptySlots, innerFormat, innerFind, innerRead}
-use Rattle.file_rules.specs.Laws.InnerModel.Inner.{InnerChanged, innerRefused, innerRemoveAt, innerRemove, peakAfter, innerAddAt, roomFor, innerAdd, innerStep, innerOut, innerOuts, innerEnd}
+use Rattle.file_rules.specs.Laws.InnerModel.Inner.{InnerChanged, innerRefused, innerRemoveAt, innerRemove, peakAfter, innerAddAt, roomFor}
+use Rattle.file_rules.specs.Laws.InnerModel.Inner.{innerAdd, innerStep, innerOut, innerOuts, innerEnd}
 use Rattle.file_rules.specs.Laws.InnerModel.Invariant.{partsOf, Inv}
 use Rattle.file_rules.specs.Laws.FilesLeft.Left.{count-is, left-is}
 use Rattle.file_rules.specs.Laws.InModel.Listed.{withOwner, BlocksListed}
@@ -103,7 +104,8 @@ module _ (m : Inner) (v : Inv m) (fs : List NamedFile) (r : Fills (m .slots) fs)
       ≡ leb (innerBad m + (dirBlocks (max (m .peak) (suc (length fs))) + (blocksOfFiles fs + blocksFor (length (x .content))))) usable
   unfolding roomFor peakAfter
   room-by x =
-      ap₂ (λ (p s : ℕ). leb (innerBad m + (dirBlocks (max (m .peak) (suc p)) + (s + blocksFor (length (x .content))))) usable) (count-is m v fs r) present-blocks
+      ap₂ (λ (p s : ℕ). leb (innerBad m + (dirBlocks (max (m .peak) (suc p)) + (s + blocksFor (length (x .content))))) usable)
+      (count-is m v fs r) present-blocks
 
   slot-of : (x : NamedFile) → IsPresent x fs → (k : ℕ) × (0 < k) × (k < dirEnd (render m)) × HasEntry (render m) k x
   slot-of x p =

@@ -23,7 +23,7 @@ use Rattle.sector_rules.specs.declared.Fault.the-variants.{Sound}
 use Rattle.sector_rules.specs.Geometry.{sectorBytes, blocks}
 use Rattle.sector_rules.specs.Replies.{done, replyWith}
 use Rattle.file_rules.specs.declared.Record.{Record}
-use Rattle.file_rules.specs.Arguments.{FormatArguments, argumentsOf, listed, badBlocks}
+use Rattle.file_rules.specs.Arguments.{FormatArguments, argumentsOf, listed, countListed}
 use Rattle.file_rules.specs.Calls.{ImageChanged, unless, imageRight, onSound, freshOwner, freshHeader, formatDisk, check}
 use Rattle.file_rules.specs.Check.{diskHeaderFault, recordFault, mapFault}
 use Rattle.file_rules.specs.Check.{partsRight, noRecordBears, newName, entryRight, fileRight, fileFault}
@@ -35,7 +35,8 @@ use Rattle.file_rules.specs.Laws.Base.Disk.{first-place, length-image, d
 use Rattle.file_rules.specs.Laws.Base.Header.{header-none, header-passes}
 use Rattle.file_rules.specs.Laws.Base.Whole.{with-is}
 use Rattle.file_rules.specs.Laws.OnImages.Run.{format-done}
-use Rattle.file_rules.specs.Map.{decode, encode, numberOf, numberAt, recordAt, isBad, badAt, badCount, isSystem, isOther, bears, isPart, within, partBlock}
+use Rattle.file_rules.specs.Map.{decode, encode, numberOf, numberAt, recordAt, isBadRecord, badAt, badCount, isSystem, isOther, bears, isPart}
+use Rattle.file_rules.specs.Map.{within, partBlock}
 use Rattle.file_rules.specs.Model.{Model, fileOf, takenBy, slotOf, dirByte, content, position, orRecord, slotRecord, modelRecord, modelHeader, modelDisk}
 use Rattle.file_rules.specs.Sizes.{blockBytes, mapStart, freeSectors}
 use Rattle.file_rules.specs.Written.{fixedByte, diskHeaderByte, diskWith}
@@ -109,7 +110,7 @@ fresh-header args = with-is (freshHeader args) (freshOwner args) (λ (r : Record
 -- a disk with letters and fields of a fresh header passes 8
 fresh-passes : (args : FormatArguments) (d : Disk) → ((o : ℕ) → o < 4 → d 0 o ≡ freshHeader args o)
     → ((o : ℕ) → 24 ≤ o → o < 76 → d 0 o ≡ freshHeader args o) → diskHeaderFault d ≡ Sound
-fresh-passes args = header-passes args 0 (freeSectors (blocks - 2 - badBlocks (args .bad))) 1 (lit≤ tt) (lit< tt)
+fresh-passes args = header-passes args 0 (freeSectors (blocks - 2 - countListed (args .bad))) 1 (lit≤ tt) (lit< tt)
 
 -- bytes that 8 judges are those of a fresh disk
 abbrev pub JudgedFresh : FormatArguments → Disk → Type 0
@@ -168,7 +169,7 @@ three-changed args d ok p v q w r x k l m =
     ∙ two-changed args (setByte d 0 p v) (passable-set args d p v k ok) q w r x l m
 
 judged-is : (title : List ℕ) (number : ℕ) → RecordsJudged (imageOf (formatDisk (argumentsOf title number [])))
-unfolding replyAfterHeader refusal9 refusal19 refusal10 refusal11 dirBytes mapFault recordAt numberAt goodRight badCount badAt isBad badBlocks listed
+unfolding replyAfterHeader refusal9 refusal19 refusal10 refusal11 dirBytes mapFault recordAt numberAt goodRight badCount badAt isBadRecord countListed listed
     formatDisk diskWith diskHeaderByte fixedByte patch highByte tab at16 bigEndian lowest count
     decode encode numberOf freshOwner recordFault isSystem isOther faultBelow unless orElse setByte upd
     fileFault fileRight partsRight dirEnd all within isPart bears noRecordBears quotientUp held
@@ -179,19 +180,22 @@ judged-is title number =
     record {
       first-record = byte-changed args d ok 96 0xF9 (lit< tt, lit≤ tt, λ h. lit≤ tt);
       first-free = byte-changed args d ok 96 0xFD (lit< tt, lit≤ tt, λ h. lit≤ tt);
-      first-bad = three-changed args d ok 96 0xFE 97 0xFF 98 0xFF (lit< tt, lit≤ tt, λ h. lit≤ tt) (lit< tt, lit≤ tt, λ h. lit≤ tt) (lit< tt, lit≤ tt, λ h. lit≤ tt);
+      first-bad = three-changed args d ok 96 0xFE 97 0xFF 98 0xFF (lit< tt, lit≤ tt, λ h. lit≤ tt) (lit< tt, lit≤ tt, λ h. lit≤ tt)
+          (lit< tt, lit≤ tt, λ h. lit≤ tt);
       system-record = byte-changed args d ok 99 0xF8 (lit< tt, lit≤ tt, λ h. lit≤ tt);
       other-record = byte-changed args d ok 396 0xFC (lit< tt, lit≤ tt, λ h. lit≤ tt);
       other-tail = two-changed args d ok 396 0xFE 398 0xFE (lit< tt, lit≤ tt, λ h. lit≤ tt) (lit< tt, lit≤ tt, λ h. lit≤ tt);
       bad-record = byte-changed args d ok 396 0xFE (lit< tt, lit≤ tt, λ h. lit≤ tt);
-      bad-directory = three-changed args d ok 99 0xFE 100 0xFF 101 0xFF (lit< tt, lit≤ tt, λ h. lit≤ tt) (lit< tt, lit≤ tt, λ h. lit≤ tt) (lit< tt, lit≤ tt, λ h. lit≤ tt);
+      bad-directory = three-changed args d ok 99 0xFE 100 0xFF 101 0xFF (lit< tt, lit≤ tt, λ h. lit≤ tt) (lit< tt, lit≤ tt, λ h. lit≤ tt)
+          (lit< tt, lit≤ tt, λ h. lit≤ tt);
       good-less = byte-changed args d ok 23 0x9F (lit< tt, lit≤ tt, λ h. omega arith);
       good-high-byte = byte-changed args d ok 22 0x04 (lit< tt, lit≤ tt, λ h. omega arith);
       nine-first = two-changed args d ok 396 0xFC 23 0x9F (lit< tt, lit≤ tt, λ h. lit≤ tt) (lit< tt, lit≤ tt, λ h. omega arith);
       ten-after = two-changed args d ok 101 1 23 0x9F (lit< tt, lit≤ tt, λ h. lit≤ tt) (lit< tt, lit≤ tt, λ h. omega arith);
       eleven-after = two-changed args d ok 21 0x9B 23 0x9F (lit< tt, lit≤ tt, λ h. omega arith) (lit< tt, lit≤ tt, λ h. omega arith);
       directory-part = byte-changed args d ok 101 1 (lit< tt, lit≤ tt, λ h. lit≤ tt);
-      no-slot = three-changed args d ok 102 0x00 103 0x50 104 0x00 (lit< tt, lit≤ tt, λ h. lit≤ tt) (lit< tt, lit≤ tt, λ h. lit≤ tt) (lit< tt, lit≤ tt, λ h. lit≤ tt);
+      no-slot = three-changed args d ok 102 0x00 103 0x50 104 0x00 (lit< tt, lit≤ tt, λ h. lit≤ tt) (lit< tt, lit≤ tt, λ h. lit≤ tt)
+          (lit< tt, lit≤ tt, λ h. lit≤ tt);
     }
 
 -- a model's disk has nothing outside its blocks
@@ -208,7 +212,7 @@ model-header m h =
 
 spellings-found : (title : List ℕ) (number : ℕ)
     → replyAfterHeader (modelDisk (twoFiles (argumentsOf title number []) reelOne reelCapitals)) ≡ replyWith 10 2 0 0
-unfolding replyAfterHeader refusal9 refusal19 refusal10 refusal11 dirBytes mapFault recordAt numberAt goodRight badCount badAt isBad badBlocks listed
+unfolding replyAfterHeader refusal9 refusal19 refusal10 refusal11 dirBytes mapFault recordAt numberAt goodRight badCount badAt isBadRecord countListed listed
     modelDisk modelHeader modelRecord content dirByte slotOf position orRecord slotRecord twoFiles emptyFile reelOne reelCapitals fileOf takenBy
     diskWith diskHeaderByte fixedByte patch highByte same tab at16 at32 bigEndian lowest count
     decode encode numberOf recordFault isSystem isOther faultBelow unless orElse upd

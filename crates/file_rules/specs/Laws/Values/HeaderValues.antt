@@ -23,10 +23,11 @@ use Rattle.sector_rules.specs.Geometry.{sectorBytes, blocks, imageBytes, sidePl
 use Rattle.sector_rules.specs.HeaderValues.{placeNamed, oneMore, oneLess, changedAt, changedFrom}
 use Rattle.sector_rules.specs.Laws.Values.HeaderValues.{changed-length, changed-from-length}
 use Rattle.sector_rules.specs.Replies.{done, refusal}
-use Rattle.file_rules.specs.Arguments.{FormatArguments, argumentsOf, listed, badListRight, badBlocks, EachCanBeBad}
+use Rattle.file_rules.specs.Arguments.{FormatArguments, argumentsOf, listed, badListRight, countListed, EachCanBeBad}
 use Rattle.file_rules.specs.Calls.{ImageChanged, imageKept, unless, imageRight, onSound, freshOwner, formatDisk, format, check}
 use Rattle.file_rules.specs.Check.{diskSignature, lengthRight, dimensionsFault, diskHeaderFault}
-use Rattle.file_rules.specs.Check.{mapFault, fileFault, goodRight, freeRight, refusal8, refusal9, refusal19, startRefusal, refusal10, refusal11, diskRefusal}
+use Rattle.file_rules.specs.Check.{mapFault, fileFault, goodRight, freeRight, refusal8, refusal9, refusal19, startRefusal, refusal10, refusal11}
+use Rattle.file_rules.specs.Check.{diskRefusal}
 use Rattle.file_rules.specs.Directory.{dirBytes}
 use Rattle.file_rules.specs.Disk.{Disk, blockOf, offsetOf, diskOf, imageOf}
 use Rattle.file_rules.specs.Laws.Base.BadList.{right-each, none-bad, wrong-listed}
@@ -105,14 +106,14 @@ three-each = right-each three-bad refl
 format-is : (old : List ℕ) → length old ≡ imageBytes
     → take 105 (format old (argumentsOf title 0x1234 []) .image) ≡ diskHeader ++ (0xF8 ∷ 0x00 ∷ 0x00 ∷ 0x00 ∷ 0x00 ∷ 0x00 ∷ 0xFD ∷ 0xFF ∷ 0xFF ∷ [])
 unfolding tab formatDisk diskWith diskHeaderByte fixedByte patch highByte diskSignature sidePlace backward title diskHeader encode numberOf freshOwner
-    badBlocks count listed
+    countListed count listed
 format-is old long = formatted-begins old (argumentsOf title 0x1234 []) 105 (lit≤ tt) long (lit≤ tt) none-bad ∙ refl
 
 bad-is : (old : List ℕ) → length old ≡ imageBytes
     → take 108 (format old (argumentsOf title 0x1234 three-bad) .image)
     ≡ set (set diskHeader 21 0x91) 23 0x97 ++ (0xF8 ∷ 0x00 ∷ 0x00 ∷ 0x00 ∷ 0x00 ∷ 0x00 ∷ 0xFE ∷ 0xFF ∷ 0xFF ∷ 0xFD ∷ 0xFF ∷ 0xFF ∷ [])
 unfolding tab formatDisk diskWith diskHeaderByte fixedByte patch highByte diskSignature sidePlace backward title diskHeader encode numberOf freshOwner
-    badBlocks count listed
+    countListed count listed
 bad-is old long = formatted-begins old (argumentsOf title 0x1234 three-bad) 108 (lit≤ tt) long (lit≤ tt) three-each ∙ refl
 
 module _ (title bad : List ℕ) (number : ℕ) where
@@ -128,7 +129,8 @@ elsewhere-is : (old title bad : List ℕ) (number : ℕ) → length old ≡ imag
     → (take 20 (format old (argumentsOf title number bad) .image) ≡ take 20 (format old (argumentsOf title number []) .image))
     × (drop 24 (take 96 (format old (argumentsOf title number bad) .image)) ≡ drop 24 (take 96 (format old (argumentsOf title number []) .image)))
 elsewhere-is old title bad number long short each =
-    let begins-with : (n : ℕ) → n ≤ sectorBytes → take n (format old (argumentsOf title number bad) .image) ≡ tab (formatDisk (argumentsOf title number bad) 0) n =
+    let begins-with : (n : ℕ) → n ≤ sectorBytes → take n (format old (argumentsOf title number bad) .image)
+    ≡ tab (formatDisk (argumentsOf title number bad) 0) n =
     λ n l. formatted-begins old (argumentsOf title number bad) n l long short each in
     let plain : (n : ℕ) → n ≤ sectorBytes → take n (format old (argumentsOf title number []) .image) ≡ tab (formatDisk (argumentsOf title number []) 0) n =
     λ n l. formatted-begins old (argumentsOf title number []) n l long short none-bad in (

@@ -17,7 +17,7 @@ use Rattle.sector_rules.specs.Faults.{faultBelow}
 use Rattle.sector_rules.specs.Geometry.{imageBytes}
 use Rattle.sector_rules.specs.Replies.{replyWith}
 use Rattle.file_rules.specs.declared.FirstTrack.{FirstTrack}
-use Rattle.file_rules.specs.Arguments.{FormatArguments, argumentsOf, listed, badListRight, badBlocks, EachCanBeBad}
+use Rattle.file_rules.specs.Arguments.{FormatArguments, argumentsOf, listed, badListRight, countListed, EachCanBeBad}
 use Rattle.file_rules.specs.Calls.{ImageChanged, unless, freshOwner, formatDisk, format}
 use Rattle.file_rules.specs.Check.{diskHeaderFault, recordFault, mapFault, goodRight, freeRight}
 use Rattle.file_rules.specs.Check.{refusal9, refusal19, startRefusal, refusal11}
@@ -29,7 +29,7 @@ use Rattle.file_rules.specs.Laws.Base.Disk.{first-place, length-image, d
 use Rattle.file_rules.specs.Laws.Base.Header.{header-none}
 use Rattle.file_rules.specs.Laws.Base.Track.{track-is}
 use Rattle.file_rules.specs.Laws.OnImages.Run.{format-done}
-use Rattle.file_rules.specs.Map.{decode, encode, numberOf, numberAt, recordAt, isFree, isBad, isSystem, isOther, freeAt, freeCount, badAt, badCount}
+use Rattle.file_rules.specs.Map.{decode, encode, numberOf, numberAt, recordAt, isFree, isBadRecord, isSystem, isOther, freeAt, freeCount, badAt, badCount}
 use Rattle.file_rules.specs.Sizes.{titleMost}
 use Rattle.file_rules.specs.Written.{fixedByte, diskHeaderByte, diskWith}
 use Rattle.file_rules.specs.TrackValues.{judgedFirst, FirstTrackValues}
@@ -74,13 +74,14 @@ two-each = right-each two-bad refl
 formatted-is : (title : List ℕ) (number : ℕ)
     → (trackAfterHeader (formatDisk (argumentsOf title number [])) ≡ record { reply = replyWith 0 0 0 0; free = 1434; good = 1440; held = 2 })
     × (trackAfterHeader (formatDisk (argumentsOf title number two-bad)) ≡ record { reply = replyWith 0 0 0 0; free = 1428; good = 1434; held = 4 })
-    × (trackAfterHeader (setByte (formatDisk (argumentsOf title number [])) 0 103 0x50) ≡ record { reply = replyWith 0 0 0 0; free = 1434; good = 1440; held = 2 })
+    × (trackAfterHeader (setByte (formatDisk (argumentsOf title number [])) 0 103 0x50)
+    ≡ record { reply = replyWith 0 0 0 0; free = 1434; good = 1440; held = 2 })
     × (trackAfterHeader (setByte (formatDisk (argumentsOf title number [])) 0 23 0x9F) ≡ record { reply = replyWith 19 0 0 0; free = 0; good = 0; held = 0 })
     × (trackAfterHeader (setByte (setByte (formatDisk (argumentsOf title number [])) 0 21 0x9B) 0 23 0x9F)
     ≡ record { reply = replyWith 19 0 0 0; free = 0; good = 0; held = 0 })
     × (trackAfterHeader (setByte (formatDisk (argumentsOf title number [])) 0 21 0x9B) ≡ record { reply = replyWith 11 0 0 0; free = 0; good = 0; held = 0 })
-unfolding trackAfterHeader refusal9 refusal19 refusal11 mapFault recordAt numberAt freeRight freeCount freeAt goodRight badCount badAt isBad badBlocks listed
-    counted formatDisk diskWith diskHeaderByte fixedByte patch highByte at16 bigEndian lowest count
+unfolding trackAfterHeader refusal9 refusal19 refusal11 mapFault recordAt numberAt freeRight freeCount freeAt
+    goodRight badCount badAt isBadRecord countListed listed counted formatDisk diskWith diskHeaderByte fixedByte patch highByte at16 bigEndian lowest count
     decode encode numberOf freshOwner recordFault isSystem isOther isFree faultBelow unless orElse setByte upd
 formatted-is title number = (refl, refl, refl, refl, refl, refl)
 

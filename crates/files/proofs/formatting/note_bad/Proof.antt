@@ -8,7 +8,7 @@ use lib.ListN.{length, getD}
 use borrow.Author.Needs.{needs}
 use Rattle.sector_rules.specs.Geometry.{blocks}
 use Rattle.files.specs.Laws.Loading.Tally.{Tallied, tally-more}
-use Rattle.files.specs.Laws.Calling.BadNoted.{entry-low}
+use Rattle.files.specs.Laws.Calling.BadNoted.{entry-block}
 use Rattle.files.proofs.formatting.note_bad.Statement.{statement}
 use Rattle.files.proofs.formatting.note_bad.Tie as tie
 
@@ -34,7 +34,7 @@ element-copy-out-more : tie.Need-element-copy-out-more Inv-loop μ-loop
 element-copy-out-more c =
     let at-loop = c .before .before .before in
     let start = at-loop .before .before in
-    omega (arith, c .block-number .ensures, entry-low (start .args .bad .now) (start .pre .0) (at-loop .loop .i) (omega arith))
+    omega (arith, c .block-number .ensures, entry-block (start .args .bad .now) (start .pre .0) (at-loop .loop .i) (omega arith))
 
 more-requires : tie.Need-more-requires Inv-loop μ-loop
 more-requires c κs = search needs
@@ -44,7 +44,7 @@ element-write-noted c =
     let after-block-number = c .before .before in
     let at-loop = after-block-number .before .before .before in
     let start = at-loop .before .before in
-    omega (arith, after-block-number .block-number .ensures, entry-low (start .args .bad .now) (start .pre .0) (at-loop .loop .i) (omega arith))
+    omega (arith, after-block-number .block-number .ensures, entry-block (start .args .bad .now) (start .pre .0) (at-loop .loop .i) (omega arith))
 
 add-i : tie.Need-add-i Inv-loop μ-loop
 add-i c = search needs
@@ -60,7 +60,7 @@ loop-again c =
     let start = at-loop .before .before in (
       omega arith,
       tally-more _ _ _ _ (at-loop .loop .inv .1) _ (block-number .ensures) _
-          (omega (arith, block-number .ensures, entry-low (start .args .bad .now) (start .pre .0) (at-loop .loop .i) (omega arith))) (c .more .ensures),
+          (omega (arith, block-number .ensures, entry-block (start .args .bad .now) (start .pre .0) (at-loop .loop .i) (omega arith))) (c .more .ensures),
     )
 
 returns : tie.Need-returns Inv-loop μ-loop

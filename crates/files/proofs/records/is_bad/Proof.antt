@@ -2,7 +2,7 @@
 -- Rests on: the code alone.
 -- Assumes nothing.
 use borrow.Author.Needs.{needs}
-use Rattle.file_rules.specs.Map.{isBad}
+use Rattle.file_rules.specs.Map.{isBadRecord}
 use Rattle.files.proofs.records.is_bad.Statement.{statement}
 use Rattle.files.proofs.records.is_bad.Tie as tie
 
@@ -22,23 +22,23 @@ enum-told-5 : tie.Need-enum-told-5
 enum-told-5 c = search needs
 
 returns : tie.Need-returns
-unfolding isBad
+unfolding isBadRecord
 returns c = rw (c .enum-told .given .1)
 
 returns-2 : tie.Need-returns-2
-unfolding isBad
+unfolding isBadRecord
 returns-2 c = rw (c .enum-told2 .given .1)
 
 returns-3 : tie.Need-returns-3
-unfolding isBad
+unfolding isBadRecord
 returns-3 c = rw (c .enum-told3 .given .1)
 
 returns-4 : tie.Need-returns-4
-unfolding isBad
+unfolding isBadRecord
 returns-4 c = rw (c .enum-told4 .given .1)
 
 returns-5 : tie.Need-returns-5
-unfolding isBad
+unfolding isBadRecord
 returns-5 c = rw (c .enum-told5 .given .1)
 
 pub is-bad-spec : {M : Type 1} → statement M

@@ -15,7 +15,7 @@ use Rattle.laws.specs.Laws.Tests.{le-true, le-false, lt-true, lt-false, true-lt
 use Rattle.sector_rules.specs.Geometry.{blocks}
 use Rattle.file_rules.specs.declared.Record.{Record}
 use Rattle.file_rules.specs.declared.Record.the-variants.{Free, Bad, System, File}
-use Rattle.file_rules.specs.Arguments.{FormatArguments, listed, badListRight, badBlocks}
+use Rattle.file_rules.specs.Arguments.{FormatArguments, listed, badListRight, countListed}
 use Rattle.file_rules.specs.Calls.{freshOwner}
 use Rattle.file_rules.specs.Laws.Base.BadList.{right-each, low-unlisted}
 use Rattle.files.specs.Laws.Loading.Tally.{Tallied, tally-zero}
@@ -49,9 +49,9 @@ right-entries (x ∷ xs) =
     ap (λ (t : Bool). (leb 2 x && ltb x blocks) && t) (right-entries xs) ∙ sym (all-front (λ (i : ℕ). canBeBad (getD (x ∷ xs) i 0)) (length xs))
 
 -- so each entry of a right list is a block
-pub entry-low : (bad : List ℕ) → badListRight bad ≡ true → (i : ℕ) → i < length bad → getD bad i 0 < blocks
+pub entry-block : (bad : List ℕ) → badListRight bad ≡ true → (i : ℕ) → i < length bad → getD bad i 0 < blocks
 unfolding canBeBad
-entry-low bad t i h =
+entry-block bad t i h =
     true-lt (and-right (leb 2 (getD bad i 0)) (ltb (getD bad i 0) blocks)
     (all-at (λ (j : ℕ). canBeBad (getD bad j 0)) (length bad) (sym (right-entries bad) ∙ t) i h))
 
@@ -91,13 +91,13 @@ module _ (noted bad : List ℕ) (n : BadNoted noted bad) where
   noted-listed b l = ap not (tally-zero noted blocks (λ (i : ℕ). getD bad i 0) (length bad) n b l) ∙ sym (listed-entries b bad)
 
   -- as many blocks are tallied as the list has
-  pub noted-count : count blocks (isNoted noted) ≡ badBlocks bad
-  unfolding badBlocks
+  pub noted-count : count blocks (isNoted noted) ≡ countListed bad
+  unfolding countListed
   noted-count = count-cong blocks (isNoted noted) (λ (b : ℕ). listed b bad) noted-listed
 
   -- they leave two blocks at least
   pub noted-most : badListRight bad ≡ true → count blocks (isNoted noted) + 2 ≤ blocks
-  unfolding badBlocks
+  unfolding countListed
   noted-most t =
       let each = right-each bad t in
       let few : count blocks (λ (b : ℕ). listed b bad) + 2 ≤ blocks =

@@ -22,7 +22,7 @@ use Rattle.sector_rules.specs.Laws.Base.Geometry.{side-place-length, backward-l
 use Rattle.sector_rules.specs.Replies.{done, refusal}
 use Rattle.file_rules.specs.declared.Record.{Record}
 use Rattle.file_rules.specs.declared.Record.the-variants.{Free, Bad, System, File}
-use Rattle.file_rules.specs.Arguments.{FormatArguments, badListRight, badBlocks}
+use Rattle.file_rules.specs.Arguments.{FormatArguments, badListRight, countListed}
 use Rattle.file_rules.specs.Calls.{freshOwner, freshHeader, formatDisk, imageRight, imageKept, wrongLength, format}
 use Rattle.file_rules.specs.Check.{diskSignature}
 use Rattle.file_rules.specs.Disk.{Disk, diskOf, imageOf}
@@ -66,7 +66,7 @@ started h n =
     36 2 (highByte 2 slotBytes)
 
 -- the three parts of the header, written into 96 bytes FF, are the fresh header
-pub header-row : (h₀ h₁ h₂ h₃ : List ℕ) (args : FormatArguments) (n : ℕ) → n ≡ badBlocks (args .bad) → h₀ ≡ tab (λ (i : ℕ). 0xFF) mapStart
+pub header-row : (h₀ h₁ h₂ h₃ : List ℕ) (args : FormatArguments) (n : ℕ) → n ≡ countListed (args .bad) → h₀ ≡ tab (λ (i : ℕ). 0xFF) mapStart
     → h₁ ≡ titled h₀ (args .title) (args .number) → h₂ ≡ sized h₁ n → h₃ ≡ started h₂ n → h₃ ≡ tab (freshHeader args) mapStart
 unfolding diskHeaderByte fixedByte titled sized started diskSignature
 header-row h₀ h₁ h₂ h₃ args n q e₀ e₁ f₂ f₃ =
@@ -75,7 +75,7 @@ header-row h₀ h₁ h₂ h₃ args n q e₀ e₁ f₂ f₃ =
     let a₁ = put-row h₀ 0 diskSignature 4 refl ∙ overlay-tab _ mapStart 0 4 _ _ e₀ in
     let a₂ = overlay-tab _ mapStart 4 titleMost (λ (i : ℕ). getD (args .title) i 32) _ a₁ in
     let a₃ = e₁ ∙ overlay-tab _ mapStart 14 2 (highByte 2 (args .number)) _ a₂ in
-    let b₁ = overlay-tab _ mapStart 22 2 (highByte 2 (goodSectors (badBlocks (args .bad)))) _ a₃ in
+    let b₁ = overlay-tab _ mapStart 22 2 (highByte 2 (goodSectors (countListed (args .bad)))) _ a₃ in
     let b₂ = overlay-tab _ mapStart 24 2 (highByte 2 allSectors) _ b₁ in
     let b₃ = overlay-tab _ mapStart 26 2 (highByte 2 sectors) _ b₂ in
     let b₄ = overlay-tab _ mapStart 28 2 (highByte 2 trackSectors) _ b₃ in
@@ -86,7 +86,7 @@ header-row h₀ h₁ h₂ h₃ args n q e₀ e₁ f₂ f₃ =
     let c₂ = put-row (put h₂ 40 sidePlace) 58 backward trackSectors backward-length
     ∙ overlay-tab _ mapStart 58 trackSectors (λ (i : ℕ). getD backward i 0) _ c₁ in
     let c₃ = overlay-tab _ mapStart 16 4 (highByte 4 0) _ c₂ in
-    let c₄ = overlay-tab _ mapStart 20 2 (highByte 2 (freeSectors (blocks - 2 - badBlocks (args .bad)))) _ c₃ in
+    let c₄ = overlay-tab _ mapStart 20 2 (highByte 2 (freeSectors (blocks - 2 - countListed (args .bad)))) _ c₃ in
     let c₅ = overlay-tab _ mapStart 34 2 (highByte 2 0) _ c₄ in
     e₃ ∙ overlay-tab _ mapStart 36 2 (highByte 2 slotBytes) _ c₅
 

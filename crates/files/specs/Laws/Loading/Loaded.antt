@@ -17,7 +17,7 @@ use Rattle.sector_rules.specs.declared.BlockNumber.{BlockNumber}
 use Rattle.file_rules.specs.declared.Record.{Record}
 use Rattle.file_rules.specs.declared.MapRecord.{MapRecord}
 use Rattle.file_rules.specs.Disk.{Disk}
-use Rattle.file_rules.specs.Map.{decode, recordByte, numberAt, recordAt, isFree, isBad, isPart, freeAt, freeCount, badAt, badCount, partBlock}
+use Rattle.file_rules.specs.Map.{decode, recordByte, numberAt, recordAt, isFree, isBadRecord, isPart, freeAt, freeCount, badAt, badCount, partBlock}
 use Rattle.file_rules.specs.Check.{recordFault, mapFault}
 use Rattle.file_rules.specs.Sizes.{blockBytes, mapStart, recordBytes}
 
@@ -31,7 +31,7 @@ recordWithBlock map b = record { block = b; «record» = loadedRecord map (b .0)
 
 -- whether a record is one of those that are counted: the bad ones, or the free ones
 unfoldable pub isCounted : Bool → Record → Bool
-isCounted true r = isBad r
+isCounted true r = isBadRecord r
 isCounted false r = isFree r
 
 -- a loaded map has the numbers of the disk's records
@@ -78,9 +78,10 @@ module _ (map : List ℕ) (d : Disk) (m : MapLoaded map d) where
   free-loaded = count-cong blocks (λ (b : ℕ). isFree (loadedRecord map b)) (λ (b : ℕ). isFree (recordAt d b)) (λ b h. ap isFree (record-loaded b h))
 
   -- and as many bad ones
-  pub bad-loaded : count blocks (λ (b : ℕ). isBad (loadedRecord map b)) ≡ badCount d
+  pub bad-loaded : count blocks (λ (b : ℕ). isBadRecord (loadedRecord map b)) ≡ badCount d
   unfolding badCount badAt
-  bad-loaded = count-cong blocks (λ (b : ℕ). isBad (loadedRecord map b)) (λ (b : ℕ). isBad (recordAt d b)) (λ b h. ap isBad (record-loaded b h))
+  bad-loaded =
+      count-cong blocks (λ (b : ℕ). isBadRecord (loadedRecord map b)) (λ (b : ℕ). isBadRecord (recordAt d b)) (λ b h. ap isBadRecord (record-loaded b h))
 
   -- the block of a part by the loaded map is the disk's
   pub part-loaded : (f s : ℕ) → lowest (λ (b : ℕ). isPart f s (loadedRecord map b)) blocks ≡ partBlock d f s
