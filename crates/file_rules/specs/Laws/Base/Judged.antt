@@ -5,7 +5,7 @@ use mathlib.Core.Logic.{_≢_}
 use mathlib.Core.Bool.{Bool, true, false}
 use mathlib.Core.List.{List}
 use mathlib.Core.Option.{Option, none, some}
-use Prim.Native.Nat.{ℕ}
+use Prim.Native.Nat.{ℕ, _<_}
 use native.Mathlib.Omega.{arith}
 use lib.ListN.{length, take}
 use Rattle.laws.specs.Options.{orElse}
@@ -61,6 +61,18 @@ none-some r e = let z : _≡_ {A = ℕ} 0 1 = cc in absurd (omega arith)
 
 some-same : (q r : Reply) → some q ≡ some r → q ≡ r
 some-same q r e = cc
+
+-- ---- 9
+
+-- where no record is wrong 9 is not found
+pub nine-absent : (d : Disk) → mapFault d ≡ blocks → refusal9 d ≡ none
+unfolding refusal9 faultBelow
+nine-absent d e = ap (refusalAt 9) (cond-false (At (mapFault d)) Sound (lt-false {a = mapFault d} {b = blocks} (omega (arith, e))))
+
+-- where one is, 9 names the lowest block with such a record
+pub nine-present : (d : Disk) (b : ℕ) → b < blocks → mapFault d ≡ b → refusal9 d ≡ some (replyWith 9 b 0 0)
+unfolding refusal9 faultBelow
+nine-present d b l e = ap (λ (m : ℕ). refusalAt 9 (faultBelow blocks m)) e ∙ ap (refusalAt 9) (cond-true (At b) Sound (lt-true l))
 
 -- ---- check
 
@@ -149,11 +161,10 @@ module _ (image : List ℕ) where
 
   -- where the header is right and the record of block 0 is wrong, 9 names it
   pub nine-at-zero : length image ≡ imageBytes → refusal8 d ≡ none → recordFault 0 (recordAt d 0) ≡ true → check image ≡ replyWith 9 0 0 0
-  unfolding check diskRefusal startRefusal orElse refusal9 faultBelow mapFault
+  unfolding check diskRefusal startRefusal orElse mapFault
   nine-at-zero long right wrong =
       let at : mapFault d ≡ 0 = omega (arith, lowest-here (λ (j : ℕ). recordFault j (recordAt d j)) blocks 0 wrong) in
-      let nine : refusal9 d ≡ some (replyWith 9 0 0 0) = ap (λ (m : ℕ). refusalAt 9 (faultBelow blocks m)) at in
-      sound-refused image _ _ long (replyWith 9 0 0 0) (rw (right, nine))
+      sound-refused image _ _ long (replyWith 9 0 0 0) (rw (right, nine-present d 0 (omega arith) at))
 
   -- where 19 is not given, the good word is right
   pub passed-nineteen : refusal19 d ≡ none → goodRight d ≡ true
@@ -230,3 +241,23 @@ module _ (image : List ℕ) where
       let w : (judgedFirst d ≡ counted d) × (freeRight d ≡ true) × (goodRight d ≡ true) =
       track-by (orElse (startRefusal d) (refusal11 d)) refl (ap (λ (x : FirstTrack). x .reply) (sym is) ∙ e) in
       (is ∙ w .0, w .1, w .2)
+
+  alike-by : length image ≡ imageBytes → check image .number ≢ 10 → (u v w : Option Reply)
+      → startRefusal d ≡ u → refusal10 d ≡ v → refusal11 d ≡ w → judgedFirst d .reply ≡ check image
+  unfolding check diskRefusal judgedFirst orElse unless counted
+  alike-by long n (some r) v w e f g =
+      let is : judgedFirst d ≡ refusedTrack r = rw e in
+      ap (λ (x : FirstTrack). x .reply) is ∙ sym (sound-refused image _ _ long r (rw e))
+  alike-by long n none (some r) w e f g =
+      absurd (n (ap (λ (x : Reply). x .number) (sound-refused image _ _ long r (rw (e, f))) ∙ subst (Numbered 10) f ten-number))
+  alike-by long n none none (some r) e f g =
+      let is : judgedFirst d ≡ refusedTrack r = rw (e, g) in
+      ap (λ (x : FirstTrack). x .reply) is ∙ sym (sound-refused image _ _ long r (rw (e, f, g)))
+  alike-by long n none none none e f g =
+      let is : judgedFirst d ≡ counted d = rw (e, g) in
+      ap (λ (x : FirstTrack). x .reply) is ∙ sym (sound-passed image _ _ long (rw (e, f, g)))
+
+  -- the first track has check's reply, where that is not 10
+  pub track-alike : length image ≡ imageBytes → check image .number ≢ 10 → firstTrackResult (take 9216 image) .reply ≡ check image
+  track-alike long n =
+      ap (λ (x : FirstTrack). x .reply) (track-is image long) ∙ alike-by long n (startRefusal d) (refusal10 d) (refusal11 d) refl refl refl

@@ -17,7 +17,7 @@ use Rattle.file_rules.specs.declared.Record.{Record}
 use Rattle.file_rules.specs.declared.Record.the-variants.{Free, Bad, System, File, Other}
 use Rattle.file_rules.specs.Disk.{Disk}
 use Rattle.file_rules.specs.Map.{fileBound, freeByte, tailCount, badNumber, systemNumber, sequences, decode, numberOf, encode}
-use Rattle.file_rules.specs.Map.{recordByte, numberAt, recordAt, isFree, isBadRecord, freeAt, badAt}
+use Rattle.file_rules.specs.Map.{recordByte, numberAt, recordAt, isFree, isBadRecord, isSystem, freeAt, badAt}
 use Rattle.file_rules.specs.Sizes.{mapStart, recordBytes}
 use Rattle.file_rules.specs.Written.{setRecord}
 
@@ -96,7 +96,35 @@ free-by-byte d b h =
     (λ u. by-cond (λ (r : Record). isFree r ≡ false) (eqb n badNumber) Bad Other (λ w. refl) (λ w. refl))
     ∙ sym (eq-false (λ e. false-eq t (top ∙ e)))))
 
--- it is bad by all three
+-- a number's record is bad where the number is the bad one, which is of no other kind
+pub bad-by-number : (n : ℕ) → isBadRecord (decode n) ≡ eqb n badNumber
+unfolding decode isBadRecord
+bad-by-number n =
+    by-equal n badNumber (λ e. ap (λ (m : ℕ). isBadRecord (decode m)) e ∙ sym (eq-true {a = n} {b = badNumber} e)) (λ e. not-bad e ∙ sym (eq-false {a = n} {b = badNumber} e))
+  where
+    not-bad : n ≢ badNumber → isBadRecord (decode n) ≡ false
+    not-bad e =
+        by-cond (λ (r : Record). isBadRecord r ≡ false) (ltb n fileBound) (File (n / sequences) (n % sequences)) _ (λ t. refl)
+        (λ t. by-cond (λ (r : Record). isBadRecord r ≡ false) (eqb (n / tailCount) freeByte) Free _ (λ u. refl)
+        (λ u. by-cond (λ (r : Record). isBadRecord r ≡ false) (eqb n systemNumber) System _ (λ v. refl)
+        (λ v. by-cond (λ (r : Record). isBadRecord r ≡ false) (eqb n badNumber) Bad Other (λ w. absurd (e (true-eq w))) (λ w. refl))))
+
+-- so it is with the system's
+pub system-by-number : (n : ℕ) → isSystem (decode n) ≡ eqb n systemNumber
+unfolding decode isSystem
+system-by-number n =
+    by-equal n systemNumber
+    (λ e. ap (λ (m : ℕ). isSystem (decode m)) e ∙ sym (eq-true {a = n} {b = systemNumber} e))
+    (λ e. not-system e ∙ sym (eq-false {a = n} {b = systemNumber} e))
+  where
+    not-system : n ≢ systemNumber → isSystem (decode n) ≡ false
+    not-system e =
+        by-cond (λ (r : Record). isSystem r ≡ false) (ltb n fileBound) (File (n / sequences) (n % sequences)) _ (λ t. refl)
+        (λ t. by-cond (λ (r : Record). isSystem r ≡ false) (eqb (n / tailCount) freeByte) Free _ (λ u. refl)
+        (λ u. by-cond (λ (r : Record). isSystem r ≡ false) (eqb n systemNumber) System _ (λ v. absurd (e (true-eq v)))
+        (λ v. by-cond (λ (r : Record). isSystem r ≡ false) (eqb n badNumber) Bad Other (λ w. refl) (λ w. refl))))
+
+-- the record of a disk's block is bad by all three of its bytes
 pub bad-by-bytes : (d : Disk) (b : ℕ) → ((i : ℕ) → i < recordBytes → recordByte d b i < 256)
     → badAt d b ≡ (eqb (recordByte d b 0) 0xFE && (eqb (recordByte d b 1) 0xFF && eqb (recordByte d b 2) 0xFF))
 unfolding badAt recordAt numberAt bigEndian decode isBadRecord
@@ -112,20 +140,13 @@ bad-by-bytes d b h =
     let r : z ≡ 0xFF = omega (arith, h 0 (omega arith), h 1 (omega arith), h 2 (omega arith)) in
     ap (λ (m : ℕ). isBadRecord (decode m)) e ∙ sym (and-true (eq-true p) (and-true (eq-true q) (eq-true r))))
     (λ e.
-    not-bad n e
+    bad-by-number n ∙ eq-false {a = n} {b = badNumber} e
     ∙ sym (by-test (eqb x 0xFE)
     (λ p. by-test (eqb y 0xFF)
     (λ q. and-false-right (eqb x 0xFE) (and-false-right (eqb y 0xFF) (eq-false {a = z} {b = 0xFF}
     (λ r. e (omega (arith, r, true-eq {a = x} {b = 0xFE} p, true-eq {a = y} {b = 0xFF} q))))))
     (λ q. and-false-right (eqb x 0xFE) (and-false-left (eqb z 0xFF) q)))
     (λ p. and-false-left (eqb y 0xFF && eqb z 0xFF) p)))
-  where
-    not-bad : (n : ℕ) → n ≢ badNumber → isBadRecord (decode n) ≡ false
-    not-bad n e =
-        by-cond (λ (r : Record). isBadRecord r ≡ false) (ltb n fileBound) (File (n / sequences) (n % sequences)) _ (λ t. refl)
-        (λ t. by-cond (λ (r : Record). isBadRecord r ≡ false) (eqb (n / tailCount) freeByte) Free _ (λ u. refl)
-        (λ u. by-cond (λ (r : Record). isBadRecord r ≡ false) (eqb n systemNumber) System _ (λ v. refl)
-        (λ v. by-cond (λ (r : Record). isBadRecord r ≡ false) (eqb n badNumber) Bad Other (λ w. absurd (e (true-eq w))) (λ w. refl))))
 
 -- a record in bytes that begins with FD is the free one
 pub begins-free : (d : Disk) (b : ℕ) → ((i : ℕ) → i < recordBytes → recordByte d b i < 256) → recordByte d b 0 ≡ freeByte → recordAt d b ≡ Free

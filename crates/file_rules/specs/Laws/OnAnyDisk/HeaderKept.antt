@@ -1,4 +1,5 @@
--- The header through an add or a remove: every byte but those of update count, free word and length of the directory stays (§8.12, §8.13).
+-- The header through an add or a remove: every byte but those of update count and free word stays, and through an add of the length of the directory
+-- (§8.12, §8.13).
 -- Rests on which blocks are given (Kept).
 use mathlib.Core.Path.{_≡_, refl, sym, _∙_}
 use mathlib.Core.Logic.{_≢_}
@@ -37,14 +38,14 @@ module _ (o : ℕ) (u : Unwritten o) where
   word-kept : (d : Disk) (p n : ℕ) (g : ℕ → ℕ) → (p ≤ o → p + n ≤ o) → patch (d 0) p n g o ≡ d 0 o
   word-kept d p n g away = by-order o p (λ h. patch-below (d 0) p n g o h) (λ h. patch-above (d 0) p n g o (away h))
 
-  end-kept : (d : Disk) (k end : ℕ) → SameByte d (endAfter k end d)
+  end-kept : (34 ≤ o → 38 ≤ o) → (d : Disk) (k end : ℕ) → SameByte d (endAfter k end d)
   unfolding endAfter setEnd setWord
-  end-kept d k end =
+  end-kept after d k end =
       by-cond (SameByte d) (eqb k end) (setEnd d (suc k)) d
       (λ t.
       let d₁ : Disk = setWord d 34 _ in
-      sym (upd₂-same d₁ 0 _ 0 o refl ∙ word-kept d₁ 36 2 _ (λ h. omega (arith, u .2 (omega arith)))
-      ∙ upd₂-same d 0 _ 0 o refl ∙ word-kept d 34 2 _ (λ h. omega (arith, u .2 (omega arith)))))
+      sym (upd₂-same d₁ 0 _ 0 o refl ∙ word-kept d₁ 36 2 _ (λ h. omega (arith, after (omega arith)))
+      ∙ upd₂-same d 0 _ 0 o refl ∙ word-kept d 34 2 _ (λ h. omega (arith, after (omega arith)))))
       (λ t. refl)
 
   free-kept : (d : Disk) → SameByte d (setFree d)
@@ -73,9 +74,9 @@ module _ (o : ℕ) (u : Unwritten o) where
       given-kept d x (part c s) (File f s) (a .0) ∙ give-kept bs (setRecord (setBlock d x (part c s)) x (File f s)) f c (suc s) (a .1)
 
   -- an add leaves it
-  pub add-header-kept : (d : Disk) → recordAt d 0 ≡ System → (k : ℕ) (x : Entry) (content : List ℕ) → SameByte d (addAt d k x content)
+  pub add-header-kept : (34 ≤ o → 38 ≤ o) → (d : Disk) → recordAt d 0 ≡ System → (k : ℕ) (x : Entry) (content : List ℕ) → SameByte d (addAt d k x content)
   unfolding addAt growDir
-  add-header-kept d first k x content =
+  add-header-kept after d first k x content =
       let n : ℕ = blocksFor (length content) in
       let d₁ : Disk = growDir d k in
       let first₁ : recordAt d₁ 0 ≡ System = grow-system d first k in
@@ -86,7 +87,7 @@ module _ (o : ℕ) (u : Unwritten o) where
       by-cond (SameByte d) (opensBlock d k) _ d
       (λ t. give-kept (firsts blocks 1 (freeAt d)) d 0 zeros (k / blockSlots) (firsts-not-first d first 1)) (λ t. refl)
       ∙ give-kept (firsts blocks n (freeAt d₁)) d₁ k (storedByte x content) 0 (firsts-not-first d₁ first₁ n)
-      ∙ slot-kept d₂ first₂ k (entryByte x) ∙ end-kept d₃ k (dirEnd d) ∙ free-kept d₄ ∙ update-kept (setFree d₄)
+      ∙ slot-kept d₂ first₂ k (entryByte x) ∙ end-kept after d₃ k (dirEnd d) ∙ free-kept d₄ ∙ update-kept (setFree d₄)
 
   freed-header : (d : Disk) → recordAt d 0 ≡ System → (f n : ℕ) → n ≤ blocks → SameByte d (freeBlocks n d f)
   unfolding freeBlocks freeBlock

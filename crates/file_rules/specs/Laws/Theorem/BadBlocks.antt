@@ -2,30 +2,32 @@
 -- (OnAnyDisk: Kept, BlockBytes, HeaderKept, Stays); which records are bad after a history is read off the inner model's disk.
 use mathlib.Core.Path.{_≡_, refl, sym, ap, _∙_, subst}
 use mathlib.Core.Logic.{_≢_}
-use mathlib.Core.Bool.{Bool, true, false, _&&_}
+use mathlib.Core.Bool.{Bool, true, false, not, _&&_, _||_}
 use mathlib.Core.List.{List, [], _∷_, _++_}
 use mathlib.Core.Option.{Option, none, some}
-use Prim.Native.Nat.{ℕ, zero, suc, _+_, _-_, _*_, _%_, _≤_, _<_}
+use Prim.Native.Nat.{ℕ, zero, suc, _+_, _-_, _*_, _/_, _%_, _≤_, _<_}
 use native.Mathlib.Omega.{arith}
-use lib.Dec.{eqb}
+use lib.Dec.{leb, ltb, eqb}
 use lib.ListN.{length, take}
 use Rattle.laws.specs.Below.{count}
-use Rattle.laws.specs.Numbers.{at16, highByte}
+use Rattle.laws.specs.Numbers.{at16, bigEndian, highByte}
 use Rattle.laws.specs.Options.{orElse}
-use Rattle.laws.specs.Laws.Cases.{by-order, by-equal, by-test}
+use Rattle.laws.specs.Laws.Cases.{by-order, by-equal, by-test, by-cond}
 use Rattle.laws.specs.Laws.Count.{count-cong, count-le}
-use Rattle.laws.specs.Laws.Tests.{eq-true, eq-false, true-eq, false-eq, true≢false, cond-false, or-left, or-right, or-other}
+use Rattle.laws.specs.Laws.Lowest.{lowest-none, lowest-some}
+use Rattle.laws.specs.Laws.Tests.{eq-true, eq-false, true-eq, false-eq, true≢false, cond-true, cond-false, or-left, or-right, or-other}
+use Rattle.laws.specs.Laws.Tests.{le-true, le-false, true-lt, false-lt, and-true, and-false-left, and-false-right}
 use Rattle.sector_rules.specs.Faults.{refusalAt}
 use Rattle.sector_rules.specs.Geometry.{blocks, imageBytes}
-use Rattle.sector_rules.specs.Replies.{done, refusal}
+use Rattle.sector_rules.specs.Replies.{replyWith, done, refusal}
 use Rattle.sector_rules.specs.declared.Reply.{Reply}
 use Rattle.file_rules.specs.declared.FirstTrack.{FirstTrack}
 use Rattle.file_rules.specs.declared.Record.{Record}
-use Rattle.file_rules.specs.declared.Record.the-variants.{Free, Bad, System}
+use Rattle.file_rules.specs.declared.Record.the-variants.{Free, Bad, System, File, Other}
 use Rattle.file_rules.specs.Arguments.{FormatArguments, listed, EachCanBeBad}
-use Rattle.file_rules.specs.BadBlocks.{hasBadBytes, badByBytes, diskAtEnd, Unwritten, AnswersAs, BadBlocks}
+use Rattle.file_rules.specs.BadBlocks.{hasBadBytes, badByBytes, threeBytes, isWrong, diskAtEnd, Unwritten, AnswersAs, BadBlocks}
 use Rattle.file_rules.specs.Calls.{Outcome, ImageChanged, bufferKept, imageKept, wrongLength, onSound, freshOwner, check, list, read, add, remove}
-use Rattle.file_rules.specs.Check.{recordFault, goodRight, refusal8, refusal9, startRefusal, diskRefusal}
+use Rattle.file_rules.specs.Check.{recordFault, mapFault, goodRight, refusal8, refusal9, startRefusal, diskRefusal}
 use Rattle.file_rules.specs.Directory.{findName, vacantSlot}
 use Rattle.file_rules.specs.Disk.{Disk, diskOf, imageOf}
 use Rattle.file_rules.specs.FirstTrack.{refusedTrack, counted, firstTrackResult}
@@ -35,10 +37,10 @@ use Rattle.file_rules.specs.History.{formatted}
 use Rattle.file_rules.specs.Laws.Base.BadList.{different-is, bad-most}
 use Rattle.file_rules.specs.Laws.Base.Disk.{inside-disk}
 use Rattle.file_rules.specs.Laws.Base.Header.{judged-alike}
-use Rattle.file_rules.specs.Laws.Base.Judged.{check-passed, nine-wrong, nine-at-zero, passed-nineteen, nineteen-wrong, wrong-start, start-refused}
-use Rattle.file_rules.specs.Laws.Base.Judged.{track-accepted}
+use Rattle.file_rules.specs.Laws.Base.Judged.{nine-absent, nine-present, check-passed, nine-wrong, passed-nineteen, nineteen-wrong, wrong-start, start-refused}
+use Rattle.file_rules.specs.Laws.Base.Judged.{track-accepted, track-alike}
 use Rattle.file_rules.specs.Laws.Base.OnSound.{sound-length, sound-refused, sound-passed}
-use Rattle.file_rules.specs.Laws.Base.Records.{bad-only, bad-by-bytes}
+use Rattle.file_rules.specs.Laws.Base.Records.{bad-only, bad-by-bytes, system-by-number}
 use Rattle.file_rules.specs.Laws.Base.Sound.{sound-start, start-nineteen}
 use Rattle.file_rules.specs.Laws.Base.Whole.{With, with-is}
 use Rattle.file_rules.specs.Laws.InnerModel.Inner.{Inner, header, render, innerFormat, innerEnd}
@@ -51,7 +53,8 @@ use Rattle.file_rules.specs.Laws.OnAnyDisk.Stays.{by-add, by-remove, add
 use Rattle.file_rules.specs.Laws.OnImages.Run.{format-inv, img-disk, end-inv}
 use Rattle.file_rules.specs.Laws.Theorem.FreeTails.{written-free}
 use Rattle.file_rules.specs.Laws.Theorem.History.{same-arguments, end-is}
-use Rattle.file_rules.specs.Map.{encode, recordAt, isFree, isBadRecord, isSystem, isOther, freeAt, badAt, badCount}
+use Rattle.file_rules.specs.Map.{fileBound, freeByte, tailCount, systemNumber, badNumber, sequences, decode, encode, numberAt, recordAt, bears, isPart, within}
+use Rattle.file_rules.specs.Map.{isFree, isBadRecord, isSystem, isOther, freeAt, badAt, badCount}
 use Rattle.file_rules.specs.Model.{differentBlocks, content}
 use Rattle.file_rules.specs.Sizes.{blockBytes, mapStart, titleMost, goodSectors}
 
@@ -68,6 +71,39 @@ has-bad d b bytes t = bad-only (recordAt d b) (three-is d b bytes ∙ t)
 bad-fault : (b : ℕ) → recordFault b Bad ≡ eqb b 0
 unfolding recordFault isSystem isOther
 bad-fault b = by-test (eqb b 0) (λ t. rw t) (λ t. rw t)
+
+-- what 9 finds wrong, by a record's number
+module _ (n : ℕ) where
+  abbrev later : Bool
+  later = leb 0xF80000 n && (not (eqb (n / 0x10000) 0xFD) && not (eqb n 0xFEFFFF))
+
+  abbrev AsLater : Record → Type 0
+  AsLater r = (isSystem r || isOther r) ≡ later
+
+  later-is : AsLater (decode n)
+  unfolding decode isSystem isOther
+  later-is =
+      by-cond AsLater (ltb n fileBound) (File (n / sequences) (n % sequences)) _
+      (λ t. sym (and-false-left _ (le-false {a = 0xF80000} {b = n} (true-lt {a = n} {b = fileBound} t))))
+      (λ t. by-cond AsLater (eqb (n / tailCount) freeByte) Free _
+      (λ u. sym (and-false-right (leb 0xF80000 n) (and-false-left _ (ap not u))))
+      (λ u. by-cond AsLater (eqb n systemNumber) System _
+      (λ w. let e : n ≡ 0xF80000 = true-eq w in rw e)
+      (λ w. by-cond AsLater (eqb n badNumber) Bad Other
+      (λ x. let e : n ≡ 0xFEFFFF = true-eq x in rw e)
+      (λ x. sym (and-true (le-true {a = 0xF80000} {b = n} (false-lt {a = n} {b = fileBound} t)) (and-true (ap not u) (ap not x)))))))
+
+number-is : (d : Disk) (b : ℕ) → numberAt d b ≡ threeBytes d b
+unfolding numberAt bigEndian threeBytes
+number-is d b = omega arith
+
+fault-is : (d : Disk) (b : ℕ) → recordFault b (recordAt d b) ≡ isWrong b (threeBytes d b)
+unfolding recordFault recordAt isWrong
+fault-is d b =
+    ap (λ (m : ℕ). recordFault b (decode m)) (number-is d b)
+    ∙ by-test (eqb b 0)
+    (λ t. cond-true _ _ t ∙ ap not (system-by-number (threeBytes d b)) ∙ sym (cond-true _ _ t))
+    (λ t. cond-false _ _ t ∙ later-is (threeBytes d b) ∙ sym (cond-false _ _ t))
 
 module _ (d : Disk) (bytes : MapInBytes d) where
   bad-counted : badCount d ≡ badByBytes d
@@ -108,6 +144,15 @@ module _ (image : List ℕ) (long : length image ≡ imageBytes) where
   nine-given : (r : Reply) → refusal8 d ≡ none → refusal9 d ≡ some r → (check image ≡ r) × (firstTrackResult (take 9216 image) ≡ refusedTrack r)
   unfolding startRefusal orElse
   nine-given r a e = start-refused image long r (rw (a, e))
+
+  nine-found : refusal8 d ≡ none → (b : ℕ) → b < blocks → isWrong b (threeBytes d b) ≡ true
+      → ((j : ℕ) → j < b → isWrong j (threeBytes d j) ≡ false)
+      → (check image ≡ replyWith 9 b 0 0) × (firstTrackResult (take 9216 image) ≡ refusedTrack (replyWith 9 b 0 0))
+  unfolding mapFault
+  nine-found a b l t below =
+      let at : mapFault d ≡ b =
+      lowest-some (λ (j : ℕ). recordFault j (recordAt d j)) blocks b l (λ j h. fault-is d j ∙ below j h) (fault-is d b ∙ t) in
+      nine-given (replyWith 9 b 0 0) a (nine-present d b l at)
 
 -- ---- the calls answer as check does
 
@@ -266,10 +311,10 @@ module _ (image : List ℕ) (o : ℕ) (u : Unwritten o) where
   on-image : (e : Disk) → diskOf image 0 o ≡ e 0 o → diskOf image 0 o ≡ diskOf (imageOf e) 0 o
   on-image e p = p ∙ sym (inside-disk e 0 o (omega arith) (omega (arith, u .0)))
 
-  add-stands : (name : List ℕ) (date : ℕ) (content : List ℕ) → diskOf image 0 o ≡ diskOf (add image name date content .image) 0 o
-  add-stands name date content =
+  add-stands : (34 ≤ o → 38 ≤ o) → (name : List ℕ) (date : ℕ) (content : List ℕ) → diskOf image 0 o ≡ diskOf (add image name date content .image) 0 o
+  add-stands after name date content =
       by-add image (λ (e : Disk). diskOf image 0 o ≡ e 0 o) on-image refl name date content
-      (λ first x. add-header-kept o u (diskOf image) first (vacantSlot (diskOf image)) x content)
+      (λ first x. add-header-kept o u after (diskOf image) first (vacantSlot (diskOf image)) x content)
 
   remove-stands : (name : List ℕ) → diskOf image 0 o ≡ diskOf (remove image name .image) 0 o
   remove-stands name =
@@ -278,14 +323,15 @@ module _ (image : List ℕ) (o : ℕ) (u : Unwritten o) where
 
 -- bad-blocks: all of this holds
 pub bad-blocks : BadBlocks
-unfolding refusal8
+unfolding refusal8 bears isPart within mapFault
 bad-blocks =
     record {
       three-bytes = three-is;
+      no-part = λ f s n. (refl, refl, refl);
+      nine-lowest = λ image b long a l t below. nine-found image long a b l t below;
+      nine-none = λ d right. nine-absent d (lowest-none (λ (b : ℕ). recordFault b (recordAt d b)) blocks (λ b l. fault-is d b ∙ right b l));
       nine-names = λ image b e bytes t.
           true-eq (sym (bad-fault b) ∙ ap (recordFault b) (sym (has-bad (diskOf image) b bytes t)) ∙ nine-wrong image b e);
-      nine-zero = λ image long right bytes t.
-          nine-at-zero image long right (ap (recordFault 0) (has-bad (diskOf image) 0 bytes t) ∙ bad-fault 0);
       eight-unread = λ d e letters fields. ap (refusalAt 8) (judged-alike d e letters fields);
       word-counts = λ image bytes e.
           right-sum (diskOf image) bytes (passed-nineteen image (start-nineteen (diskOf image) (sound-start (diskOf image) (check-passed image e))));
@@ -298,6 +344,7 @@ bad-blocks =
       nineteen-track = λ image long bytes a b n. nineteen-given image long bytes a b n .1;
       eight-first = λ image r long e. eight-given image long r e;
       nine-first = λ image r long a e. nine-given image long r a e;
+      track-as-check = track-alike;
       answers-as = answers;
       stands-listed = stands;
       listed-stands = standing;
@@ -307,6 +354,6 @@ bad-blocks =
       history-good = end-good;
       add-keeps = λ image name date content b l t. add-leaves image b l t name date content;
       remove-keeps = λ image name b l t. remove-leaves image b l t name;
-      add-header = λ image name date content o u. add-stands image o u name date content;
+      add-header = λ image name date content o u after. add-stands image o u after name date content;
       remove-header = λ image name o u. remove-stands image o u name;
     }
