@@ -10,6 +10,7 @@ use Prim.Native.Nat.{ℕ, _+_, _*_, _/_, _≤_, _<_}
 use lib.Dec.{leb, eqb}
 use lib.ListN.{length, take}
 use Rattle.laws.specs.Below.{count}
+use Rattle.laws.specs.Lists.{bytesAre}
 use Rattle.laws.specs.Numbers.{at16}
 use Rattle.sector_rules.specs.declared.Reply.{Reply}
 use Rattle.sector_rules.specs.Geometry.{blocks, imageBytes}
@@ -74,6 +75,9 @@ pub record BadBlocks : Type 0 where
   pub nine-names : (image : List ℕ) (b : ℕ) → check image ≡ replyWith 9 b 0 0 → InBytes (diskOf image) b → hasBadBytes (diskOf image) b ≡ true → b ≡ 0
   -- 8 does not read the good word: it goes by bytes 0 to 3 and 24 to 75 (§7.8)
   pub eight-unread : (d e : Disk) → ((o : ℕ) → o < 4 → d 0 o ≡ e 0 o) → ((o : ℕ) → 24 ≤ o → o < 76 → d 0 o ≡ e 0 o) → refusal8 d ≡ refusal8 e
+  -- the word of all sectors is 1440 whatever records are bad, and 8 names it (§6.5 §7.8)
+  pub total-eight : (image : List ℕ) → length image ≡ imageBytes → bytesAre (diskOf image 0) 0 (0x51 ∷ 0x4C ∷ 0x35 ∷ 0x41 ∷ []) ≡ true
+      → at16 (diskOf image 0) 24 ≢ 1440 → check image ≡ replyWith 8 24 0 0
   -- the good word of an accepted disk and 3 x its records FE FF FF are 1440; where 19 is given they are another number (§6.18 §7.26)
   pub word-counts : (image : List ℕ) → MapInBytes (diskOf image) → check image ≡ done → at16 (diskOf image 0) 22 + 3 * badByBytes (diskOf image) ≡ 1440
   pub word-wrong : (image : List ℕ) → MapInBytes (diskOf image) → check image ≡ refusal 19 → at16 (diskOf image 0) 22 + 3 * badByBytes (diskOf image) ≢ 1440

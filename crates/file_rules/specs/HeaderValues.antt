@@ -1,17 +1,18 @@
--- disk-header-values: the 96 header bytes of a formatted disk (§6.1 to §6.7),
+-- disk-header-values: the 96 header bytes of a formatted disk (§6.1 to §6.7, §6.18),
 -- and what the check says of an image in whose header one byte is one more or one less (§7.8).
 -- Computed, so that each number of the header and each offset that 8 names is stated twice: in the definitions by rule, here by value.
 -- Assumes nothing: these are definitions. The proof is `disk-header-values` in Laws/Values/HeaderValues.antt.
 use mathlib.Core.Bool.{true}
 use mathlib.Core.List.{List, [], _∷_, _++_}
 use mathlib.Core.Path.{_≡_, _∙_}
+use mathlib.Core.Logic.{_≢_}
 use Prim.Native.Nat.{ℕ, _+_, _-_, _*_, _/_, _%_, _≤_, _<_}
 use lib.ListN.{length, set, take, drop, replicate}
 use Rattle.laws.specs.Lists.{tab}
 use Rattle.sector_rules.specs.declared.Fault.{Fault}
 use Rattle.sector_rules.specs.Geometry.{blocks, imageBytes}
 use Rattle.sector_rules.specs.HeaderValues.{placeNamed, oneMore, oneLess, changedAt, changedFrom}
-use Rattle.sector_rules.specs.Replies.{done, refusal}
+use Rattle.sector_rules.specs.Replies.{replyWith, done, refusal}
 use Rattle.file_rules.specs.Arguments.{FormatArguments, argumentsOf, listed, EachCanBeBad}
 use Rattle.file_rules.specs.Calls.{format, check}
 
@@ -19,8 +20,8 @@ use Rattle.file_rules.specs.Calls.{format, check}
 unfoldable pub title : List ℕ
 title = 0x51 ∷ 0x4C ∷ 0x20 ∷ 0x64 ∷ 0x69 ∷ 0x73 ∷ 0x6B ∷ 0x20 ∷ 0x31 ∷ []
 
--- the header of a disk that is formatted with that name and the number 1234 (hex): QL5A; the name and a space, the number; update count, free word; sizes;
--- the directory's length, the track offset; the two tables; FF (§6.1 §6.2 §6.3 §6.4 §6.5 §6.6 §6.7)
+-- the header of a disk that is formatted with that name and the number 1234 (hex): QL5A; the name and a space, the number; update count, free word, good
+-- word; sizes; the directory's length, the track offset; the two tables; FF (§6.1 §6.2 §6.3 §6.4 §6.5 §6.6 §6.7 §6.18)
 unfoldable pub diskHeader : List ℕ
 diskHeader =
     0x51 ∷ 0x4C ∷ 0x35 ∷ 0x41 ∷ 0x51 ∷ 0x4C ∷ 0x20 ∷ 0x64 ∷ 0x69 ∷ 0x73 ∷ 0x6B ∷ 0x20 ∷ 0x31 ∷ 0x20 ∷ 0x12 ∷ 0x34
@@ -37,7 +38,7 @@ diskFieldNamed start rest = placeNamed 8 96 (check (start ++ rest))
 -- ---- what is promised
 
 -- by value: the header that format writes, what 8 names where bytes of it are one more or one less, and the names and lists that 12
--- refuses (§6.7 §7.8 §7.12 §8.4)
+-- refuses (§6.7 §7.1 §7.8 §7.12 §8.4)
 pub record DiskHeaderValues : Type 0 where
   -- what format writes: the header, and then the records of blocks 0, 1 and 2: the system's, file 0 with sequence 0, free
   pub format-header : (old : List ℕ) → length old ≡ imageBytes
@@ -70,7 +71,8 @@ pub record DiskHeaderValues : Type 0 where
   pub length-refused : (rest : List ℕ) → 96 + length rest ≡ imageBytes
       → (diskFieldNamed (set diskHeader 37 0) rest ≡ 34) × (diskFieldNamed (set (set diskHeader 36 0x06) 37 0) rest ≡ 34)
       × (diskFieldNamed (set diskHeader 36 0x06) rest ≡ 34)
-  -- a disk's name has ten bytes at most, and bad blocks are blocks 2 to 479
+  -- an image of another length is refused first; a disk's name has ten bytes at most, and bad blocks are blocks 2 to 479 (§7.1 §7.12)
+  pub short-refused : (old : List ℕ) (args : FormatArguments) → length old ≢ imageBytes → format old args .answer ≡ replyWith 1 2 0 0
   pub format-accepted : (old : List ℕ) (args : FormatArguments) → length old ≡ imageBytes → length (args .title) ≤ 10 → EachCanBeBad (args .bad)
       → format old args .answer ≡ done
   pub title-refused : (old : List ℕ) (args : FormatArguments) → length old ≡ imageBytes → 11 ≤ length (args .title) → format old args .answer ≡ refusal 12

@@ -100,7 +100,9 @@ free-by-byte d b h =
 pub bad-by-number : (n : ℕ) → isBadRecord (decode n) ≡ eqb n badNumber
 unfolding decode isBadRecord
 bad-by-number n =
-    by-equal n badNumber (λ e. ap (λ (m : ℕ). isBadRecord (decode m)) e ∙ sym (eq-true {a = n} {b = badNumber} e)) (λ e. not-bad e ∙ sym (eq-false {a = n} {b = badNumber} e))
+    by-equal n badNumber
+    (λ e. ap (λ (m : ℕ). isBadRecord (decode m)) e ∙ sym (eq-true {a = n} {b = badNumber} e))
+    (λ e. not-bad e ∙ sym (eq-false {a = n} {b = badNumber} e))
   where
     not-bad : n ≢ badNumber → isBadRecord (decode n) ≡ false
     not-bad e =

@@ -10,6 +10,7 @@ use native.Mathlib.Omega.{arith}
 use lib.Dec.{leb, ltb, eqb}
 use lib.ListN.{length, take}
 use Rattle.laws.specs.Below.{count}
+use Rattle.laws.specs.Lists.{bytesAre}
 use Rattle.laws.specs.Numbers.{at16, bigEndian, highByte}
 use Rattle.laws.specs.Options.{orElse}
 use Rattle.laws.specs.Laws.Cases.{by-order, by-equal, by-test, by-cond}
@@ -27,7 +28,8 @@ use Rattle.file_rules.specs.declared.Record.the-variants.{Free, Bad, Sys
 use Rattle.file_rules.specs.Arguments.{FormatArguments, listed, EachCanBeBad}
 use Rattle.file_rules.specs.BadBlocks.{hasBadBytes, badByBytes, threeBytes, isWrong, diskAtEnd, Unwritten, AnswersAs, BadBlocks}
 use Rattle.file_rules.specs.Calls.{Outcome, ImageChanged, bufferKept, imageKept, wrongLength, onSound, freshOwner, check, list, read, add, remove}
-use Rattle.file_rules.specs.Check.{recordFault, mapFault, goodRight, refusal8, refusal9, startRefusal, diskRefusal}
+use Rattle.file_rules.specs.Check.{diskSignature, dimensionsFault, diskHeaderFault, recordFault, mapFault, goodRight}
+use Rattle.file_rules.specs.Check.{refusal8, refusal9, startRefusal, diskRefusal}
 use Rattle.file_rules.specs.Directory.{findName, vacantSlot}
 use Rattle.file_rules.specs.Disk.{Disk, diskOf, imageOf}
 use Rattle.file_rules.specs.FirstTrack.{refusedTrack, counted, firstTrackResult}
@@ -37,7 +39,8 @@ use Rattle.file_rules.specs.History.{formatted}
 use Rattle.file_rules.specs.Laws.Base.BadList.{different-is, bad-most}
 use Rattle.file_rules.specs.Laws.Base.Disk.{inside-disk}
 use Rattle.file_rules.specs.Laws.Base.Header.{judged-alike}
-use Rattle.file_rules.specs.Laws.Base.Judged.{nine-absent, nine-present, check-passed, nine-wrong, passed-nineteen, nineteen-wrong, wrong-start, start-refused}
+use Rattle.file_rules.specs.Laws.Base.Judged.{nine-absent, nine-present, check-passed, nine-wrong, passed-nineteen}
+use Rattle.file_rules.specs.Laws.Base.Judged.{nineteen-wrong, wrong-start, start-refused}
 use Rattle.file_rules.specs.Laws.Base.Judged.{track-accepted, track-alike}
 use Rattle.file_rules.specs.Laws.Base.OnSound.{sound-length, sound-refused, sound-passed}
 use Rattle.file_rules.specs.Laws.Base.Records.{bad-only, bad-by-bytes, system-by-number}
@@ -53,7 +56,8 @@ use Rattle.file_rules.specs.Laws.OnAnyDisk.Stays.{by-add, by-remove, add
 use Rattle.file_rules.specs.Laws.OnImages.Run.{format-inv, img-disk, end-inv}
 use Rattle.file_rules.specs.Laws.Theorem.FreeTails.{written-free}
 use Rattle.file_rules.specs.Laws.Theorem.History.{same-arguments, end-is}
-use Rattle.file_rules.specs.Map.{fileBound, freeByte, tailCount, systemNumber, badNumber, sequences, decode, encode, numberAt, recordAt, bears, isPart, within}
+use Rattle.file_rules.specs.Map.{fileBound, freeByte, tailCount, systemNumber, badNumber, sequences, decode}
+use Rattle.file_rules.specs.Map.{encode, numberAt, recordAt, bears, isPart, within}
 use Rattle.file_rules.specs.Map.{isFree, isBadRecord, isSystem, isOther, freeAt, badAt, badCount}
 use Rattle.file_rules.specs.Model.{differentBlocks, content}
 use Rattle.file_rules.specs.Sizes.{blockBytes, mapStart, titleMost, goodSectors}
@@ -140,6 +144,10 @@ module _ (image : List ℕ) (long : length image ≡ imageBytes) where
   eight-given : (r : Reply) → refusal8 d ≡ some r → (check image ≡ r) × (firstTrackResult (take 9216 image) ≡ refusedTrack r)
   unfolding startRefusal orElse
   eight-given r e = start-refused image long r (rw e)
+
+  total-named : bytesAre (d 0) 0 (0x51 ∷ 0x4C ∷ 0x35 ∷ 0x41 ∷ []) ≡ true → at16 (d 0) 24 ≢ 1440 → refusal8 d ≡ some (replyWith 8 24 0 0)
+  unfolding refusal8 diskHeaderFault diskSignature dimensionsFault
+  total-named letters n = let wrong : eqb (at16 (d 0) 24) 1440 ≡ false = eq-false {a = at16 (d 0) 24} {b = 1440} n in rw (letters, wrong)
 
   nine-given : (r : Reply) → refusal8 d ≡ none → refusal9 d ≡ some r → (check image ≡ r) × (firstTrackResult (take 9216 image) ≡ refusedTrack r)
   unfolding startRefusal orElse
@@ -333,6 +341,7 @@ bad-blocks =
       nine-names = λ image b e bytes t.
           true-eq (sym (bad-fault b) ∙ ap (recordFault b) (sym (has-bad (diskOf image) b bytes t)) ∙ nine-wrong image b e);
       eight-unread = λ d e letters fields. ap (refusalAt 8) (judged-alike d e letters fields);
+      total-eight = λ image long letters n. eight-given image long (replyWith 8 24 0 0) (total-named image long letters n) .0;
       word-counts = λ image bytes e.
           right-sum (diskOf image) bytes (passed-nineteen image (start-nineteen (diskOf image) (sound-start (diskOf image) (check-passed image e))));
       word-wrong = λ image bytes e. wrong-sum (diskOf image) bytes (nineteen-wrong image e);

@@ -3,12 +3,13 @@
 use mathlib.Core.Bool.{Bool, true, false, cond, _&&_}
 use mathlib.Core.List.{List, [], _∷_, _++_}
 use mathlib.Core.Option.{none, some}
+use mathlib.Core.Logic.{_≢_}
 use mathlib.Core.Path.{_≡_, refl, sym, ap, ap₂, _∙_}
 use Prim.Native.Nat.{ℕ, _+_, _-_, _≤_, _<_}
 use native.Mathlib.Omega.{arith}
 use lib.Dec.{leb, lit≤}
 use lib.ListN.{length, getD, set, take, drop, length-append, List·getD-append}
-use Rattle.laws.specs.Laws.Tests.{eq-true, le-false, cond-true, cond-false, and-false-left, and-false-right}
+use Rattle.laws.specs.Laws.Tests.{eq-true, eq-false, le-false, cond-true, cond-false, and-false-left, and-false-right}
 use Rattle.laws.specs.Laws.Tab.{tab-ext, take-tab}
 use Rattle.laws.specs.Lists.{same, bytesAre, tab}
 use Rattle.laws.specs.Numbers.{at16, bigEndian, highByte}
@@ -22,7 +23,7 @@ use Rattle.sector_rules.specs.Faults.{refusalAt, faultBelow}
 use Rattle.sector_rules.specs.Geometry.{sectorBytes, blocks, imageBytes, sidePlace, backward}
 use Rattle.sector_rules.specs.HeaderValues.{placeNamed, oneMore, oneLess, changedAt, changedFrom}
 use Rattle.sector_rules.specs.Laws.Values.HeaderValues.{changed-length, changed-from-length}
-use Rattle.sector_rules.specs.Replies.{done, refusal}
+use Rattle.sector_rules.specs.Replies.{replyWith, done, refusal}
 use Rattle.file_rules.specs.Arguments.{FormatArguments, argumentsOf, listed, badListRight, countListed, EachCanBeBad}
 use Rattle.file_rules.specs.Calls.{ImageChanged, imageKept, unless, imageRight, onSound, freshOwner, formatDisk, format, check}
 use Rattle.file_rules.specs.Check.{diskSignature, lengthRight, dimensionsFault, diskHeaderFault}
@@ -149,6 +150,10 @@ module _ (old : List ℕ) (args : FormatArguments) (long : length old ≡ imageB
   list-is : (b : ℕ) → listed b (args .bad) ≡ true → (2 ≤ b → 480 ≤ b) → format old args .answer ≡ refusal 12
   list-is b e w = refused-is (and-false-right (leb (length (args .title)) titleMost) (wrong-listed (args .bad) b e w))
 
+short-is : (old : List ℕ) (args : FormatArguments) → length old ≢ imageBytes → format old args .answer ≡ replyWith 1 2 0 0
+unfolding format imageRight imageKept
+short-is old args n = ap (λ (w : ImageChanged). w .answer) (cond-false _ _ (eq-false {a = length old} {b = imageBytes} n))
+
 -- disk-header-values: all of these hold
 pub disk-header-values : DiskHeaderValues
 unfolding tab diskHeaderFault dimensionsFault lengthRight dirBytes at16 bigEndian bytesAre same diskSignature sidePlace backward diskHeader
@@ -164,6 +169,7 @@ disk-header-values =
       accepted = λ rest long. (begins rest long _ refl, begins rest long _ refl, begins rest long _ refl);
       length-refused = λ rest long. (begins rest long _ refl, begins rest long _ refl, begins rest long _ refl);
       format-accepted = λ old args long h each. ap (λ (w : ImageChanged). w .answer) (format-done old args long h each);
+      short-refused = short-is;
       title-refused = title-is;
       low-refused = λ old args b long e h. list-is old args long b e (λ k. omega arith);
       high-refused = λ old args b long e h. list-is old args long b e (λ k. h);
