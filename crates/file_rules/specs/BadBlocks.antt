@@ -40,7 +40,8 @@ badByBytes d = count blocks (hasBadBytes d)
 unfoldable pub threeBytes : Disk → ℕ → ℕ
 threeBytes d b = (recordByte d b 0 * 256 + recordByte d b 1) * 256 + recordByte d b 2
 
--- whether these three bytes are wrong for block b: block 0 has F8 00 00; those of another, from F8 on, begin with FD or are FE FF FF (§6.9 §7.9)
+-- whether these three bytes are wrong for block b: right are at block 0 F8 00 00, and at another those below F8 00 00, those that begin with FD, and
+-- FE FF FF (§6.9 §7.9)
 unfoldable pub isWrong : ℕ → ℕ → Bool
 isWrong b n = cond (eqb b 0) (not (eqb n 0xF80000)) (leb 0xF80000 n && (not (eqb (n / 0x10000) 0xFD) && not (eqb n 0xFEFFFF)))
 
@@ -66,7 +67,8 @@ pub record BadBlocks : Type 0 where
   pub three-bytes : (d : Disk) (b : ℕ) → InBytes d b → badAt d b ≡ hasBadBytes d b
   -- it is part of no file
   pub no-part : (f s n : ℕ) → (bears f Bad ≡ false) × (isPart f s Bad ≡ false) × (within f n Bad ≡ true)
-  -- where 1 and 8 are not given, 9 names the lowest block whose three bytes are wrong, in check and for the first track; 9 is found where one is (§7.9)
+  -- where 1 and 8 are not given, 9 names the lowest block whose three bytes are wrong, in check and for the first track; where none
+  -- is wrong 9 is not found (§7.9)
   pub nine-lowest : (image : List ℕ) (b : ℕ) → length image ≡ imageBytes → refusal8 (diskOf image) ≡ none → b < blocks
       → isWrong b (threeBytes (diskOf image) b) ≡ true → ((j : ℕ) → j < b → isWrong j (threeBytes (diskOf image) j) ≡ false)
       → (check image ≡ replyWith 9 b 0 0) × (firstTrackResult (take 9216 image) ≡ refusedTrack (replyWith 9 b 0 0))

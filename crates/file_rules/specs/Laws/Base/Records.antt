@@ -111,7 +111,7 @@ bad-by-number n =
         (λ u. by-cond (λ (r : Record). isBadRecord r ≡ false) (eqb n systemNumber) System _ (λ v. refl)
         (λ v. by-cond (λ (r : Record). isBadRecord r ≡ false) (eqb n badNumber) Bad Other (λ w. absurd (e (true-eq w))) (λ w. refl))))
 
--- so it is with the system's
+-- it is the system's where the number is the system's
 pub system-by-number : (n : ℕ) → isSystem (decode n) ≡ eqb n systemNumber
 unfolding decode isSystem
 system-by-number n =
