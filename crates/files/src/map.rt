@@ -5,7 +5,7 @@ ghost use lib.ListN.{length};
 ghost use Rattle.laws.specs.Below.{lowest, count};
 ghost use Rattle.sector_rules.specs.Geometry.{blocks};
 ghost use Rattle.file_rules.specs.Disk.{diskOf};
-ghost use Rattle.file_rules.specs.Map.{decode, numberAt, isFree, isBadRecord, isPart};
+ghost use Rattle.file_rules.specs.Map.{numberAt, isFree, isBadRecord, isPart};
 ghost use Rattle.file_rules.specs.Check.{recordFault};
 ghost use Rattle.files.specs.Laws.Loading.Loaded.{loadedRecord, recordWithBlock, isCounted, MapLoaded};
 use crate::blocks::block_byte;
@@ -18,6 +18,7 @@ use crate::sizes::MAP_START;
 use crate::sizes::MapNumbers;
 use crate::sizes::RECORD_BYTES;
 use file_rules::MapRecord;
+use file_rules::Record;
 use sector_rules::BlockNumber;
 use sectors::Geometry;
 
@@ -72,14 +73,14 @@ pub fn map_fault(map: &MapNumbers) -> usize
     Geometry::BLOCKS
 }
 
-// Whether the record of a number is one of those that are counted: the bad ones, or the free ones.
-fn is_counted(n: u32, bad: bool) -> bool
-    ensures { λ r. ⌜ r ≡ isCounted bad (decode n) ⌝ }
+// Whether a record is one of those that are counted: the bad ones, or the free ones.
+fn is_counted(record: Record, bad: bool) -> bool
+    ensures { λ r. ⌜ r ≡ isCounted bad «record» ⌝ }
 {
     if bad {
-        return is_bad(n);
+        return is_bad(record);
     }
-    is_free(record_of(n))
+    is_free(record)
 }
 
 // How many records are bad, or how many are free.
@@ -88,7 +89,9 @@ fn count_records(map: &MapNumbers, bad: bool) -> usize
 {
     let mut n = 0;
     for b in 0..Geometry::BLOCKS {
-        if is_counted(map[b], bad) {
+        let m = map_record(map, BlockNumber(b));
+        let record = m.record;
+        if is_counted(record, bad) {
             n += 1;
         }
     }

@@ -104,11 +104,17 @@ pub fn is_free(r: Record) -> bool
     }
 }
 
-// Whether the record of a number is bad (§6.9): the whole map is counted by this test, which needs no record.
-pub fn is_bad(n: u32) -> bool
-    ensures { λ a. ⌜ a ≡ isBadRecord (decode n) ⌝ }
+// Whether a record is bad (§6.9).
+pub fn is_bad(r: Record) -> bool
+    ensures { λ a. ⌜ a ≡ isBadRecord r ⌝ }
 {
-    n == BAD
+    match r {
+        Record::Free => false,
+        Record::Bad => true,
+        Record::System => false,
+        Record::File(_, _) => false,
+        Record::Other => false,
+    }
 }
 
 // Whether a record bears the number of file f (§6.8).

@@ -1,13 +1,14 @@
 -- `count_records` meets its contract: n of the records below b are counted.
--- Rests on: the laws in Loading/Loaded and Loading/Loops; the contract of is_counted.
+-- Rests on: the laws in Loading/Loaded and Loading/Loops; the contracts of map_record and is_counted.
 -- Assumes nothing.
-use mathlib.Core.Path.{_≡_, refl, sym, _∙_}
+use mathlib.Core.Path.{_≡_, refl, sym, ap, _∙_}
 use mathlib.Core.Logic.{⊎-elim}
 use Prim.Native.Nat.{ℕ, _-_, _≤_}
 use native.Mathlib.Omega.{arith}
 use borrow.Author.Needs.{needs}
 use Rattle.laws.specs.Below.{count}
 use Rattle.sector_rules.specs.Geometry.{blocks}
+use Rattle.file_rules.specs.declared.MapRecord.{MapRecord}
 use Rattle.files.specs.Laws.Loading.Loaded.{loadedRecord, isCounted}
 use Rattle.files.specs.Laws.Loading.Loops.{counted-yes, counted-no}
 use Rattle.files.proofs.map.count_records.Statement.{statement}
@@ -23,11 +24,8 @@ loop-holds : tie.Need-loop-holds Inv-loop μ-loop
 unfolding count
 loop-holds c = (omega arith, omega arith, refl)
 
-mul-is-counted : tie.Need-mul-is-counted Inv-loop μ-loop
-mul-is-counted c = search needs
-
-element-copy-out-is-counted : tie.Need-element-copy-out-is-counted Inv-loop μ-loop
-element-copy-out-is-counted c = search needs
+map-record-requires : tie.Need-map-record-requires Inv-loop μ-loop
+map-record-requires c κs = search needs
 
 is-counted-requires : tie.Need-is-counted-requires Inv-loop μ-loop
 is-counted-requires c κs = search needs
@@ -42,10 +40,10 @@ loop-less : tie.Need-loop-less Inv-loop μ-loop
 loop-less c = omega arith
 
 loop-again : tie.Need-loop-again Inv-loop μ-loop
-unfolding loadedRecord
 loop-again c =
-    let counted = c .before .is-counted .ensures in
-    let at-loop = c .before .before .before .before in
+    let after-map-record = c .before .before in
+    let map-record = after-map-record .map-record in
+    let at-loop = after-map-record .before .before in
     let loop = at-loop .loop in
     let start = at-loop .before in
     let map = start .args .map .now in
@@ -53,8 +51,12 @@ loop-again c =
       omega arith,
       ⊎-elim (λ w. omega (arith, w .1)) (λ w. omega (arith, w .1)) (c .if1 .came),
       ⊎-elim
-          (λ w. w .1 ∙ counted-yes (λ (j : ℕ). isCounted bad (loadedRecord map j)) _ _ (loop .inv .2) (sym counted ∙ w .0 .taken))
-          (λ w. w .1 ∙ counted-no (λ (j : ℕ). isCounted bad (loadedRecord map j)) _ _ (loop .inv .2) (sym counted ∙ w .0 .left))
+          (λ w. w .1 ∙ counted-yes (λ (j : ℕ). isCounted bad (loadedRecord map j)) _ _ (loop .inv .2)
+          (sym (ap (λ (m : MapRecord). isCounted bad (m .«record»)) (map-record .ensures)) ∙ sym (c .before .is-counted .ensures) ∙
+          w .0 .taken))
+          (λ w. w .1 ∙ counted-no (λ (j : ℕ). isCounted bad (loadedRecord map j)) _ _ (loop .inv .2)
+          (sym (ap (λ (m : MapRecord). isCounted bad (m .«record»)) (map-record .ensures)) ∙ sym (c .before .is-counted .ensures) ∙
+          w .0 .left))
           (c .if1 .came),
     )
 
@@ -68,8 +70,7 @@ count-records-spec =
     Inv-loop
     μ-loop
     loop-holds
-    mul-is-counted
-    element-copy-out-is-counted
+    map-record-requires
     is-counted-requires
     add-n
     add-b

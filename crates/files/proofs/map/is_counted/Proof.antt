@@ -1,9 +1,7 @@
 -- `is_counted` meets its contract.
--- Rests on: the contracts of is_bad, record_of and is_free.
+-- Rests on: the contracts of is_bad and is_free.
 -- Assumes nothing.
-use mathlib.Core.Path.{ap, _∙_}
 use borrow.Author.Needs.{needs}
-use Rattle.file_rules.specs.Map.{isFree}
 use Rattle.files.specs.Laws.Loading.Loaded.{isCounted}
 use Rattle.files.proofs.map.is_counted.Statement.{statement}
 use Rattle.files.proofs.map.is_counted.Tie as tie
@@ -15,15 +13,12 @@ returns : tie.Need-returns
 unfolding isCounted
 returns c = rw (c .before .if1 .taken) (c .is-bad .ensures)
 
-record-of-requires : tie.Need-record-of-requires
-record-of-requires c κs = search needs
-
 is-free-requires : tie.Need-is-free-requires
 is-free-requires c κs = search needs
 
 returns-2 : tie.Need-returns-2
 unfolding isCounted
-returns-2 c = rw (c .before .before .if1 .left) (c .is-free .ensures ∙ ap isFree (c .before .record-of .ensures))
+returns-2 c = rw (c .before .if1 .left) (c .is-free .ensures)
 
 pub is-counted-spec : {M : Type 1} → statement M
-is-counted-spec = tie.close (tie.spec is-bad-requires returns record-of-requires is-free-requires returns-2)
+is-counted-spec = tie.close (tie.spec is-bad-requires returns is-free-requires returns-2)
