@@ -1,5 +1,5 @@
--- The header through an add or a remove: every byte but those of update count and free word stays, and through an add of the length of the directory
--- (§8.12, §8.13).
+-- The header through an add or a remove: every byte stays but those of update count and free word, and of the length of the directory through an add
+-- (§8.12; a remove leaves that, §8.13).
 -- Rests on which blocks are given (Kept).
 use mathlib.Core.Path.{_≡_, refl, sym, _∙_}
 use mathlib.Core.Logic.{_≢_}
