@@ -77,7 +77,7 @@ pub record BadBlocks : Type 0 where
   pub nine-names : (image : List ℕ) (b : ℕ) → check image ≡ replyWith 9 b 0 0 → InBytes (diskOf image) b → hasBadBytes (diskOf image) b ≡ true → b ≡ 0
   -- 8 does not read the good word: it goes by bytes 0 to 3 and 24 to 75 (§7.8)
   pub eight-unread : (d e : Disk) → ((o : ℕ) → o < 4 → d 0 o ≡ e 0 o) → ((o : ℕ) → 24 ≤ o → o < 76 → d 0 o ≡ e 0 o) → refusal8 d ≡ refusal8 e
-  -- the word of all sectors is 1440 whatever records are bad, and 8 names it (§6.5 §7.8)
+  -- where the letters are right and the word of all sectors is not 1440, 8 names it, whatever records are bad (§6.5 §7.8)
   pub total-eight : (image : List ℕ) → length image ≡ imageBytes → bytesAre (diskOf image 0) 0 (0x51 ∷ 0x4C ∷ 0x35 ∷ 0x41 ∷ []) ≡ true
       → at16 (diskOf image 0) 24 ≢ 1440 → check image ≡ replyWith 8 24 0 0
   -- the good word of an accepted disk and 3 x its records FE FF FF are 1440; where 19 is given they are another number (§6.18 §7.26)
@@ -98,7 +98,7 @@ pub record BadBlocks : Type 0 where
       → (check image ≡ r) × (firstTrackResult (take 9216 image) ≡ refusedTrack r)
   pub nine-first : (image : List ℕ) (r : Reply) → length image ≡ imageBytes → refusal8 (diskOf image) ≡ none → refusal9 (diskOf image) ≡ some r
       → (check image ≡ r) × (firstTrackResult (take 9216 image) ≡ refusedTrack r)
-  -- the first track has check's reply, where that is not 10, which the first track does not judge
+  -- the first track of an image of the right length has check's reply, where that is not 10, which the first track does not judge (§8.14)
   pub track-as-check : (image : List ℕ) → length image ≡ imageBytes → check image .number ≢ 10 → firstTrackResult (take 9216 image) .reply ≡ check image
   -- list, read, add and remove answer as check does, where that is not done
   pub answers-as : (image : List ℕ) → check image .number ≢ 0 → AnswersAs image (check image)
@@ -118,8 +118,8 @@ pub record BadBlocks : Type 0 where
   pub history-good : (old : List ℕ) (args : FormatArguments) (calls : List Call) → length old ≡ imageBytes → length (args .title) ≤ titleMost
       → EachCanBeBad (args .bad) → at16 (diskAtEnd old args calls 0) 22 + 3 * differentBlocks (args .bad) ≡ 1440
   -- ---- what stays
-  -- an add or remove, whatever its reply, leaves record and bytes of each bad block, and of the header every byte that it does not write, the good word's too;
-  -- an add may write the length of the directory, a remove does not (§8.12 §8.13)
+  -- an add or remove, whatever its reply, leaves record and bytes of each bad block, and of the header every byte but those of update count and free word,
+  -- 16 to 21, and for an add those of the length of the directory, 34 to 37: so the good word (§8.12 §8.13)
   pub add-keeps : (image name : List ℕ) (date : ℕ) (content : List ℕ) (b : ℕ) → b < blocks → badAt (diskOf image) b ≡ true
       → SameRecord (diskOf image) (diskOf (add image name date content .image)) b
       × ((o : ℕ) → diskOf image b o ≡ diskOf (add image name date content .image) b o)
