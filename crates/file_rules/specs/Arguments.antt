@@ -1,4 +1,5 @@
--- The arguments of a format, as one record: the header, the fresh disk, the model and the histories pass it on whole; and its list of bad blocks.
+-- The arguments of a format, as one record: the header, the fresh disk, the model and the histories pass it on whole; and its list of bad blocks. Those of an
+-- add as another: the model, the histories and the items of a batch have it.
 -- Assumes nothing: these are definitions.
 use mathlib.Core.Bool.{Bool, true, false, _&&_, _||_}
 use mathlib.Core.List.{List, [], _∷_}
@@ -37,3 +38,11 @@ countListed bad = count blocks (λ (b : ℕ). listed b bad)
 -- each block in the list is one of 2 to 479, as statements ask it of the list of an accepted format (§7.12)
 abbrev pub EachCanBeBad : List ℕ → Type 0
 EachCanBeBad bad = (b : ℕ) → listed b bad ≡ true → (2 ≤ b) × (b ≤ 479)
+
+-- ---- an add
+
+-- a file as it is given to add: name, date and data (§8.9)
+pub record NamedFile : Type 0 where
+  pub name : List ℕ
+  pub date : ℕ
+  pub content : List ℕ

@@ -20,6 +20,7 @@ use Rattle.file_rules.specs.declared.Entry.{Entry}
 use Rattle.file_rules.specs.declared.Record.{Record}
 use Rattle.file_rules.specs.declared.Record.the-variants.{Free, Bad, System, File, Other}
 use Rattle.file_rules.specs.Arguments.{FormatArguments, listed}
+pub use Rattle.file_rules.specs.Arguments.{NamedFile}
 use Rattle.file_rules.specs.Calls.{Outcome}
 use Rattle.file_rules.specs.Directory.{nameEq, entryByte, entryFor}
 use Rattle.file_rules.specs.Disk.{Disk}
@@ -28,12 +29,6 @@ use Rattle.file_rules.specs.Sizes.{slotBytes, blockSlots}
 use Rattle.file_rules.specs.Written.{diskHeaderByte, diskWith, storedByte, part, blocksFor}
 
 -- ---- slots
-
--- a file as it is given to add: name, date and data (§9.2)
-pub record NamedFile : Type 0 where
-  pub name : List ℕ
-  pub date : ℕ
-  pub content : List ℕ
 
 -- what a slot holds: a file, or none (§9.2)
 abbrev pub HeldFile : Type 0
