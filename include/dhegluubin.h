@@ -3,16 +3,17 @@
  *
  * An HFE image of version 1 or 3 is read into a block image. One of version 1 is written from a
  * block image, and one sector of it can be rewritten. On the block image a disk is formatted and
- * checked, and files are listed, read, added and removed.
+ * checked, and files are listed, read, added and removed, one by one or many in one call.
  *
  * For every function:
  *
  * - It answers with a number and three places. Number 0 means done. Every other number is a
  *   refusal, which says what is wrong, with places that say where: see enum dheg_number. Tests run
- *   from number 1 upwards, only that dheg_unpack has 18 right after 3, dheg_rewrite 12 right after 1,
- *   and every function that judges 9 has 19 right after it; the first that fails is the answer. A
- *   place that is not named is 0.
- * - A refused call changes nothing: every lent byte is as it was.
+ *   from number 1 upwards, only that dheg_unpack has 18 right after 3, dheg_rewrite 12 and dheg_batch
+ *   20 right after 1, and every function that judges 9 has 19 right after it; the first that fails is
+ *   the answer. A place that is not named is 0.
+ * - A refused call changes nothing: every lent byte is as it was. Of dheg_batch this holds for 1, 20
+ *   and the item that is refused; the items before that one stand.
  * - Any contents and any lengths may be passed; what cannot be done is refused.
  * - File names are equal if they have the same length and the same bytes, where a capital letter
  *   counts as its small one: the bytes 41 to 5A hex, A to Z, as 61 to 7A, a to z. No other byte counts
@@ -66,8 +67,8 @@ extern "C" {
 
 /* The numbers of a reply, and what their places mean. */
 enum dheg_number {
-    /* Done. A list and a read tell in `first` how many bytes they wrote, a placement the image
-     * sector. */
+    /* 0 is done: then a list and a read tell in `first` how many bytes they wrote, a placement the
+     * image sector. Of a refused batch 8 to 15 and 19 have the item, from 1, in `third`. */
     DHEG_DONE = 0,
     /* A lent length is wrong. `first` says which: 1 the HFE image, 2 the block image or the first
      * track. The HFE image is judged first. */
@@ -124,7 +125,10 @@ enum dheg_number {
     DHEG_WRONG_CODE = 18,
     /* The good-sector word is not 1440 less three times the bad records. It comes right after 9, so
      * before 10 and 11. */
-    DHEG_GOOD_WORD = 19
+    DHEG_GOOD_WORD = 19,
+    /* An item of a batch's list is wrong: its kind is neither 1 nor 2, or the list's end cuts it.
+     * `third` is the first such item, from 1. It comes right after 1, before any item is tried. */
+    DHEG_WRONG_ITEM = 20
 };
 
 /* An answer. */
@@ -168,8 +172,7 @@ typedef struct {
  *   4..7   `first`, `second`, `third`: track, side and R of the first bad sector; 4 no header, 5 two
  *          or more, 6 no data field, 7 wrong CRC of the data
  *
- * `hfe` is only read. Both are used until the call returns; no state is kept, and other threads may
- * call at the same time on other memory.
+ * `hfe` is only read. Both are used until the call returns; other threads may call on other memory.
  */
 dheg_reply dheg_unpack(const uint8_t *hfe, size_t hfe_len, uint8_t *image, size_t image_len);
 
@@ -181,8 +184,7 @@ dheg_reply dheg_unpack(const uint8_t *hfe, size_t hfe_len, uint8_t *image, size_
  *
  *   1      `first`: 1 `hfe` has not 2,008,064 bytes, 2 `image` has not 737,280
  *
- * `image` is only read. Both are used until the call returns; no state is kept, and other threads
- * may call at the same time on other memory.
+ * `image` is only read. Both are used until the call returns; other threads may call on other memory.
  */
 dheg_reply dheg_pack(const uint8_t *image, size_t image_len, uint8_t *hfe, size_t hfe_len);
 
@@ -206,8 +208,8 @@ dheg_reply dheg_pack(const uint8_t *image, size_t image_len, uint8_t *hfe, size_
  *   17     rewritten, this sector would not give the data, another one not what it gave, or the track
  *          table would be wrong; no place is named
  *
- * `hfe` is read and written, `data` is only read. Both are used until the call returns; no state is
- * kept, and other threads may call at the same time on other memory.
+ * `hfe` is read and written, `data` is only read. Both are used until the call returns; other threads
+ * may call on other memory.
  */
 dheg_reply dheg_rewrite(uint8_t *hfe, size_t hfe_len, size_t track, size_t side, size_t r,
                         const uint8_t *data, size_t data_len);
@@ -233,8 +235,7 @@ dheg_reply dheg_place(size_t block, size_t sector);
  *   1      `first`: 2 `image` has not 737,280 bytes
  *   12     the name has over 10 bytes; no place is named
  *
- * `name` is only read. Both are used until the call returns; no state is kept, and other threads may
- * call at the same time on other memory.
+ * `name` is only read. Both are used until the call returns; other threads may call on other memory.
  */
 dheg_reply dheg_format(uint8_t *image, size_t image_len, const uint8_t *name, size_t name_len,
                        uint16_t number);
@@ -253,8 +254,7 @@ dheg_reply dheg_format(uint8_t *image, size_t image_len, const uint8_t *name, si
  *   12     the name has over 10 bytes, or a number in `bad` is 0, 1 or over 479; no place is named
  *
  * `name` and `bad` are only read; `bad` is aligned as uint16_t asks, and may be NULL where `bad_count`
- * is 0. All three are used until the call returns; no state is kept, and other threads may call at
- * the same time on other memory.
+ * is 0. All three are used until the call returns; other threads may call on other memory.
  */
 dheg_reply dheg_format_bad(uint8_t *image, size_t image_len, const uint8_t *name, size_t name_len,
                            uint16_t number, const uint16_t *bad, size_t bad_count);
@@ -274,8 +274,7 @@ dheg_reply dheg_format_bad(uint8_t *image, size_t image_len, const uint8_t *name
  *          names, in whatever spelling, the one with the higher number is at fault
  *   11     the free word is not three times the free records; no place is named
  *
- * `image` is only read, until the call returns; no state is kept, and several threads may judge the
- * same memory at the same time.
+ * `image` is only read, until the call returns; several threads may judge the same memory at once.
  */
 dheg_reply dheg_check(const uint8_t *image, size_t image_len);
 
@@ -290,8 +289,8 @@ dheg_reply dheg_check(const uint8_t *image, size_t image_len);
  *   1, 8, 9, 19, 10, 11   as dheg_check says, in this order
  *   16                    `first`: bytes needed; `out` has fewer
  *
- * `image` is only read. Both are used until the call returns; no state is kept, and other threads
- * may call at the same time with another `out`, on the same `image` if none of them writes to it.
+ * `image` is only read. Both are used until the call returns; other threads may call with another
+ * `out`, on the same `image` if none of them writes to it.
  */
 dheg_reply dheg_list(const uint8_t *image, size_t image_len, uint8_t *out, size_t out_len);
 
@@ -307,9 +306,8 @@ dheg_reply dheg_list(const uint8_t *image, size_t image_len, uint8_t *out, size_
  *   14                    no file has the name; no place is named
  *   16                    `first`: bytes needed; `out` has fewer
  *
- * `image` and `name` are only read. All three are used until the call returns; no state is kept, and
- * other threads may call at the same time with another `out`, on the same `image` if none of them
- * writes to it.
+ * `image` and `name` are only read. All three are used until the call returns; other threads may call
+ * with another `out`, on the same `image` if none of them writes to it.
  */
 dheg_reply dheg_read(const uint8_t *image, size_t image_len, const uint8_t *name, size_t name_len,
                      uint8_t *out, size_t out_len);
@@ -330,8 +328,8 @@ dheg_reply dheg_read(const uint8_t *image, size_t image_len, const uint8_t *name
  *   13                    `first`: slot of the file that has the name; its spelling stays
  *   15                    too few blocks are free; no place is named
  *
- * `name` and `data` are only read. All three are used until the call returns; no state is kept, and
- * other threads may call at the same time on other memory.
+ * `name` and `data` are only read. All three are used until the call returns; other threads may call
+ * on other memory.
  */
 dheg_reply dheg_add(uint8_t *image, size_t image_len, const uint8_t *name, size_t name_len,
                     uint32_t date, const uint8_t *data, size_t data_len);
@@ -348,10 +346,31 @@ dheg_reply dheg_add(uint8_t *image, size_t image_len, const uint8_t *name, size_
  *   12                    the name has not 1 to 36 bytes; no place is named
  *   14                    no file has the name; no place is named
  *
- * `name` is only read. Both are used until the call returns; no state is kept, and other threads may
- * call at the same time on other memory.
+ * `name` is only read. Both are used until the call returns; other threads may call on other memory.
  */
 dheg_reply dheg_remove(uint8_t *image, size_t image_len, const uint8_t *name, size_t name_len);
+
+/*
+ * Removes and adds files by a list, each as dheg_remove and dheg_add do it, one after the other up to
+ * the first that is refused. That one changes no byte, those before it stand, and those after it are
+ * not tried. The list is items and nothing else; an item is
+ *
+ *   a remove   the byte 1, a byte with the length of the name, and the name
+ *   an add     the byte 2, a byte with the length of the name, the name, the date, the length of the
+ *              data, four bytes each with the highest first, and the data
+ *
+ * Done: `image` is as the single calls leave it; the places are 0. An empty list is done on every
+ * disk, sound or not. Refused, in this order:
+ *
+ *   1                 `first`: 2 `image` has not 737,280 bytes; nothing is changed
+ *   20                `third`: the first item, from 1, whose kind is neither 1 nor 2, or that lacks
+ *                     bytes; nothing is changed, for the whole list is read before an item is tried
+ *   8 to 15, and 19   as dheg_remove or dheg_add refuses the item, with its own `first` and the item,
+ *                     from 1, in `third`; so a name that has not 1 to 36 bytes is 12 in its turn
+ *
+ * `list` is only read. Both are used until the call returns; other threads may call on other memory.
+ */
+dheg_reply dheg_batch(uint8_t *image, size_t image_len, const uint8_t *list, size_t list_len);
 
 /*
  * Judges the first track of a block image, 9,216 bytes, and counts its blocks. The directory is not
@@ -365,8 +384,7 @@ dheg_reply dheg_remove(uint8_t *image, size_t image_len, const uint8_t *name, si
  *   19     the good word is not 1440 less three times the bad records; no place is named
  *   11     the free word is not three times the free records; no place is named
  *
- * `track` is only read, until the call returns; no state is kept, and several threads may judge the
- * same memory at the same time.
+ * `track` is only read, until the call returns; several threads may judge the same memory at once.
  */
 dheg_first_track_result dheg_first_track(const uint8_t *track, size_t track_len);
 

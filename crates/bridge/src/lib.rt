@@ -8,6 +8,7 @@ ghost use Rattle.sector_rules.specs.Packed.{packReply, packHfe};
 ghost use Rattle.sector_rules.specs.Rewritten.{rewriteReply, rewriteHfe};
 ghost use Rattle.sector_rules.specs.Unpacked.{unpackReply, unpackImage};
 ghost use Rattle.file_rules.specs.Arguments.{argumentsOf};
+ghost use Rattle.file_rules.specs.Batch as Batch;
 ghost use Rattle.file_rules.specs.Calls as Calls;
 ghost use Rattle.file_rules.specs.FirstTrack.{firstTrackResult};
 use file_rules::FirstTrack;
@@ -105,6 +106,14 @@ pub extern "C" fn dheg_remove(image: &mut [u8], name: &[u8]) -> Reply
     ensures { λ r. ⌜ (r ≡ Calls.remove (now (image .entry)) (now (name .entry)) .answer) × (now (image .exit) ≡ Calls.remove (now (image .entry)) (now (name .entry)) .image) ⌝ }
 {
     files::remove(image, name)
+}
+
+// The call batch (§8.19), with its list of items (§8.18).
+#[no_mangle]
+pub extern "C" fn dheg_batch(image: &mut [u8], list: &[u8]) -> Reply
+    ensures { λ r. ⌜ (r ≡ Batch.batch (now (image .entry)) (now (list .entry)) .answer) × (now (image .exit) ≡ Batch.batch (now (image .entry)) (now (list .entry)) .image) ⌝ }
+{
+    files::batch(image, list)
 }
 
 // The call first track (§8.14).

@@ -18,6 +18,7 @@ use Rattle.sector_rules.specs.Replies.{replyWith, done, refusal}
 use Rattle.file_rules.specs.declared.Record.{Record}
 use Rattle.file_rules.specs.declared.Record.the-variants.{File}
 use Rattle.file_rules.specs.Arguments.{FormatArguments, EachCanBeBad}
+use Rattle.file_rules.specs.Batch.{batch}
 use Rattle.file_rules.specs.Calls.{ImageChanged, check, list, read, add, remove}
 use Rattle.file_rules.specs.Check.{refusal8}
 use Rattle.file_rules.specs.Directory.{dirEnd, findName, vacantSlot}
@@ -154,3 +155,4 @@ pub record TailsUnread : Type 0 where
   pub track-alike : (x y : List ℕ) → ImagesSameButTails x y → firstTrackResult (take 9216 x) ≡ firstTrackResult (take 9216 y)
   pub add-alike : (x y name : List ℕ) (date : ℕ) (content : List ℕ) → ImagesSameButTails x y → ChangedAlike (add x name date content) (add y name date content)
   pub remove-alike : (x y name : List ℕ) → ImagesSameButTails x y → ChangedAlike (remove x name) (remove y name)
+  pub batch-alike : (x y items : List ℕ) → ImagesSameButTails x y → ChangedAlike (batch x items) (batch y items)

@@ -7,12 +7,16 @@ pub mod Check
 pub mod Arguments
 pub mod Written
 pub mod Calls
+pub mod Items
+pub mod Batch
 pub mod FirstTrack
 pub mod Model
 pub mod NamesEqual
+pub mod ItemsRead
 pub mod Histories
 pub mod History
 pub mod Refusals
+pub mod BatchIsCalls
 pub mod FreeTails
 pub mod BadBlocks
 pub mod Values

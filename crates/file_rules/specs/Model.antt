@@ -1,7 +1,7 @@
 -- The model (docs/RULES.md, section 9). What the caller gives to format and calls is all that it knows; it never sees an image.
 -- It shares with the calls the sizes, what an Outcome is, and the layout: header, entry, record and file bytes (diskHeaderByte, entryFor, entryByte,
--- diskWith, storedByte, part), isFree of a record, whether a block is in the list of bad ones, blocksFor as the number of blocks of a file (§6.17), and
--- equality of names. The good word stands among the header's bytes. The decisions are its own.
+-- diskWith, storedByte, part), isFree of a record, whether a block is in the list of bad ones, blocksFor as the number of blocks of a file (§6.17),
+-- equality of names, and how the list of a batch is read. The good word stands among the header's bytes. The decisions are its own.
 -- Assumes nothing: these are definitions.
 use mathlib.Core.Bool.{Bool, false, not, cond, _&&_}
 use mathlib.Core.List.{List, [], _∷_, _++_}
@@ -24,6 +24,7 @@ pub use Rattle.file_rules.specs.Arguments.{NamedFile}
 use Rattle.file_rules.specs.Calls.{Outcome}
 use Rattle.file_rules.specs.Directory.{nameEq, entryByte, entryFor}
 use Rattle.file_rules.specs.Disk.{Disk}
+use Rattle.file_rules.specs.Items.{Item, removing, adding, ItemList, Items, WrongItem}
 use Rattle.file_rules.specs.Map.{isFree}
 use Rattle.file_rules.specs.Sizes.{slotBytes, blockSlots}
 use Rattle.file_rules.specs.Written.{diskHeaderByte, diskWith, storedByte, part, blocksFor}
@@ -288,3 +289,23 @@ modelRemove m name =
     (cond (ltb (slotNamed m name) (suc (m .peak))) (record { answer = done; modelAfter = clear m (slotNamed m name) })
     (record { answer = refusal 14; modelAfter = m }))
     (record { answer = refusal 12; modelAfter = m })
+
+-- ---- batch
+
+-- an item in the model (§9.9)
+unfoldable pub modelItem : Model → Item → ModelChanged
+modelItem m (removing name) = modelRemove m name
+modelItem m (adding x) = modelAdd m x
+
+-- the items from number n on in the model: as adds and removes in turn, up to the first refusal, which has the item's number as its third place (§9.9)
+unfoldable pub modelItems : Model → ℕ → List Item → ModelChanged
+modelItems m n [] = record { answer = done; modelAfter = m }
+modelItems m n (x ∷ xs) =
+    let one : ModelChanged = modelItem m x in
+    cond (eqb (one .answer .number) 0) (modelItems (one .modelAfter) (suc n) xs)
+    (record { answer = replyWith (one .answer .number) (one .answer .first) (one .answer .second) n; modelAfter = m })
+
+-- the call batch in the model: 20, which names the first wrong item, or the items (§9.9)
+unfoldable pub modelBatch : Model → ItemList → ModelChanged
+modelBatch m (Items xs) = modelItems m 1 xs
+modelBatch m (WrongItem n) = record { answer = replyWith 20 0 0 n; modelAfter = m }

@@ -1,9 +1,10 @@
--- refusals-keep (§7.19): a call that is refused changes no lent byte, for each entry point that is lent bytes to write, in the terms of its contract.
+-- refusals-keep (§7.19): a call that is refused changes no lent byte, for each entry point that is lent bytes to write, in the terms of its contract. Of a
+-- batch it is said of 1 and 20: where an item is refused those before it stand.
 -- `place`, `check` and the first track are lent none. List, read and check are lent the image to read only, as pack is, and unpack the HFE image.
 -- Assumes nothing: these are definitions. The proof is `refusals-keep` in Laws/Theorem/Refusals.antt.
 use mathlib.Core.Path.{_≡_}
 use mathlib.Core.List.{List}
-use mathlib.Core.Logic.{_≢_}
+use mathlib.Core.Logic.{_≢_, _⊎_}
 use Prim.Native.Nat.{ℕ}
 use lib.ListN.{length}
 use Rattle.sector_rules.specs.declared.Reply.{Reply}
@@ -11,6 +12,7 @@ use Rattle.sector_rules.specs.Packed.{packReply, packHfe}
 use Rattle.sector_rules.specs.Rewritten.{rewriteReply, rewriteHfe}
 use Rattle.sector_rules.specs.Unpacked.{unpackReply, unpackImage}
 use Rattle.file_rules.specs.Arguments.{FormatArguments}
+use Rattle.file_rules.specs.Batch.{batch}
 use Rattle.file_rules.specs.Calls.{format, list, read, add, remove}
 
 -- every number but 0 is a refusal (§7.17)
@@ -28,3 +30,5 @@ pub record RefusalsKeep : Type 0 where
   pub add-keeps : (image name : List ℕ) (date : ℕ) (content : List ℕ) → Refuses (add image name date content .answer)
       → add image name date content .image ≡ image
   pub remove-keeps : (image name : List ℕ) → Refuses (remove image name .answer) → remove image name .image ≡ image
+  -- a batch that is refused before an item is tried, with 1 or 20; what it leaves where an item is refused says batch-is-calls (§8.19)
+  pub batch-keeps : (image list : List ℕ) → (batch image list .answer .number ≡ 1) ⊎ (batch image list .answer .number ≡ 20) → batch image list .image ≡ image

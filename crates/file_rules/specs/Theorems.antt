@@ -1,11 +1,18 @@
 -- The promises of this crate, each stated and proved in the files that its line names, and passed on with what it promises.
 -- Assumes nothing.
 
--- refusals-keep: a call that is refused changes no lent byte, for every entry point of the library that is lent bytes to write. Refusals.antt
+-- refusals-keep: a call that is refused changes no lent byte, for every entry point of the library that is lent bytes to write; a batch that is refused with 1
+-- or 20. Refusals.antt
 pub use Rattle.file_rules.specs.Laws.Theorem.Refusals.{refusals-keep}
+-- batch-is-calls: a batch gives the reply and the image of the single calls of its items, made in turn until one is refused. BatchIsCalls.antt
+pub use Rattle.file_rules.specs.Laws.Theorem.BatchIsCalls.{batch-is-calls}
 -- names-equal: two names are equal if and only if they have the same length and, capitals counting as small letters, the same bytes; this is an equivalence;
 -- all 256 bytes as they are compared. NamesEqual.antt
 pub use Rattle.file_rules.specs.Laws.Base.Names.{names-equal}
+-- items-read: the list of a batch is read as items if and only if it is the bytes of these items one after the other; if it is not, the wrong item stands after
+-- the bytes of some items, or of none, where no item's bytes begin. item-values: lists by their bytes, and what they are read as. ItemsRead.antt
+pub use Rattle.file_rules.specs.Laws.Theorem.ItemsRead.{items-read}
+pub use Rattle.file_rules.specs.Laws.Base.ItemValues.{item-values}
 -- tails-unread: block images that differ at most in tails of free records get the same answers, and differ at most in tails afterwards. FreeTails.antt
 pub use Rattle.file_rules.specs.Laws.Theorem.TailsUnread.{tails-unread}
 -- free-tails: a record is free by its first byte, in every count and for 9; what an add or a remove writes as each record and which it leaves, tails of free
@@ -18,6 +25,8 @@ pub use Rattle.file_rules.specs.Laws.Theorem.BadBlocks.{bad-blocks}
 pub use Rattle.file_rules.specs.Laws.Theorem.History.{history}
 -- history-check: the check passes after every history. History.antt
 pub use Rattle.file_rules.specs.Laws.Theorem.History.{history-check}
+-- calls-made: each call of a history is the call of its name, for any image. History.antt
+pub use Rattle.file_rules.specs.Laws.Theorem.History.{calls-made}
 -- every-byte: byte i of an image is the byte of its disk at a block and offset, so that history, which speaks of these, speaks of every byte. History.antt
 pub use Rattle.file_rules.specs.Laws.Theorem.History.{every-byte}
 -- disk-header-values: the header of a formatted disk as a row of bytes, and for each byte of it what 8 names where it is one more or one less.

@@ -1,5 +1,6 @@
 // Layer 3: the header, the map, the directory and the files of a disk, on its block image.
 mod adding;
+mod batching;
 mod blocks;
 mod chains;
 mod checking;
@@ -19,6 +20,7 @@ mod store;
 mod track;
 
 pub use adding::add;
+pub use batching::batch;
 pub use checking::check;
 pub use formatting::format;
 pub use formatting::format_bad;

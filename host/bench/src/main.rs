@@ -1,10 +1,12 @@
-//! Times of the proved library and of the reference, in one run:
+//! Times of the proved library and of the reference, in one run, and of batches
+//! and their single calls:
 //! `cargo run --release -p bench`, with the number of runs as an argument.
 //!
 //! Nothing is judged here; the limits are printed for comparison.
 
 #![forbid(unsafe_code)]
 
+mod batches;
 mod files;
 mod measure;
 mod sectors;
@@ -33,9 +35,15 @@ fn main() {
     }
     println!();
     println!("{}", Row::HEADING);
-    for rows in [sectors::rows, files::rows] {
+    for rows in [sectors::rows, files::rows, batches::rows] {
         for row in rows(Runs(runs)) {
             println!("{row}");
         }
+    }
+    println!();
+    println!("a batch and the same single calls, both of the library, in turn");
+    println!("{}", Row::HEADING_OF_BATCHES);
+    for row in batches::against_calls(Runs(runs)) {
+        println!("{row}");
     }
 }

@@ -10,7 +10,7 @@ use crate::commands::Command;
 
 /// Exit status where the library refused.
 const REFUSED: u8 = 1;
-/// Exit status where the command line is wrong.
+/// Exit status where the command line, or a list that it names, is wrong.
 const USAGE: u8 = 2;
 /// Exit status where a file could not be read or written.
 const IO: u8 = 3;

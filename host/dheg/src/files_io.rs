@@ -19,6 +19,9 @@ const DISK_LIMIT: usize = IMAGE_LEN + 1;
 /// The same for a sector.
 const SECTOR_LIMIT: usize = SECTOR_LEN + 1;
 
+/// Most bytes of the list of a batch, many times what a disk's files need.
+const LIST_LIMIT: usize = 1 << 24;
+
 /// Temporary names that are tried before it is given up.
 const TRIES: u32 = 100;
 
@@ -36,11 +39,12 @@ pub fn read_whole_hfe(path: &OsStr) -> Result<Vec<u8>, Failure> {
     if about.is_file() {
         return fs::read(at).map_err(|error| Failure::io(at, error));
     }
-    let bytes = read(path, HFE_LIMIT + 1)?;
-    match bytes.len() > HFE_LIMIT {
-        true => Err(Failure::io(at, io::Error::other("does not end"))),
-        false => Ok(bytes),
-    }
+    read_all(path, HFE_LIMIT, "does not end")
+}
+
+/// All bytes of the list of a batch, no part of which may be left out.
+pub fn read_list(path: &OsStr) -> Result<Vec<u8>, Failure> {
+    read_all(path, LIST_LIMIT, "is too long for a list")
 }
 
 /// The bytes of a block image, as many as matter.
@@ -56,6 +60,15 @@ pub fn read_data(path: &OsStr) -> Result<Vec<u8>, Failure> {
 /// The bytes of a file that is to be a sector, as many as matter.
 pub fn read_sector(path: &OsStr) -> Result<Vec<u8>, Failure> {
     read(path, SECTOR_LIMIT)
+}
+
+/// Reads a file that has at most so many bytes, or fails in these words.
+fn read_all(path: &OsStr, limit: usize, words: &'static str) -> Result<Vec<u8>, Failure> {
+    let bytes = read(path, limit + 1)?;
+    match bytes.len() > limit {
+        true => Err(Failure::io(Path::new(path), io::Error::other(words))),
+        false => Ok(bytes),
+    }
 }
 
 /// Reads at most so many bytes, so that an endless file does not fill the

@@ -23,6 +23,8 @@ mod failure;
 mod files_io;
 mod names;
 mod progress;
+mod step_list;
+mod steps;
 
 use std::ffi::OsString;
 use std::io::{self, Write};

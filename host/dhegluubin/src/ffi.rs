@@ -85,6 +85,7 @@ extern "C" {
         data_len: usize,
     ) -> CReply;
     fn dheg_remove(image: *mut u8, image_len: usize, name: *const u8, name_len: usize) -> CReply;
+    fn dheg_batch(image: *mut u8, image_len: usize, list: *const u8, list_len: usize) -> CReply;
     fn dheg_first_track(track: *const u8, track_len: usize) -> CFirstTrack;
 }
 
@@ -216,6 +217,17 @@ pub fn remove(image: &mut [u8], name: &[u8]) -> Reply {
     // SAFETY: each pointer comes with the length of its own slice, `image`
     // is lent for writing and so overlaps nothing, both live for the call.
     unsafe { dheg_remove(image.as_mut_ptr(), image.len(), name.as_ptr(), name.len()) }.into()
+}
+
+/// [`batch`](crate::batch), with the list as bytes and the reply as it is given:
+/// of a refused item the third place is its number, from 1.
+///
+/// Bytes that are no list are refused with 20. [`Reply::batch_result`] names the
+/// item and its refusal.
+pub fn batch(image: &mut [u8], list: &[u8]) -> Reply {
+    // SAFETY: each pointer comes with the length of its own slice, `image`
+    // is lent for writing and so overlaps nothing, both live for the call.
+    unsafe { dheg_batch(image.as_mut_ptr(), image.len(), list.as_ptr(), list.len()) }.into()
 }
 
 /// [`first_track`](crate::first_track), with the reply as it is given and the

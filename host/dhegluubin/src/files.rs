@@ -1,5 +1,6 @@
 //! Files on a block image.
 
+use crate::batch::{BatchList, BatchRefusal};
 use crate::ffi;
 use crate::refusal::Refusal;
 use crate::reply::FirstTrack;
@@ -195,6 +196,39 @@ pub fn add(image: &mut [u8], name: &[u8], date: u32, data: &[u8]) -> Result<(), 
 /// ```
 pub fn remove(image: &mut [u8], name: &[u8]) -> Result<(), Refusal> {
     ffi::remove(image, name).result().map(|_| ())
+}
+
+/// Makes the removes and adds of a list in one call, each as [`remove`] and
+/// [`add`] do it, one after the other up to the first that is refused. That one
+/// changes no byte, those before it stand, and those after it are not tried.
+///
+/// Refused with 1, [`Length`](Refusal::Length), for the whole call, which changes
+/// nothing; then as [`remove`] and [`add`] refuse an item, which is named. An
+/// empty list is done on every disk, sound or not.
+///
+/// ```
+/// use dhegluubin::{add, batch, format, read, BatchList, Refusal, IMAGE_LEN};
+///
+/// let mut image = vec![0; IMAGE_LEN];
+/// format(&mut image, b"STAGE", 1)?;
+/// add(&mut image, b"cue_1", 0, b"house lights")?;
+///
+/// let mut list = BatchList::new();
+/// list.remove(b"cue_1");
+/// list.add(b"cue_1", 0, b"curtain").add(b"cue_2", 0, b"applause");
+/// batch(&mut image, &list)?;
+/// let mut out = [0; 100];
+/// let count = read(&image, b"cue_1", &mut out)?;
+/// assert_eq!(out[..count], *b"curtain");
+///
+/// // Once more: the first two items are accepted again, cue_2 is present.
+/// let refused = batch(&mut image, &list).unwrap_err();
+/// assert_eq!(refused.item, Some(3));
+/// assert_eq!(refused.refusal, Refusal::NamePresent { slot: 2 });
+/// # Ok::<(), Box<dyn std::error::Error>>(())
+/// ```
+pub fn batch(image: &mut [u8], list: &BatchList) -> Result<(), BatchRefusal> {
+    ffi::batch(image, list.bytes()).batch_result()
 }
 
 /// Judges the first track of a block image, [`FIRST_TRACK_LEN`] bytes, and

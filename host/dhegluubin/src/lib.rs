@@ -5,7 +5,8 @@
 //!   [`pack`] writes one of version 1; [`rewrite`] changes one sector in an image
 //!   of version 1. [`Edition::of`] tells which version an image is of.
 //! - [`format()`], [`format_bad`], [`check`], [`list`], [`read`], [`add`] and [`remove`] work on
-//!   a block image and the files in it.
+//!   a block image and the files in it; [`batch`] makes many removes and adds in
+//!   one call.
 //! - [`first_track`] judges the first track alone, and [`place`] tells where a
 //!   sector of a block stands in a block image.
 //!
@@ -17,7 +18,7 @@
 //! library keeps no state, so that several threads may call it at once, each
 //! with its own memory. No input makes a call panic: what cannot be done is a
 //! [`Refusal`] with its number and places, and a refused call has changed
-//! nothing.
+//! nothing; of a batch that holds for the refused item.
 //!
 //! ```
 //! use dhegluubin::{add, format, pack, read, unpack, Refusal, HFE_LEN, IMAGE_LEN};
@@ -48,6 +49,7 @@
 #![deny(unsafe_code)]
 #![warn(missing_docs)]
 
+mod batch;
 mod edition;
 // Calls into C need unsafe code; it stands in this file alone.
 #[allow(unsafe_code)]
@@ -62,10 +64,11 @@ mod sectors;
 #[doc = include_str!("../../../README.md")]
 struct Readme;
 
+pub use batch::{BatchList, BatchRefusal};
 pub use edition::Edition;
 pub use files::{
-    add, check, first_track, format, format_bad, list, read, remove, DISK_NAME_LEN, ENTRY_LEN,
-    FILE_NAME_LEN, FIRST_TRACK_LEN,
+    add, batch, check, first_track, format, format_bad, list, read, remove, DISK_NAME_LEN,
+    ENTRY_LEN, FILE_NAME_LEN, FIRST_TRACK_LEN,
 };
 pub use refusal::Refusal;
 pub use reply::{FirstTrack, Lent, Reply};
@@ -80,7 +83,7 @@ pub use sectors::{pack, place, rewrite, unpack, HFE_LEN, IMAGE_LEN, SECTOR_LEN, 
 /// ```
 pub mod raw {
     pub use crate::ffi::{
-        add, check, first_track, format, format_bad, list, pack, place, read, remove, rewrite,
-        unpack,
+        add, batch, check, first_track, format, format_bad, list, pack, place, read, remove,
+        rewrite, unpack,
     };
 }

@@ -6,12 +6,14 @@ use std::error::Error;
 
 use crate::reply::{Lent, Reply};
 
-/// Why a call was refused. A refused call has changed nothing.
+/// Why a call was refused. A refused call has changed nothing; of a batch a
+/// refused item has not, see [`BatchRefusal`](crate::BatchRefusal).
 ///
 /// Of the numbers that apply the lowest is given, only that 18 comes before 4
-/// to 7 and 19 before 10 and 11, and that [`rewrite`](crate::rewrite) has an
-/// order of its own; of the places that a number could name, the first. Refusals 4 to 7 go by sector:
-/// the first bad one by track, side and sector decides.
+/// to 7, 19 before 10 and 11, and 20 right after 1, and that
+/// [`rewrite`](crate::rewrite) has an order of its own; of the places that a
+/// number could name, the first. Refusals 4 to 7 go by sector: the first bad one
+/// by track, side and sector decides.
 ///
 /// ```
 /// use dhegluubin::Refusal;
@@ -132,6 +134,13 @@ pub enum Refusal {
     /// 19: the good-sector word does not fit the map: it is 1440 less three
     /// times the bad records. It comes after 9 and before 10 and 11.
     GoodWord,
+    /// 20: an item of the list that [`raw::batch`](crate::raw::batch) is given has
+    /// another kind than 1 and 2, or the list ends before it does. A
+    /// [`BatchList`](crate::BatchList) has no such item.
+    WrongItem {
+        /// The first such item, from 1.
+        item: usize,
+    },
     /// An answer that this binding has no name for. The library that it was
     /// written for gives none.
     Unknown {
@@ -176,6 +185,7 @@ impl Refusal {
                 place: third,
             },
             19 => Refusal::GoodWord,
+            20 => Refusal::WrongItem { item: third },
             _ => return None,
         };
         Some(refusal)
@@ -207,7 +217,7 @@ impl Refusal {
         }
     }
 
-    /// The number, 1 to 19 unless it is unknown.
+    /// The number, 1 to 20 unless it is unknown.
     pub const fn number(self) -> usize {
         self.reply().number
     }
@@ -250,6 +260,7 @@ impl Refusal {
             Refusal::Misread => Reply::new([17, 0, 0, 0]),
             Refusal::WrongCode { track, side, place } => Reply::new([18, track, side, place]),
             Refusal::GoodWord => Reply::new([19, 0, 0, 0]),
+            Refusal::WrongItem { item } => Reply::new([20, 0, 0, item]),
             Refusal::Unknown { reply } => reply,
         }
     }
@@ -264,7 +275,7 @@ mod tests {
     #[test]
     fn every_answer_is_kept() {
         let places = [0, 1, 2, 3, 500, usize::MAX];
-        for number in (1..21).chain([usize::MAX]) {
+        for number in (1..22).chain([usize::MAX]) {
             for first in places {
                 for second in places {
                     for third in places {
@@ -286,6 +297,8 @@ mod tests {
             [11, 1, 0, 0],
             [9, 3, 0, 1],
             [19, 1, 0, 0],
+            [20, 1, 0, 2],
+            [13, 5, 0, 2],
         ] {
             let reply = Reply::new(parts);
             assert_eq!(reply.result(), Err(Refusal::Unknown { reply }));

@@ -1,5 +1,6 @@
 //! What the library answers.
 
+use crate::batch::BatchRefusal;
 use crate::refusal::Refusal;
 
 /// An answer as the library gives it: a number and three places.
@@ -50,6 +51,25 @@ impl Reply {
         match self.number {
             0 => Ok(self.first),
             _ => Err(Refusal::of(self)),
+        }
+    }
+
+    /// The same for an answer to [`raw::batch`](crate::raw::batch), whose third
+    /// place is an item.
+    ///
+    /// ```
+    /// use dhegluubin::{BatchRefusal, Refusal, Reply};
+    ///
+    /// assert_eq!(Reply::new([0, 0, 0, 0]).batch_result(), Ok(()));
+    /// assert_eq!(
+    ///     Reply::new([13, 7, 0, 3]).batch_result(),
+    ///     Err(BatchRefusal { item: Some(3), refusal: Refusal::NamePresent { slot: 7 } })
+    /// );
+    /// ```
+    pub fn batch_result(self) -> Result<(), BatchRefusal> {
+        match self.number {
+            0 => Ok(()),
+            _ => Err(BatchRefusal::of(self)),
         }
     }
 }

@@ -59,7 +59,7 @@ fn printed(files: &[&str]) -> String {
 
 #[test]
 fn every_call() {
-    let text = printed(&["every_call", "version_3", "bad_blocks", "checks"]);
+    let text = printed(&["every_call", "version_3", "bad_blocks", "batch", "checks"]);
     assert!(text.ends_with(" checks, 0 failed\n"), "{text}");
 }
 
@@ -88,11 +88,12 @@ fn stack() {
         "dheg_read",
         "dheg_add",
         "dheg_remove",
+        "dheg_batch",
     ] {
         let used = stack_of(&text, name);
         assert!((1..40_000).contains(&used), "{name} uses {used} bytes");
     }
-    assert_eq!(text.lines().count(), 13, "{text}");
+    assert_eq!(text.lines().count(), 14, "{text}");
 }
 
 /// Runs the readme's example on these bytes.

@@ -10,7 +10,7 @@
 //! - Sector layer: `geometry`, `hfe`, `track_table`, `unpack`, `pack`,
 //!   `rewrite`.
 //! - File layer: `layout`, `disk`, `disk_header`, `map`, `directory`, `names`,
-//!   `sound`, `volume`, `buffer`, and a file for each call.
+//!   `sound`, `volume`, `buffer`, `items`, and a file for each call.
 //! - Beside it: `model`, which gives the answers of a whole history without
 //!   looking at an image.
 
@@ -18,6 +18,7 @@
 #![warn(missing_docs)]
 
 pub mod add;
+pub mod batch;
 pub mod buffer;
 pub mod cells;
 pub mod check;
@@ -32,6 +33,7 @@ pub mod format;
 pub mod geometry;
 pub mod header;
 pub mod hfe;
+pub mod items;
 pub mod layout;
 pub mod list;
 pub mod map;
@@ -51,6 +53,7 @@ pub mod volume;
 pub mod written;
 
 pub use add::add;
+pub use batch::batch;
 pub use check::check;
 pub use first_track::{first_track, first_track_text, FirstTrack};
 pub use format::{format, format_bad};

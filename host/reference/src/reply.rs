@@ -92,6 +92,9 @@ pub enum Refusal {
     },
     /// The good word is not that of the map (§7.26).
     GoodWord,
+    /// This item of a list, from 1, has another kind or is cut by the list's
+    /// end (§7.27).
+    WrongItem(usize),
 }
 
 impl Refusal {
@@ -118,6 +121,7 @@ impl Refusal {
             Refusal::Misread => Reply::new(17, [0; 3]),
             Refusal::WrongCode { track, side, place } => Reply::new(18, [track, side, place]),
             Refusal::GoodWord => Reply::new(19, [0; 3]),
+            Refusal::WrongItem(item) => Reply::new(20, [0, 0, item]),
         }
     }
 }

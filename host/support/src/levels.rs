@@ -5,7 +5,7 @@ use crate::json::Value;
 
 /// The project's level: the requests One to this one are in. The tests take
 /// the answers that hold at it.
-pub const LEVEL: usize = 6;
+pub const LEVEL: usize = 7;
 
 /// Whether an answer still holds at a level: `until` is the last level that it
 /// holds at, or null where it never changes.

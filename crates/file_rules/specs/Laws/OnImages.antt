@@ -3,4 +3,6 @@ pub mod Remove
 pub mod Slot
 pub mod Added
 pub mod Add
+pub mod Single
+pub mod Batch
 pub mod Run

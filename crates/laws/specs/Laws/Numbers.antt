@@ -1,16 +1,19 @@
--- Numbers in bytes, highest or lowest byte first: what was written is read, and the bytes written out.
--- Rests on the laws of what is written into a list.
+-- Numbers in bytes, highest or lowest byte first: what was written is read, the bytes written out, and bytes again from the number that they are read as.
+-- Rests on the laws of lists given by a rule, and of what is written into a list.
 use mathlib.Core.Path.{_≡_, refl, _∙_, ap, ap₂, sym}
-use mathlib.Core.List.{List, [], _∷_}
+use mathlib.Core.List.{List, [], _∷_, _++_}
 use Prim.Native.Nat.{ℕ, zero, suc, _+_, _-_, _*_, _/_, _%_, _^_, _<_, _≤_}
-use native.Mathlib.Nat.{add-assoc, add-zero, zero-add, div-one}
+use native.Mathlib.Nat.{add-assoc, add-zero, zero-add, div-one, not-suc-le-zero}
 use native.Mathlib.Omega.{arith}
-use lib.ListN.{length, getD}
-use lib.Pow.{shr-shr, mod-pow-add}
-use Rattle.laws.specs.Lists.{tab, elementAt}
+use lib.ListN.{length, getD, take, drop, List·getD-append}
+use lib.Pow.{pow-add, shr-shr, mod-pow-add}
+use lib.Seq.{getD-append-add}
+use Rattle.laws.specs.Lists.{tab, elementAt, window}
 use Rattle.laws.specs.Changes.{overlay}
 use Rattle.laws.specs.Numbers.{bigEndian, highFirst, lowFirst, highByte, lowByte, at16, at32}
+use Rattle.laws.specs.Laws.Cases.{by-equal}
 use Rattle.laws.specs.Laws.Overlay.{overlay-in}
+use Rattle.laws.specs.Laws.Tab.{tab-length, tab-in, tab-ext, window-part}
 
 -- ---- rows that agree
 
@@ -110,3 +113,63 @@ high2-at v h = let e = high-is (highByte 2 v) 2 v (λ k l. refl) in omega (arith
 -- the number in the four bytes of a number that fits them is that number
 pub high4-at : (v : ℕ) → v < 4294967296 → bigEndian (highByte 4 v) 4 ≡ v
 high4-at v h = let e = high-is (highByte 4 v) 4 v (λ k l. refl) in omega (arith, e)
+
+-- ---- bytes between others
+
+module _ (p q : List ℕ) where
+  -- the number in the bytes of v, which stand after p, is v, less what the width does not hold
+  pub high-stands : (n v at : ℕ) → length p ≡ at → highFirst (p ++ (tab (highByte n v) n ++ q)) at n ≡ v % 2 ^ (8 * n)
+  unfolding highFirst elementAt
+  high-stands n v at e =
+      high-is (elementAt (p ++ (tab (highByte n v) n ++ q)) at) n v
+      (λ k l.
+      rw (← e)
+      (getD-append-add p (tab (highByte n v) n ++ q) k 0
+      ∙ List·getD-append (tab (highByte n v) n) q 0 k (rw (tab-length (highByte n v) n) l) ∙ tab-in (highByte n v) n k l))
+
+  -- the number in the four bytes of a number that fits them, which stand after p, is that number
+  pub high4-stands : (v at : ℕ) → length p ≡ at → v < 4294967296 → highFirst (p ++ (tab (highByte 4 v) 4 ++ q)) at 4 ≡ v
+  high4-stands v at e h = let f = high-stands 4 v at e in omega (arith, f)
+
+-- ---- the bytes of the number in n bytes are these bytes
+
+-- byte k of the number in the n bytes of f is f k
+pub byte-of-high : (f : ℕ → ℕ) (n : ℕ) → ((k : ℕ) → k < n → f k < 256) → (k : ℕ) → k < n → highByte n (bigEndian f n) k ≡ f k
+unfolding bigEndian highByte
+byte-of-high f zero h k l = absurd (not-suc-le-zero l)
+byte-of-high f (suc n) h k l =
+    let last : f n < 256 = h n (omega arith) in
+    let v : ℕ = bigEndian f n * 256 + f n in
+    by-equal k n
+    (λ e.
+    let none : 8 * (suc n - (k + 1)) ≡ 0 = omega arith in
+    rw (none, div-one v, e) (omega arith))
+    (λ e.
+    let one : 8 * (suc n - (k + 1)) ≡ 8 + 8 * (n - (k + 1)) = omega arith in
+    let front : v / 2 ^ 8 ≡ bigEndian f n = omega arith in
+    rw (one, ← (shr-shr v 8 (8 * (n - (k + 1)))), front) (byte-of-high f n (λ i b. h i (omega arith)) k (omega arith)))
+
+-- the n bytes of the number in n bytes are these
+pub high-again : (f : ℕ → ℕ) (n : ℕ) → ((k : ℕ) → k < n → f k < 256) → tab (highByte n (bigEndian f n)) n ≡ tab f n
+high-again f n h = tab-ext (highByte n (bigEndian f n)) f n (byte-of-high f n h)
+
+-- the number in n bytes fits n bytes
+pub high-below : (f : ℕ → ℕ) (n : ℕ) → ((k : ℕ) → k < n → f k < 256) → bigEndian f n < 2 ^ (8 * n)
+unfolding bigEndian
+high-below f zero h = omega arith
+high-below f (suc n) h =
+    let more : 8 * suc n ≡ 8 * n + 8 = omega arith in
+    let last : f n < 256 = h n (omega arith) in
+    let front : bigEndian f n < 2 ^ (8 * n) = high-below f n (λ i b. h i (omega arith)) in
+    rw (more, pow-add 2 (8 * n) 8) (omega arith)
+
+module _ (s : List ℕ) (at n : ℕ) (h : (i : ℕ) → getD s i 0 < 256) where
+  -- the n bytes of the number that stands in a list of bytes are that part of the list
+  pub high-part : at + n ≤ length s → tab (highByte n (highFirst s at n)) n ≡ take n (drop at s)
+  unfolding highFirst elementAt window
+  high-part l = high-again (elementAt s at) n (λ k b. h (at + k)) ∙ sym (window-part s at n l)
+
+  -- that number fits n bytes
+  pub high-small : highFirst s at n < 2 ^ (8 * n)
+  unfolding highFirst elementAt
+  high-small = high-below (elementAt s at) n (λ k b. h (at + k))

@@ -3,15 +3,16 @@
 use std::ffi::{OsStr, OsString};
 use std::path::Path;
 
-use dhegluubin::{add, remove, Edition};
+use dhegluubin::{batch, BatchList, BatchRefusal, Edition};
 
 use super::pack::packed;
 use super::unpack::unpacked;
 use super::Command;
 use crate::args::{self, Given};
 use crate::failure::Failure;
+use crate::files_io;
 use crate::progress::Progress;
-use crate::{dates, files_io, names};
+use crate::steps::{self, Step};
 
 pub const COMMAND: Command = Command {
     name: "edit",
@@ -29,19 +30,6 @@ version 3, a line on standard error says so.
     run,
 };
 
-/// A change of the disk.
-#[derive(Debug, PartialEq)]
-enum Step<'a> {
-    Put {
-        name: Vec<u8>,
-        file: &'a OsStr,
-        date: u32,
-    },
-    Rm {
-        name: Vec<u8>,
-    },
-}
-
 fn run(args: &[OsString]) -> Result<(), Failure> {
     let Some((before, after)) = args::split(args) else {
         return Err(Failure::Usage(String::from(
@@ -52,9 +40,9 @@ fn run(args: &[OsString]) -> Result<(), Failure> {
     let steps = steps(after)?;
     let progress = Progress::new();
     let (mut image, edition_to_tell) = unpacked(from, &progress)?;
-    for step in &steps {
-        step.take(from, &mut image, &progress)?;
-    }
+    let (list, unread) = listed(&steps, &progress);
+    batch(&mut image, &list).map_err(|refused| in_step(from, &steps, refused))?;
+    unread?;
     let hfe = packed(from, &image, &progress)?;
     files_io::write(to, &hfe)?;
     progress.wipe();
@@ -67,11 +55,11 @@ fn run(args: &[OsString]) -> Result<(), Failure> {
 }
 
 /// Reads all steps, before the first of them is taken.
-fn steps(args: &[OsString]) -> Result<Vec<Step<'_>>, Failure> {
+fn steps(args: &[OsString]) -> Result<Vec<Step>, Failure> {
     let mut rest = args;
     let mut steps = Vec::new();
-    while let Some((verb, after)) = rest.split_first() {
-        let (step, after) = step(verb, after)?;
+    while !rest.is_empty() {
+        let (step, after) = steps::first(rest)?;
         steps.push(step);
         rest = after;
     }
@@ -81,54 +69,21 @@ fn steps(args: &[OsString]) -> Result<Vec<Step<'_>>, Failure> {
     }
 }
 
-/// A step, and what stands after it. Places decide what is a verb, so that
-/// a file may be called put or rm.
-fn step<'a>(verb: &OsStr, after: &'a [OsString]) -> Result<(Step<'a>, &'a [OsString]), Failure> {
-    match (verb.to_str(), after) {
-        (Some("put"), [name, file, rest @ ..]) => {
-            let name = names::parse(name)?;
-            let (date, rest) = date(rest)?;
-            Ok((Step::Put { name, file, date }, rest))
-        }
-        (Some("rm"), [name, rest @ ..]) => {
-            let name = names::parse(name)?;
-            Ok((Step::Rm { name }, rest))
-        }
-        (Some("put"), _) => Err(Failure::Usage(String::from("put needs NAME and FILE"))),
-        (Some("rm"), _) => Err(Failure::Usage(String::from("rm needs NAME"))),
-        _ => Err(Failure::Usage(format!(
-            "there is no step {}",
-            verb.to_string_lossy()
-        ))),
-    }
+/// The steps for the library, up to the first whose file cannot be read, and why
+/// not: a step before it may be refused, which is then told instead.
+fn listed(steps: &[Step], progress: &Progress) -> (BatchList, Result<(), Failure>) {
+    let mut list = BatchList::new();
+    let mut put = steps.iter().map(|step| step.put_on(&mut list, progress));
+    let unread = put.find_map(Result::err).map_or(Ok(()), Err);
+    (list, unread)
 }
 
-/// The date after a put, 0 unless given.
-fn date(args: &[OsString]) -> Result<(u32, &[OsString]), Failure> {
-    match args {
-        [option, rest @ ..] if option == "--date" => match rest {
-            [text, rest @ ..] => Ok((dates::parse(text)?, rest)),
-            [] => Err(args::without_value("--date")),
-        },
-        _ => Ok((0, args)),
-    }
-}
-
-impl Step<'_> {
-    /// Changes the block image that came from this file.
-    fn take(&self, from: &OsStr, image: &mut [u8], progress: &Progress) -> Result<(), Failure> {
-        let (name, outcome) = match self {
-            Step::Put { name, file, date } => {
-                progress.show(&format!("adding {}", Path::new(file).display()));
-                let data = files_io::read_data(file)?;
-                (name, add(image, name, *date, &data))
-            }
-            Step::Rm { name } => {
-                progress.show(&format!("removing {}", names::shown(name)));
-                (name, remove(image, name))
-            }
-        };
-        outcome.map_err(|refusal| super::in_file(from, name, refusal))
+/// The refusal of a step, with the name of its file.
+fn in_step(from: &OsStr, steps: &[Step], refused: BatchRefusal) -> Failure {
+    let index = refused.item.and_then(|item| item.checked_sub(1));
+    match index.and_then(|index| steps.get(index)) {
+        Some(step) => super::in_file(from, step.name(), refused.refusal),
+        None => Failure::refused(Path::new(from), refused.refusal),
     }
 }
 
@@ -143,43 +98,23 @@ mod tests {
     #[test]
     fn steps_in_order() {
         let args = line("put put rm --date 5 rm rm put --date --date rm a\\x00");
-        let expected = vec![
-            Step::Put {
-                name: b"put".to_vec(),
-                file: OsStr::new("rm"),
-                date: 5,
-            },
-            Step::Rm {
-                name: b"rm".to_vec(),
-            },
-            Step::Put {
-                name: b"--date".to_vec(),
-                file: OsStr::new("--date"),
-                date: 0,
-            },
-            Step::Rm {
-                name: b"a\0".to_vec(),
-            },
-        ];
-        assert_eq!(steps(&args).unwrap(), expected);
+        let names: Vec<Vec<u8>> = steps(&args)
+            .unwrap()
+            .iter()
+            .map(|step| step.name().to_vec())
+            .collect();
+        assert_eq!(names, [&b"put"[..], b"rm", b"--date", b"a\0"]);
     }
 
     #[test]
     fn wrong_steps() {
         assert_eq!(steps(&[]).unwrap_err().status(), 2);
         for text in [
-            "put",
-            "put a",
-            "rm",
-            "ls",
-            "rm a b",
             "put a b c",
-            "put a b --date",
-            "put a b --date never",
+            "rm a b",
+            "rm a rm",
             "put a b --date 1 --date 2",
             "rm a --date 1",
-            "rm \\y",
-            "put \\y b",
         ] {
             assert_eq!(steps(&line(text)).unwrap_err().status(), 2, "{text}");
         }

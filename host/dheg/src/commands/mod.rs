@@ -1,5 +1,6 @@
 //! The commands, a file each.
 
+mod batch;
 mod check;
 mod counts;
 mod edit;
@@ -37,7 +38,7 @@ pub struct Command {
 }
 
 /// In the order in which the overview shows them.
-const ALL: [&Command; 11] = [
+const ALL: [&Command; 12] = [
     &unpack::COMMAND,
     &pack::COMMAND,
     &edit::COMMAND,
@@ -48,6 +49,7 @@ const ALL: [&Command; 11] = [
     &get::COMMAND,
     &put::COMMAND,
     &rm::COMMAND,
+    &batch::COMMAND,
     &place::COMMAND,
 ];
 
@@ -67,11 +69,11 @@ Dates are QL dates, seconds since 1961-01-01 00:00:00. They are given as that
 number, as YYYY-MM-DD HH:MM:SS or as now (UTC).
 
 A file is written under a temporary name beside its place, then renamed; when
-a command fails, what was there before is unchanged. A device or a pipe is
-written directly.
+a command fails, what was there before is unchanged, but for the items of a
+batch before one that is refused. A device or a pipe is written directly.
 
-Exit status: 0 done, 1 refused, 2 wrong command line, 3 a file could not be
-read or written.
+Exit status: 0 done, 1 refused, 2 wrong command line or list, 3 a file could not
+be read or written.
 ";
 
 /// The command of this name.

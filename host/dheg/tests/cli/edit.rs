@@ -101,6 +101,35 @@ fn refused_steps_write_nothing() {
     }
 }
 
+/// A step is refused before the file of a later one is missed, and as the single
+/// call would be where its name has no room in a list (§8.18): by the disk first,
+/// then with 12 (§8.5).
+#[test]
+fn refusals_before_what_follows() {
+    let bench = bench();
+    bench.fails(
+        "edit in.hfe out.hfe -- rm none put new missing",
+        1,
+        "in.hfe: none: refused 14: no file of this name",
+    );
+    let long = "n".repeat(300);
+    let out_of_range = "refused 12: name, block, sector or data out of range";
+    for step in [format!("rm {long}"), format!("put {long} one")] {
+        bench.fails(
+            &format!("edit in.hfe out.hfe -- rm old {step} rm old"),
+            1,
+            &format!("in.hfe: {long}: {out_of_range}"),
+        );
+    }
+    bench.damage("disk.img", 20);
+    bench.quiet("pack disk.img bad.hfe");
+    bench.fails(
+        &format!("edit bad.hfe out.hfe -- rm {long}"),
+        1,
+        &format!("bad.hfe: {long}: refused 11: free-sector word does not fit the map"),
+    );
+}
+
 #[test]
 fn refused_images() {
     let bench = bench();

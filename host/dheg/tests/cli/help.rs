@@ -2,8 +2,8 @@
 
 use crate::bench::{Bench, Ended};
 
-const COMMANDS: [&str; 11] = [
-    "unpack", "pack", "edit", "poke", "format", "check", "ls", "get", "put", "rm", "place",
+const COMMANDS: [&str; 12] = [
+    "unpack", "pack", "edit", "poke", "format", "check", "ls", "get", "put", "rm", "batch", "place",
 ];
 
 #[test]
@@ -61,13 +61,14 @@ fn examples_work() {
         bench.write(name, text.as_bytes());
     }
     bench.write("sector.bin", &[0x51; 512]);
+    bench.write("cues.txt", b"# cues\nput cue_1 notes.txt\nrm cue_1\n");
     bench.quiet("format games.img");
     bench.quiet("put games.img boot letter.txt");
     bench.quiet("pack games.img old.hfe");
     for command in ["format", "put", "get", "ls", "rm", "check", "pack"] {
         run_example(&bench, command);
     }
-    for command in ["unpack", "edit", "poke", "place"] {
+    for command in ["batch", "unpack", "edit", "poke", "place"] {
         run_example(&bench, command);
     }
 }

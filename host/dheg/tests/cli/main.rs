@@ -1,6 +1,7 @@
 //! The built tool, run in folders of its own.
 
 mod bad_blocks;
+mod batch;
 mod bench;
 mod edit;
 mod files;

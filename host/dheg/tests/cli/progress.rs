@@ -21,6 +21,7 @@ fn at_a_terminal(bench: &Bench, line: &str) -> Option<String> {
 #[test]
 fn shown_and_wiped() {
     let bench = Bench::with_file();
+    bench.write("list", b"rm one\nput three data\nrm three\n");
     for (line, steps) in [
         (
             "dheg check disk.img disk.img",
@@ -29,6 +30,10 @@ fn shown_and_wiped() {
         (
             "dheg unpack disk.hfe out.img",
             &["unpacking disk.hfe, HFE version 1"],
+        ),
+        (
+            "dheg batch disk.img list",
+            &["removing one", "adding data", "removing three"],
         ),
         (
             "dheg edit disk.hfe disk.hfe -- rm one put two data",

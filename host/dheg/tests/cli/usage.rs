@@ -46,6 +46,8 @@ fn counts_of_words() {
         ("put disk.img a", "words needed: 3, given: 2"),
         ("rm disk.img", "words needed: 2, given: 1"),
         ("rm disk.img a b", "words needed: 2, given: 3"),
+        ("batch disk.img", "words needed: 2, given: 1"),
+        ("batch disk.img list more", "words needed: 2, given: 3"),
         ("edit a -- rm b", "words needed: 2, given: 1"),
         ("poke a b 0 0 1", "words needed: 6, given: 5"),
         ("poke a b 0 0 1 c d", "words needed: 6, given: 7"),

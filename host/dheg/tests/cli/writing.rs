@@ -24,6 +24,7 @@ fn folder_that_does_not_exist() {
 #[test]
 fn inputs_that_do_not_exist() {
     let bench = Bench::with_file();
+    bench.write("list", b"rm one");
     for line in [
         "unpack none out",
         "pack none out",
@@ -33,6 +34,8 @@ fn inputs_that_do_not_exist() {
         "put none one data",
         "put disk.img two none",
         "rm none one",
+        "batch none list",
+        "batch disk.img none",
         "poke none out 0 0 1 data",
         "poke disk.hfe out 0 0 1 none",
     ] {
@@ -84,7 +87,12 @@ mod unix {
     fn write_protected_images_stay() {
         let bench = Bench::with_file();
         fs::set_permissions(bench.path("disk.img"), Permissions::from_mode(0o444)).unwrap();
-        for line in ["rm disk.img one", "put disk.img two data"] {
+        bench.write("list", b"rm one\nrm one");
+        for line in [
+            "rm disk.img one",
+            "put disk.img two data",
+            "batch disk.img list",
+        ] {
             bench.fails(line, 3, "disk.img: is write-protected");
         }
     }

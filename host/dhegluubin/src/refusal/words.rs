@@ -31,6 +31,7 @@ impl Refusal {
             Refusal::Misread => "rewritten, the image would be misread",
             Refusal::WrongCode { .. } => "wrong code",
             Refusal::GoodWord => "good-sector word does not fit the map",
+            Refusal::WrongItem { .. } => "list wrong",
             Refusal::Unknown { .. } => "unknown answer",
         }
     }
@@ -58,6 +59,7 @@ impl fmt::Display for Refusal {
             Refusal::Directory { .. } => write!(f, " at file {first}"),
             Refusal::NamePresent { .. } => write!(f, " in slot {first}"),
             Refusal::BufferTooShort { .. } => write!(f, ", {first} bytes needed"),
+            Refusal::WrongItem { .. } => write!(f, " at item {third}"),
             Refusal::Unknown { .. } => write!(f, " with places {first}, {second}, {third}"),
             Refusal::Length { .. }
             | Refusal::FreeWord
@@ -79,7 +81,7 @@ mod tests {
     }
 
     /// An answer of each number, in words.
-    const IN_WORDS: [([usize; 4], &str); 21] = [
+    const IN_WORDS: [([usize; 4], &str); 22] = [
         ([1, 1, 0, 0], "refused 1: HFE image of a wrong length"),
         (
             [1, 2, 0, 0],
@@ -133,9 +135,10 @@ mod tests {
             [19, 0, 0, 0],
             "refused 19: good-sector word does not fit the map",
         ),
+        ([20, 0, 0, 7], "refused 20: list wrong at item 7"),
         (
-            [20, 1, 2, 3],
-            "refused 20: unknown answer with places 1, 2, 3",
+            [21, 1, 2, 3],
+            "refused 21: unknown answer with places 1, 2, 3",
         ),
     ];
 

@@ -3,7 +3,9 @@
 //!
 //! `DHEG_CASES=100000 cargo test -p dhegluubin random_calls` makes as many.
 
-use crate::file_layer::{both as files, random_bad, random_list, random_tails, set_word};
+use crate::file_layer::{
+    both as files, list_of, random_bad, random_batch, random_list, random_tails, set_word,
+};
 use crate::sector_layer::both as sectors;
 use crate::sector_layer::build::{empty_tracks, packed, sides, track_0};
 use crate::sector_layer::coded::random::random_bytes as bytes_and_codes;
@@ -19,7 +21,7 @@ use support::noise::{noise, Generator};
 const USUAL: u32 = 1500;
 
 /// All that are made.
-const CALLS: [&str; 12] = [
+const CALLS: [&str; 13] = [
     "unpack",
     "pack",
     "rewrite",
@@ -31,6 +33,7 @@ const CALLS: [&str; 12] = [
     "read",
     "add",
     "remove",
+    "batch",
     "first_track",
 ];
 
@@ -245,6 +248,29 @@ fn random_bad_list(generator: &mut Generator) -> Vec<u16> {
     bad
 }
 
+/// A list of removes and adds, right or wrong, also with damage anywhere in it, or
+/// bytes by chance.
+fn random_items(generator: &mut Generator) -> Vec<u8> {
+    if generator.below(12) == 0 {
+        let len = generator.below(40);
+        return random_bytes(generator, len);
+    }
+    let (items, tail) = random_batch(generator, 6);
+    let mut list = list_of(&items, &tail);
+    if generator.below(4) == 0 {
+        damage(generator, &mut list);
+    }
+    list
+}
+
+/// Date and data of an add, mostly few data, else of this length.
+fn random_data(generator: &mut Generator, len: usize) -> (u32, Vec<u8>) {
+    let short = generator.below(9000);
+    let len = *generator.choice(&[len, short, short]);
+    let data = random_bytes(generator, len);
+    (generator.below(1 << 24) as u32, data)
+}
+
 /// A call on a block image; what an accepted one leaves is the next disk.
 fn file_call(generator: &mut Generator, disk: &mut Vec<u8>) -> Made {
     let mut image = random_image(generator, disk);
@@ -274,12 +300,13 @@ fn file_call(generator: &mut Generator, disk: &mut Vec<u8>) -> Made {
             let buffer = random_bytes(generator, len);
             ("read", files::read(&image, &name, &buffer).0)
         }
-        43..=64 => {
-            let short = generator.below(9000);
-            let len = *generator.choice(&[len, short, short]);
-            let data = random_bytes(generator, len);
-            let date = generator.below(1 << 24) as u32;
+        43..=62 => {
+            let (date, data) = random_data(generator, len);
             ("add", files::add(&mut image, &name, date, &data))
+        }
+        63..=69 => {
+            let list = random_items(generator);
+            ("batch", files::batch(&mut image, &list))
         }
         _ => ("remove", files::remove(&mut image, &name)),
     };
@@ -317,9 +344,17 @@ fn random_calls() {
 
 /// Asserts that each call was done and refused, but for unpacking: that is
 /// never tried on a whole good disk, which takes long. Wrong codes are among
-/// what it was refused for, wrong good words among those of a disk.
+/// what it was refused for, wrong good words among those of a disk, wrong lists
+/// and refused items among those of a batch.
 fn assert_done_and_refused(counts: &BTreeMap<Made, u32>) {
-    for made in [("unpack", 18), ("check", 19), ("add", 19), ("remove", 19)] {
+    for made in [
+        ("unpack", 18),
+        ("check", 19),
+        ("add", 19),
+        ("remove", 19),
+        ("batch", 14),
+        ("batch", 20),
+    ] {
         assert!(counts.contains_key(&made), "{made:?}");
     }
     for call in CALLS {

@@ -25,6 +25,11 @@ fn history(seed: u32) {
         };
         assert_eq!(reply, other, "seed {seed}, call {index}");
     }
+    // Item 3 is refused.
+    let list = b"\x02\x01z\0\0\0\x01\0\0\0\x02ab\x01\x01z\x01\x01z\x01\x01\0";
+    let reply = raw::batch(&mut image, list).parts();
+    assert_eq!(reply, reference::batch(&mut expected, list).parts());
+    assert_eq!(reply, [14, 0, 0, 3], "seed {seed}");
     assert!(image == expected, "seed {seed}");
 }
 

@@ -31,4 +31,7 @@ void version_3(void);
 /* In bad_blocks.c: formats with bad blocks, and calls on such a disk. */
 void bad_blocks(void);
 
+/* In batch.c: many removes and adds in one call. */
+void batches(void);
+
 #endif

@@ -1,5 +1,6 @@
 /* Calls every function of the library, good and refused, and compares replies and lent bytes. What is
- * asked of version 3 images stands in version_3.c, of bad blocks in bad_blocks.c. */
+ * asked of version 3 images stands in version_3.c, of bad blocks in bad_blocks.c, of batches in
+ * batch.c. */
 
 #define _DEFAULT_SOURCE /* for mmap */
 
@@ -136,7 +137,7 @@ static void long_data(void)
     munmap(data, all);
 }
 
-/* What check, list, read, add and remove say of a disk that is wrong. */
+/* What check, list, read, add, remove and the first item of a batch say of a disk that is wrong. */
 static void wrong_disk(const char *what, size_t number, size_t first)
 {
     keep();
@@ -145,6 +146,7 @@ static void wrong_disk(const char *what, size_t number, size_t first)
     refused(what, read_file("second", sizeof out), number, first, 0, 0);
     refused(what, add("third", NULL, 0), number, first, 0, 0);
     refused(what, remove_file("second"), number, first, 0, 0);
+    refused(what, dheg_batch(image, sizeof image, text("\1\6second"), 8), number, first, 0, 1);
 }
 
 static dheg_reply first_track_reply(void)
@@ -353,6 +355,7 @@ int main(void)
     free_tail();
     first_track();
     bad_blocks();
+    batches();
     hfe_images();
     version_3();
     rewriting();

@@ -28,6 +28,10 @@ static uint8_t image[DHEG_IMAGE_LEN], other[DHEG_IMAGE_LEN], hfe[DHEG_HFE_LEN];
 static uint8_t content[DHEG_IMAGE_LEN], out[DHEG_IMAGE_LEN];
 static uint16_t bad[BAD_COUNT];
 
+/* The list of a batch, and how many of its bytes are lent. */
+static uint8_t list_bytes[2 * DHEG_IMAGE_LEN];
+static size_t list_len;
+
 /* The name of the n-th file. Names of one length differ in a few letters. */
 static const uint8_t *name_of(size_t n)
 {
@@ -67,6 +71,7 @@ CALL(list, dheg_list(image, sizeof image, out, length))
 CALL(read, dheg_read(image, sizeof image, name_of(file), NAME_LEN, out, sizeof out))
 CALL(add, dheg_add(image, sizeof image, name_of(file), NAME_LEN, 1, content, length))
 CALL(take, dheg_remove(image, sizeof image, name_of(file), NAME_LEN))
+CALL(batch, dheg_batch(image, sizeof image, list_bytes, list_len))
 CALL(first_track, dheg_first_track(image, DHEG_FIRST_TRACK_LEN).reply)
 
 /* ---- the measurement */
@@ -114,6 +119,7 @@ enum {
     READ,
     ADD,
     REMOVE,
+    BATCH,
     FIRST_TRACK,
     COUNT
 };
@@ -121,10 +127,10 @@ enum {
 static const char *const names[COUNT] = {
     "dheg_unpack", "dheg_unpack, version 3", "dheg_pack",       "dheg_rewrite", "dheg_place",
     "dheg_format", "dheg_format_bad",        "dheg_check",      "dheg_list",    "dheg_read",
-    "dheg_add",    "dheg_remove",            "dheg_first_track"};
+    "dheg_add",    "dheg_remove",            "dheg_batch",      "dheg_first_track"};
 static void *(*const calls[COUNT])(void *) = {unpack,     unpack, pack, rewrite, place, format,
                                               format_bad, check,  list, read,    add,   take,
-                                              first_track};
+                                              batch,      first_track};
 static size_t most[COUNT];
 
 /* What a thread uses without a call. */
@@ -160,6 +166,45 @@ static void fill_disk(void)
     length = 1;
     measure(ADD, 0);
     file = FILES / 2;
+}
+
+/* Lists the remove of a file, or its add with data of this length. */
+static void list_item(uint8_t kind, size_t n, size_t data_len)
+{
+    uint8_t *item = list_bytes + list_len;
+
+    item[0] = kind;
+    item[1] = NAME_LEN;
+    memcpy(item + 2, name_of(n), NAME_LEN);
+    list_len += 2 + NAME_LEN;
+    if (kind == 1)
+        return;
+    item += 2 + NAME_LEN;
+    memset(item, 1, 4);
+    item[4] = (uint8_t)(data_len >> 24);
+    item[5] = (uint8_t)(data_len >> 16);
+    item[6] = (uint8_t)(data_len >> 8);
+    item[7] = (uint8_t)data_len;
+    memcpy(item + 8, content, data_len);
+    list_len += 8 + data_len;
+}
+
+/* On the full disk: files removed and added anew, so that the next list is refused at its last item;
+ * then one that is wrong there. */
+static void batch_on_full_disk(void)
+{
+    size_t n;
+
+    list_len = 0;
+    for (n = 0; n < 60; n++)
+        list_item(1, n, 0);
+    for (n = 0; n < 60; n++)
+        list_item(2, n, n % 7);
+    measure(BATCH, 1);
+    list_item(2, FILES, 1);
+    measure(BATCH, 0);
+    list_len--;
+    measure(BATCH, 0);
 }
 
 /* Byte `index` of a sector of track 40, side 1, counted from the 00 before its header. */
@@ -238,6 +283,11 @@ static void one_file(void)
     measure_readers(1);
     measure(REMOVE, 1);
     measure(REMOVE, 0);
+    list_len = 0;
+    list_item(2, file, length);
+    list_item(1, file, 0);
+    list_item(1, file, 0);
+    measure(BATCH, 0);
 }
 
 int main(void)
@@ -252,6 +302,7 @@ int main(void)
     measure(PLACE, 1);
     measure(FORMAT, 1);
     fill_disk();
+    batch_on_full_disk();
     measure_readers(1);
     measure(PACK, 1);
     measure(UNPACK, 1);
@@ -266,6 +317,10 @@ int main(void)
     measure_readers(0);
     measure(ADD, 0);
     measure(REMOVE, 0);
+    measure(BATCH, 0);
+    list_len = 0;
+    list_item(1, 1, 0);
+    measure(BATCH, 0);
     format_with_bad();
     one_file();
     measure(PACK, 1);

@@ -2,13 +2,15 @@
 //! format and calls alone. It never looks at an image.
 //!
 //! It shares no decision with the calls on images but which names are equal,
-//! and else only the layout of header, entry and record, and the numbers and
-//! the placement of the disk.
+//! and else only the layout of header, entry and record, how the list of a batch
+//! is read and answered, and the numbers and the placement of the disk.
 
 mod blocks;
 mod image;
 
+use crate::batch::in_turn;
 use crate::geometry::BLOCK_LEN;
+use crate::items::{items, Item};
 use crate::layout::entry::{Entry, SLOT_LEN};
 use crate::names::lowered;
 use crate::reply::Reply;
@@ -141,6 +143,19 @@ impl Model {
                 Reply::DONE
             }
             Err(reply) => reply,
+        }
+    }
+
+    /// Makes the items of a list one by one, as adds and removes of their own: each
+    /// that is accepted counts for the files present, the peak and the update
+    /// count (§9.9). A wrong list leaves the model as it was.
+    pub fn batch(&mut self, list: &[u8]) -> Reply {
+        match items(list) {
+            Ok(items) => in_turn(&items, |item| match *item {
+                Item::Remove { name } => self.remove(name),
+                Item::Add { name, date, data } => self.add(name, date, data),
+            }),
+            Err(refusal) => refusal.reply(),
         }
     }
 

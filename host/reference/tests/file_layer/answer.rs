@@ -39,6 +39,16 @@ pub fn remove(image: &mut [u8], name: &[u8]) -> Parts {
     lent(image, |image| reference::remove(image, name))
 }
 
+/// Of a batch the items before the refused one stand; a refusal of the first item
+/// or of the whole call changes nothing.
+pub fn batch(image: &mut [u8], list: &[u8]) -> Parts {
+    let before = image.to_vec();
+    let reply = reference::batch(image, list).parts();
+    let none_done = reply[0] == 20 || (reply[0] != 0 && reply[3] < 2);
+    assert!(!none_done || image == before, "changed by {reply:?}");
+    reply
+}
+
 pub fn check(image: &[u8]) -> Parts {
     reference::check(image).parts()
 }

@@ -10,8 +10,8 @@ use lib.Dec.{lit<, lit≤}
 use lib.ListN.{length, getD}
 use Rattle.laws.specs.Lists.{same, bytesAre, tab}
 use Rattle.laws.specs.Changes.{patch}
-use Rattle.laws.specs.Numbers.{at16, bigEndian, highByte}
-use Rattle.laws.specs.Laws.Numbers.{high2-at}
+use Rattle.laws.specs.Numbers.{at16, at32, bigEndian, highByte}
+use Rattle.laws.specs.Laws.Numbers.{high2-at, high4-at}
 use Rattle.laws.specs.Laws.Same.{eq-same}
 use Rattle.laws.specs.Laws.Tab.{tab-ext, tab-self}
 use Rattle.laws.specs.Laws.Tests.{lt-true, le-true, eq-true, and-true}
@@ -79,6 +79,11 @@ row-stands f o t n long e =
 module _ (args : FormatArguments) (updates word end : ℕ) where
   abbrev written : ℕ → ℕ
   written = diskHeaderByte args updates word end
+
+  -- its update count
+  pub at-16 : updates < 4294967296 → at32 written 16 ≡ updates
+  unfolding at32 bigEndian diskHeaderByte patch
+  at-16 h = high4-at updates h
 
   -- its free word
   pub at-20 : word < 65536 → at16 written 20 ≡ word

@@ -25,8 +25,8 @@ use Rattle.file_rules.specs.Check.{refusal8, refusal9, refusal19, startR
 use Rattle.file_rules.specs.Disk.{Disk, diskOf}
 use Rattle.file_rules.specs.FirstTrack.{refusedTrack, counted, firstTrackResult}
 use Rattle.file_rules.specs.Laws.Base.OnSound.{sound-length, sound-refused, sound-passed}
-use Rattle.file_rules.specs.Laws.Base.Sound.{or-none-left, or-none-right, start-nineteen, sound-eleven, NotDone, not-done-or, not-done-eleven}
-use Rattle.file_rules.specs.Laws.Base.Sound.{not-done-start, refused-number}
+use Rattle.file_rules.specs.Laws.Base.Sound.{or-none-left, or-none-right, start-nineteen, sound-eleven, NotDone, other-or, other-eleven}
+use Rattle.file_rules.specs.Laws.Base.Sound.{other-start, refused-number}
 use Rattle.file_rules.specs.Laws.Base.Track.{track-is}
 use Rattle.file_rules.specs.Map.{recordAt}
 use Rattle.file_rules.specs.Sizes.{slotCount}
@@ -230,7 +230,7 @@ module _ (image : List ℕ) where
   track-by (some r) e p =
       let refused : judgedFirst d ≡ refusedTrack r = rw e in
       let number : NotDone (some r) =
-      subst NotDone e (not-done-or _ _ (not-done-start d) (not-done-eleven d)) in
+      subst NotDone e (other-or 0 _ _ (other-start 0 d (λ z. omega arith) (λ z. omega arith) (λ z. omega arith)) (other-eleven 0 d (λ z. omega arith))) in
       absurd (number (ap (λ (x : FirstTrack). x .reply .number) (sym refused) ∙ ap (λ (x : Reply). x .number) p))
 
   -- an accepted first track gives the counts, and its free word and good word are right

@@ -111,37 +111,44 @@ part-not-first d first f s = part-not d f s 0 (omega arith) (ap (isPart f s) fir
 
 -- ---- a disk with a refusal
 
--- a refusal, where there is one, has another number than 0
-abbrev pub NotDone : Option Reply → Type 0
-NotDone none = Unit {0}
-NotDone (some r) = r .number ≢ 0
+-- a refusal, where there is one, has another number than n
+abbrev pub OtherNumber : ℕ → Option Reply → Type 0
+OtherNumber n none = Unit {0}
+OtherNumber n (some r) = r .number ≢ n
 
 -- so the first of two has
-pub not-done-or : (a b : Option Reply) → NotDone a → NotDone b → NotDone (orElse a b)
+pub other-or : (n : ℕ) (a b : Option Reply) → OtherNumber n a → OtherNumber n b → OtherNumber n (orElse a b)
 unfolding orElse
-not-done-or none b p q = q
-not-done-or (some r) b p q = p
+other-or n none b p q = q
+other-or n (some r) b p q = p
 
--- and one that names a place
-pub not-done-at : (n : ℕ) → n ≢ 0 → (f : Fault) → NotDone (refusalAt n f)
-not-done-at n h (At o) = h
-not-done-at n h Sound = tt
+-- and one with this number that names a place
+pub other-at : (n k : ℕ) → k ≢ n → (f : Fault) → OtherNumber n (refusalAt k f)
+other-at n k h (At o) = h
+other-at n k h Sound = tt
 
 -- and 11
-pub not-done-eleven : (d : Disk) → NotDone (refusal11 d)
+pub other-eleven : (n : ℕ) (d : Disk) → 11 ≢ n → OtherNumber n (refusal11 d)
 unfolding refusal11
-not-done-eleven d = by-cond NotDone (freeRight d) _ _ (λ t. tt) (λ t e. omega arith)
+other-eleven n d h = by-cond (OtherNumber n) (freeRight d) _ _ (λ t. tt) (λ t. h)
 
 -- and what a judgement begins with
-pub not-done-start : (d : Disk) → NotDone (startRefusal d)
+pub other-start : (n : ℕ) (d : Disk) → 8 ≢ n → 9 ≢ n → 19 ≢ n → OtherNumber n (startRefusal d)
 unfolding startRefusal refusal8 refusal9 refusal19
-not-done-start d =
-    not-done-or _ _ (not-done-at 8 (λ e. omega arith) (diskHeaderFault d))
-    (not-done-or _ _ (not-done-at 9 (λ e. omega arith) (faultBelow blocks (mapFault d))) (by-cond NotDone (goodRight d) _ _ (λ t. tt) (λ t e. omega arith)))
+other-start n d e nine g =
+    other-or n _ _ (other-at n 8 e (diskHeaderFault d))
+    (other-or n _ _ (other-at n 9 nine (faultBelow blocks (mapFault d))) (by-cond (OtherNumber n) (goodRight d) _ _ (λ t. tt) (λ t. g)))
 
--- what the judgement of a disk refuses gets another number than 0
-pub refused-number : (d : Disk) → NotDone (diskRefusal d)
+-- what the judgement of a disk refuses gets one of its five numbers
+pub other-disk : (n : ℕ) (d : Disk) → 8 ≢ n → 9 ≢ n → 19 ≢ n → 10 ≢ n → 11 ≢ n → OtherNumber n (diskRefusal d)
 unfolding diskRefusal refusal10
-refused-number d =
-    not-done-or _ _ (not-done-start d)
-    (not-done-or _ _ (not-done-at 10 (λ e. omega arith) (faultBelow slotCount (fileFault d))) (not-done-eleven d))
+other-disk n d e nine g t f =
+    other-or n _ _ (other-start n d e nine g) (other-or n _ _ (other-at n 10 t (faultBelow slotCount (fileFault d))) (other-eleven n d f))
+
+-- a refusal, where there is one, has another number than 0
+abbrev pub NotDone : Option Reply → Type 0
+NotDone r = OtherNumber 0 r
+
+-- so what the judgement of a disk refuses
+pub refused-number : (d : Disk) → NotDone (diskRefusal d)
+refused-number d = other-disk 0 d (λ e. omega arith) (λ e. omega arith) (λ e. omega arith) (λ e. omega arith) (λ e. omega arith)

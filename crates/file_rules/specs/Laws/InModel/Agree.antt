@@ -1,14 +1,14 @@
--- Every history gives in the model what it gives in the inner model.
--- Rests on lists and owners that agree (Listed), on the invariant after each call (OnImages.Run) and on what add and remove leave (OnImages).
+-- One call gives in the model what it gives in the inner model.
+-- Rests on lists and owners that agree (Listed) and on what add and remove leave (OnImages).
 use mathlib.Core.Path.{_≡_, refl, sym, ap, ap₂, _∙_, subst, fun-ext}
 use mathlib.Core.Logic.{_≢_}
 use mathlib.Core.Bool.{Bool, true, false, cond}
-use mathlib.Core.List.{List, [], _∷_, _++_}
+use mathlib.Core.List.{List, [], _++_}
 use mathlib.Core.Option.{Option, none, some}
 use Prim.Native.Nat.{ℕ, zero, suc, _+_, _≤_, _<_}
 use native.Mathlib.Omega.{arith}
 use lib.Dec.{ltb}
-use lib.ListN.{length, getD}
+use lib.ListN.{length}
 use Rattle.laws.specs.Changes.{upd}
 use Rattle.laws.specs.Below.{firsts}
 use Rattle.laws.specs.Options.{isSome}
@@ -20,30 +20,28 @@ use Rattle.sector_rules.specs.Geometry.{blocks}
 use Rattle.sector_rules.specs.Replies.{refusal}
 use Rattle.sector_rules.specs.declared.Reply.{Reply}
 use Rattle.file_rules.specs.declared.Record.{Record}
-use Rattle.file_rules.specs.declared.Record.the-variants.{File}
-use Rattle.file_rules.specs.Arguments.{FormatArguments}
-use Rattle.file_rules.specs.Calls.{Outcome, bufferKept, freshOwner}
+use Rattle.file_rules.specs.Calls.{Outcome, bufferKept}
 use Rattle.file_rules.specs.Directory.{nameEq, nameRight}
-use Rattle.file_rules.specs.Histories.{Call, modelOut, modelStep, modelOuts, modelEnd, toAdd, toRemove, toList, toRead}
+use Rattle.file_rules.specs.Items.{Item, removing, adding}
 use Rattle.file_rules.specs.Laws.OnImages.Slot.{k-pos, k-none, by-growth}
 use Rattle.file_rules.specs.Laws.OnImages.Added.{dir-parts, first-length, owned₁, bad₁, parts₁-k, parts-after}
 use Rattle.file_rules.specs.Laws.InnerModel.Fields.{parts-none}
 use Rattle.file_rules.specs.Laws.InnerModel.Reads.{found-slot}
-use Rattle.file_rules.specs.Laws.InnerModel.Inner.{Inner, presentCount, fileBlocks, innerBad, header, render, emptySlots, innerFormat}
+use Rattle.file_rules.specs.Laws.InnerModel.Inner.{Inner, presentCount, fileBlocks, innerBad, header, render}
 use Rattle.file_rules.specs.Laws.InnerModel.Inner.{innerFind, emptySlot}
 use Rattle.file_rules.specs.Laws.InnerModel.Inner.{give, freeOf, innerList, innerRead, InnerChanged, innerRefused, innerRemoveAt, innerRemove, growOwner}
-use Rattle.file_rules.specs.Laws.InnerModel.Inner.{peakAfter, innerAddAt, roomFor, innerAdd, innerStep, innerOut, innerOuts, innerEnd}
+use Rattle.file_rules.specs.Laws.InnerModel.Inner.{peakAfter, innerAddAt, roomFor, innerAdd, innerItem}
 use Rattle.file_rules.specs.Laws.InnerModel.Invariant.{partsOf, Inv}
 use Rattle.file_rules.specs.Laws.InModel.Listed.{listedBlocks, withOwner, BlocksListed, owner-is, give-listed, freed-listed, listed-cong}
 use Rattle.file_rules.specs.Laws.Base.Names.{name-bounds, name-is, name-so}
 use Rattle.file_rules.specs.Laws.OnImages.Remove.{parts-other, parts-gone}
 use Rattle.file_rules.specs.Laws.Base.Results.{result-is}
-use Rattle.file_rules.specs.Laws.OnImages.Run.{step-inv}
 use Rattle.file_rules.specs.Laws.Base.Whole.{with-is, with-only, with-same, unowned}
 use Rattle.file_rules.specs.Map.{isFree}
-use Rattle.file_rules.specs.Model.{NamedFile, HeldFile, FilledSlot, Model, fileOf, takenBy, heldBlocks, presentIn, blocksPresent, dirBlocks, usable}
-use Rattle.file_rules.specs.Model.{content, modelRecord, modelHeader, modelDisk, modelFormat, acceptable, slotNamed, slotVacant, heldEntries, heldData}
+use Rattle.file_rules.specs.Model.{NamedFile, HeldFile, FilledSlot, Model, fileOf, takenBy, presentIn, blocksPresent, dirBlocks, usable}
+use Rattle.file_rules.specs.Model.{content, modelRecord, modelHeader, modelDisk, acceptable, slotNamed, slotVacant, heldEntries, heldData}
 use Rattle.file_rules.specs.Model.{modelList, modelRead, wrap, peakThen, fits, freeIn, dirThen, fill, clear, ModelChanged, modelAdd, modelRemove}
+use Rattle.file_rules.specs.Model.{modelItem}
 use Rattle.file_rules.specs.Sizes.{nameMost}
 use Rattle.file_rules.specs.Written.{blocksFor}
 
@@ -91,6 +89,10 @@ unfolding listedBlocks takenBy
 blocks-empty L dir zero h e = absurd (omega arith)
 blocks-empty L dir (suc k) h e = ap takenBy e
 
+-- what holds of the two models: with owners o the model is the inner model, and its lists say the same as o
+abbrev pub ModelsAgree : Inner → Model → Type 0
+ModelsAgree inner m = (o : ℕ → Record) × (inner ≡ withOwner m o) × BlocksListed (m .slots) (m .dir) o (partsOf inner)
+
 module _ (m : Model) (o : ℕ → Record) (v : Inv (withOwner m o)) (r : BlocksListed (m .slots) (m .dir) o (partsOf (withOwner m o))) where
   abbrev inner : Inner
   inner = withOwner m o
@@ -117,26 +119,32 @@ module _ (m : Model) (o : ℕ → Record) (v : Inv (withOwner m o)) (r : BlocksL
       (with-same (render inner) (header inner) o c (with-is (header inner) o c) (header inner)
       records c (λ i l. refl) owner-same (λ x i p l q. refl))
 
-  -- reply and result buffer of a call in the inner model are the model's
-  pub out-same : (c : Call) → innerOut inner c ≡ modelOut m c
-  unfolding innerOut modelOut modelAdd modelRemove modelList modelRead innerAdd innerRemove innerRefused withOwner slotNamed innerFind fits
-      roomFor innerList innerRead peakThen peakAfter presentIn presentCount blocksPresent fileBlocks bufferKept
-  out-same (toList buf) = result-is (heldEntries (inner .slots) (suc (inner .peak))) buf
-  out-same (toRead name buf) =
+  -- a list in the inner model gives what it gives in the model
+  pub list-same : (buf : List ℕ) → innerList inner buf ≡ modelList m buf
+  unfolding modelList innerList withOwner
+  list-same buf = result-is (heldEntries (inner .slots) (suc (inner .peak))) buf
+
+  -- a read in the inner model gives what it gives in the model
+  pub read-same : (name buf : List ℕ) → innerRead inner name buf ≡ modelRead m name buf
+  unfolding modelRead innerRead withOwner slotNamed innerFind bufferKept
+  read-same name buf =
       ap₂ (λ (t : Bool) (o : Outcome).
       cond t (cond (ltb (innerFind inner name) (suc (inner .peak))) o (bufferKept buf (refusal 14))) (bufferKept buf (refusal 12)))
       (name-is name) (result-is (heldData (inner .slots (innerFind inner name))) buf)
-  out-same (toRemove name) =
-      ap (bufferKept [])
-      (by-test (nameRight name)
+
+  -- the inner model's reply to an add or a remove is the model's
+  pub item-same : (x : Item) → innerItem inner x .answer ≡ modelItem m x .answer
+  unfolding innerItem modelItem modelAdd modelRemove innerAdd innerRemove innerRefused withOwner slotNamed innerFind fits
+      roomFor peakThen peakAfter presentIn presentCount blocksPresent fileBlocks
+  item-same (removing name) =
+      by-test (nameRight name)
       (λ t. let u : acceptable name ≡ true = name-so name t in
       by-order (innerFind inner name) (suc (inner .peak))
       (λ h. ap innerReply (cond-true _ _ t ∙ cond-true _ _ (lt-true h)) ∙ sym (ap modelReply (cond-true _ _ u ∙ cond-true _ _ (lt-true h))))
       (λ h. ap innerReply (cond-true _ _ t ∙ cond-false _ _ (lt-false h)) ∙ sym (ap modelReply (cond-true _ _ u ∙ cond-false _ _ (lt-false h)))))
-      (λ t. let u : acceptable name ≡ false = name-so name t in ap innerReply (cond-false _ _ t) ∙ sym (ap modelReply (cond-false _ _ u))))
-  out-same (toAdd x) =
-      ap (bufferKept [])
-      (by-test (nameRight (x .name))
+      (λ t. let u : acceptable name ≡ false = name-so name t in ap innerReply (cond-false _ _ t) ∙ sym (ap modelReply (cond-false _ _ u)))
+  item-same (adding x) =
+      by-test (nameRight (x .name))
       (λ t. let u : acceptable (x .name) ≡ true = name-so (x .name) t in
       by-order (innerFind inner (x .name)) (suc (inner .peak))
       (λ h. ap innerReply (cond-true _ _ t ∙ cond-true _ _ (lt-true h)) ∙ sym (ap modelReply (cond-true _ _ u ∙ cond-true _ _ (lt-true h))))
@@ -145,16 +153,12 @@ module _ (m : Model) (o : ℕ → Record) (v : Inv (withOwner m o)) (r : BlocksL
       ∙ sym (ap modelReply (cond-true _ _ u ∙ cond-false _ _ (lt-false h) ∙ cond-true _ _ s)))
       (λ s. ap innerReply (cond-true _ _ t ∙ cond-false _ _ (lt-false h) ∙ cond-false _ _ s)
       ∙ sym (ap modelReply (cond-true _ _ u ∙ cond-false _ _ (lt-false h) ∙ cond-false _ _ s)))))
-      (λ t. let u : acceptable (x .name) ≡ false = name-so (x .name) t in ap innerReply (cond-false _ _ t) ∙ sym (ap modelReply (cond-false _ _ u))))
+      (λ t. let u : acceptable (x .name) ≡ false = name-so (x .name) t in ap innerReply (cond-false _ _ t) ∙ sym (ap modelReply (cond-false _ _ u)))
 
-  -- what holds of the two models after a step: with owners o′ the model is the inner model, and its lists say the same as o′
-  abbrev NextAgree : Inner → Model → Type 0
-  NextAgree inner′ m′ = (o′ : ℕ → Record) × (inner′ ≡ withOwner m′ o′) × BlocksListed (m′ .slots) (m′ .dir) o′ (partsOf inner′)
-
-  stay : NextAgree inner m
+  stay : ModelsAgree inner m
   stay = (o, refl, r)
 
-  remove-next : (k : ℕ) → 0 < k → k ≤ inner .peak → NextAgree (innerRemoveAt inner k) (clear m k)
+  remove-next : (k : ℕ) → 0 < k → k ≤ inner .peak → ModelsAgree (innerRemoveAt inner k) (clear m k)
   unfolding innerRemoveAt clear withOwner fileOf takenBy
   remove-next k h l = (
     (λ (x : ℕ). unowned k (o x)),
@@ -228,7 +232,7 @@ module _ (m : Model) (o : ℕ → Record) (v : Inv (withOwner m o)) (r : BlocksL
         (λ j l. ap isFree (owner-is (m .slots) (dirThen m) owner₁ parts₁ (owned₁ inner v x right new room) listed₁ no-zero
         (m .arguments .bad) (bad₁ inner v x right new room) (m .peak) past₁ j l))
 
-    add-next : NextAgree (innerAddAt inner k x) (fill m k x)
+    add-next : ModelsAgree (innerAddAt inner k x) (fill m k x)
     unfolding innerAddAt fill withOwner fileOf takenBy peakThen presentIn peakAfter presentCount
     add-next =
         let bs : List ℕ = firsts blocks n (freeIn (m .arguments .bad) (m .slots) (dirThen m) (m .peak)) in
@@ -253,100 +257,49 @@ module _ (m : Model) (o : ℕ → Record) (v : Inv (withOwner m o)) (r : BlocksL
               ∙ ap (λ (l : List ℕ). l ++ rest) (sym (blocks-empty (m .slots) (dirThen m) k (k-pos inner v) empty)))),
         )
 
-  -- after a call the two models agree again
-  pub next-agrees : (c : Call) → NextAgree (innerStep inner c) (modelStep m c)
-  unfolding innerStep modelStep modelAdd modelRemove innerRemove innerAdd innerRefused withOwner slotNamed innerFind fits roomFor slotVacant
+  -- after an add or a remove the two models agree again
+  pub item-agrees : (x : Item) → ModelsAgree (innerItem inner x .modelAfter) (modelItem m x .modelAfter)
+  unfolding innerItem modelItem modelAdd modelRemove innerRemove innerAdd innerRefused withOwner slotNamed innerFind fits roomFor slotVacant
       emptySlot peakThen peakAfter presentIn presentCount blocksPresent fileBlocks
-  next-agrees (toList buf) = stay
-  next-agrees (toRead name buf) = stay
-  next-agrees (toRemove name) =
+  item-agrees (removing name) =
       by-test (nameRight name)
       (λ t. by-order (innerFind inner name) (suc (inner .peak))
       (λ h.
       let w : (x : NamedFile) × (inner .slots (innerFind inner name) ≡ some x) × (nameEq (x .name) name ≡ true) × (0 < innerFind inner name) =
       found-slot inner v name h in
       let em : innerRemove inner name .modelAfter ≡ innerRemoveAt inner (innerFind inner name) = ap innerNext (cond-true _ _ t ∙ cond-true _ _ (lt-true h)) in
-      let eb : modelStep m (toRemove name) ≡ clear m (innerFind inner name) = ap modelNext (cond-true _ _ (name-so name t) ∙ cond-true _ _ (lt-true h)) in
-      subst (λ (z : Inner). NextAgree z (modelStep m (toRemove name))) (sym em)
-      (subst (λ (z : Model). NextAgree (innerRemoveAt inner (innerFind inner name)) z) (sym eb) (remove-next (innerFind inner name) (w .3) (omega arith))))
+      let eb : modelRemove m name .modelAfter ≡ clear m (innerFind inner name) = ap modelNext (cond-true _ _ (name-so name t) ∙ cond-true _ _ (lt-true h)) in
+      subst (λ (z : Inner). ModelsAgree z (modelRemove m name .modelAfter)) (sym em)
+      (subst (λ (z : Model). ModelsAgree (innerRemoveAt inner (innerFind inner name)) z) (sym eb) (remove-next (innerFind inner name) (w .3) (omega arith))))
       (λ h.
       let em : innerRemove inner name .modelAfter ≡ inner = ap innerNext (cond-true _ _ t ∙ cond-false _ _ (lt-false h)) in
-      let eb : modelStep m (toRemove name) ≡ m = ap modelNext (cond-true _ _ (name-so name t) ∙ cond-false _ _ (lt-false h)) in
-      subst (λ (z : Inner). NextAgree z (modelStep m (toRemove name))) (sym em) (subst (λ (z : Model). NextAgree inner z) (sym eb) stay)))
+      let eb : modelRemove m name .modelAfter ≡ m = ap modelNext (cond-true _ _ (name-so name t) ∙ cond-false _ _ (lt-false h)) in
+      subst (λ (z : Inner). ModelsAgree z (modelRemove m name .modelAfter)) (sym em) (subst (λ (z : Model). ModelsAgree inner z) (sym eb) stay)))
       (λ t.
       let em : innerRemove inner name .modelAfter ≡ inner = ap innerNext (cond-false _ _ t) in
-      let eb : modelStep m (toRemove name) ≡ m = ap modelNext (cond-false _ _ (name-so name t)) in
-      subst (λ (z : Inner). NextAgree z (modelStep m (toRemove name))) (sym em) (subst (λ (z : Model). NextAgree inner z) (sym eb) stay))
-  next-agrees (toAdd x) =
+      let eb : modelRemove m name .modelAfter ≡ m = ap modelNext (cond-false _ _ (name-so name t)) in
+      subst (λ (z : Inner). ModelsAgree z (modelRemove m name .modelAfter)) (sym em) (subst (λ (z : Model). ModelsAgree inner z) (sym eb) stay))
+  item-agrees (adding x) =
       by-test (nameRight (x .name))
       (λ t. by-order (innerFind inner (x .name)) (suc (inner .peak))
       (λ h.
       let em : innerAdd inner x .modelAfter ≡ inner = ap innerNext (cond-true _ _ t ∙ cond-true _ _ (lt-true h)) in
-      let eb : modelStep m (toAdd x) ≡ m = ap modelNext (cond-true _ _ (name-so (x .name) t) ∙ cond-true _ _ (lt-true h)) in
-      subst (λ (z : Inner). NextAgree z (modelStep m (toAdd x))) (sym em) (subst (λ (z : Model). NextAgree inner z) (sym eb) stay))
+      let eb : modelAdd m x .modelAfter ≡ m = ap modelNext (cond-true _ _ (name-so (x .name) t) ∙ cond-true _ _ (lt-true h)) in
+      subst (λ (z : Inner). ModelsAgree z (modelAdd m x .modelAfter)) (sym em) (subst (λ (z : Model). ModelsAgree inner z) (sym eb) stay))
       (λ h. by-test (roomFor inner x)
       (λ s.
       let right : (1 ≤ length (x .name)) × (length (x .name) ≤ nameMost) = name-bounds (x .name) t in
       let em : innerAdd inner x .modelAfter ≡ innerAddAt inner (emptySlot inner) x =
       ap innerNext (cond-true _ _ t ∙ cond-false _ _ (lt-false h) ∙ cond-true _ _ s) in
-      let eb : modelStep m (toAdd x) ≡ fill m (emptySlot inner) x =
+      let eb : modelAdd m x .modelAfter ≡ fill m (emptySlot inner) x =
       ap modelNext (cond-true _ _ (name-so (x .name) t) ∙ cond-false _ _ (lt-false h) ∙ cond-true _ _ s) in
-      subst (λ (z : Inner). NextAgree z (modelStep m (toAdd x))) (sym em)
-      (subst (λ (z : Model). NextAgree (innerAddAt inner (emptySlot inner) x) z) (sym eb) (add-next x right h (true-le s))))
+      subst (λ (z : Inner). ModelsAgree z (modelAdd m x .modelAfter)) (sym em)
+      (subst (λ (z : Model). ModelsAgree (innerAddAt inner (emptySlot inner) x) z) (sym eb) (add-next x right h (true-le s))))
       (λ s.
       let em : innerAdd inner x .modelAfter ≡ inner = ap innerNext (cond-true _ _ t ∙ cond-false _ _ (lt-false h) ∙ cond-false _ _ s) in
-      let eb : modelStep m (toAdd x) ≡ m = ap modelNext (cond-true _ _ (name-so (x .name) t) ∙ cond-false _ _ (lt-false h) ∙ cond-false _ _ s) in
-      subst (λ (z : Inner). NextAgree z (modelStep m (toAdd x))) (sym em) (subst (λ (z : Model). NextAgree inner z) (sym eb) stay))))
+      let eb : modelAdd m x .modelAfter ≡ m = ap modelNext (cond-true _ _ (name-so (x .name) t) ∙ cond-false _ _ (lt-false h) ∙ cond-false _ _ s) in
+      subst (λ (z : Inner). ModelsAgree z (modelAdd m x .modelAfter)) (sym em) (subst (λ (z : Model). ModelsAgree inner z) (sym eb) stay))))
       (λ t.
       let em : innerAdd inner x .modelAfter ≡ inner = ap innerNext (cond-false _ _ t) in
-      let eb : modelStep m (toAdd x) ≡ m = ap modelNext (cond-false _ _ (name-so (x .name) t)) in
-      subst (λ (z : Inner). NextAgree z (modelStep m (toAdd x))) (sym em) (subst (λ (z : Model). NextAgree inner z) (sym eb) stay))
-
--- ---- a history
-
-peak-same : (m : Model) (o : ℕ → Record) → withOwner m o .peak ≡ m .peak
-unfolding withOwner
-peak-same m o = refl
-
--- a history gives in both models the same replies, the same disk and the same peak
-pub agree : (cs : List Call) (m : Model) (o : ℕ → Record) → Inv (withOwner m o) → BlocksListed (m .slots) (m .dir) o (partsOf (withOwner m o))
-    → (innerOuts (withOwner m o) cs ≡ modelOuts m cs) × (render (innerEnd (withOwner m o) cs) ≡ modelDisk (modelEnd m cs))
-    × (innerEnd (withOwner m o) cs .peak ≡ modelEnd m cs .peak)
-unfolding innerOuts modelOuts innerEnd modelEnd
-agree [] m o v r = (refl, image-same m o v r, peak-same m o)
-agree (c ∷ cs) m o v r =
-    let inner : Inner = withOwner m o in
-    let w : (o′ : ℕ → Record) × (innerStep inner c ≡ withOwner (modelStep m c) o′)
-    × BlocksListed (modelStep m c .slots) (modelStep m c .dir) o′ (partsOf (innerStep inner c)) = next-agrees m o v r c in
-    let v′ : Inv (withOwner (modelStep m c) (w .0)) = subst Inv (w .1) (step-inv inner v c) in
-    let r′ : BlocksListed (modelStep m c .slots) (modelStep m c .dir) (w .0) (partsOf (withOwner (modelStep m c) (w .0))) =
-    subst (λ (z : Inner). BlocksListed (modelStep m c .slots) (modelStep m c .dir) (w .0) (partsOf z)) (w .1) (w .2) in
-    let ih : (innerOuts (withOwner (modelStep m c) (w .0)) cs ≡ modelOuts (modelStep m c) cs)
-    × (render (innerEnd (withOwner (modelStep m c) (w .0)) cs) ≡ modelDisk (modelEnd (modelStep m c) cs))
-    × (innerEnd (withOwner (modelStep m c) (w .0)) cs .peak ≡ modelEnd (modelStep m c) cs .peak) = agree cs (modelStep m c) (w .0) v′ r′ in (
-      ap₂ (λ (x : Outcome) (xs : List Outcome). x ∷ xs) (out-same m o v r c) (ap (λ (z : Inner). innerOuts z cs) (w .1) ∙ ih .0),
-      ap (λ (z : Inner). render (innerEnd z cs)) (w .1) ∙ ih .1,
-      ap (λ (z : Inner). innerEnd z cs .peak) (w .1) ∙ ih .2,
-    )
-
--- after a format lists and owners agree
-pub fresh-listed : (args : FormatArguments)
-    → BlocksListed (modelFormat args .slots) (modelFormat args .dir) (freshOwner args) (partsOf (innerFormat args))
-unfolding modelFormat innerFormat partsOf dirBlocks heldBlocks emptySlots listedBlocks takenBy freshOwner
-fresh-listed args = record { sizes = sizes; each = each }
-  where
-    sizes : (k : ℕ) → length (listedBlocks (modelFormat args .slots) (modelFormat args .dir) k) ≡ partsOf (innerFormat args) k
-    sizes zero = refl
-    sizes (suc k) = refl
-
-    each : (k s : ℕ) → s < partsOf (innerFormat args) k
-        → (getD (listedBlocks (modelFormat args .slots) (modelFormat args .dir) k) s 0 < blocks)
-        × (freshOwner args (getD (listedBlocks (modelFormat args .slots) (modelFormat args .dir) k) s 0) ≡ File k s)
-    each zero zero h = (omega arith, refl)
-    each zero (suc s) h = absurd (omega arith)
-    each (suc k) s h = absurd (omega arith)
-
--- after a format the inner model is the model with the owners of a fresh disk
-pub start-is : (args : FormatArguments) → innerFormat args ≡ withOwner (modelFormat args) (freshOwner args)
-unfolding innerFormat modelFormat withOwner emptySlots fileOf
-start-is args = refl
+      let eb : modelAdd m x .modelAfter ≡ m = ap modelNext (cond-false _ _ (name-so (x .name) t)) in
+      subst (λ (z : Inner). ModelsAgree z (modelAdd m x .modelAfter)) (sym em) (subst (λ (z : Model). ModelsAgree inner z) (sym eb) stay))

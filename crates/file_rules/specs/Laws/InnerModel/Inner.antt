@@ -5,7 +5,7 @@ use mathlib.Core.Bool.{Bool, not, cond, _&&_}
 use mathlib.Core.List.{List, [], _∷_}
 use mathlib.Core.Option.{none, some}
 use Prim.Native.Nat.{ℕ, suc, _+_, max}
-use lib.Dec.{leb, ltb}
+use lib.Dec.{leb, ltb, eqb}
 use lib.ListN.{length}
 use Rattle.laws.specs.Changes.{upd}
 use Rattle.laws.specs.Below.{count, sum, firsts, lowest}
@@ -15,11 +15,13 @@ use Rattle.sector_rules.specs.Replies.{replyWith, done, refusal}
 use Rattle.sector_rules.specs.declared.Reply.{Reply}
 use Rattle.file_rules.specs.declared.Record.{Record}
 use Rattle.file_rules.specs.declared.Record.the-variants.{File}
+use Rattle.file_rules.specs.Batch.{atItem}
+use Rattle.file_rules.specs.Items.{Item, removing, adding, ItemList, Items, WrongItem, readItems}
 use Rattle.file_rules.specs.Calls.{Outcome, bufferKept, freshOwner, deliver}
 use Rattle.file_rules.specs.Directory.{nameRight}
 use Rattle.file_rules.specs.Arguments.{FormatArguments}
 use Rattle.file_rules.specs.Disk.{Disk}
-use Rattle.file_rules.specs.Histories.{Call, toAdd, toRemove, toList, toRead}
+use Rattle.file_rules.specs.Histories.{Call, toAdd, toRemove, toList, toRead, toBatch}
 use Rattle.file_rules.specs.Laws.Base.Whole.{unowned}
 use Rattle.file_rules.specs.Map.{isFree}
 use Rattle.file_rules.specs.Model.{NamedFile, HeldFile, heldBlocks, dirBlocks, differentBlocks, usable, freeWord, content, hasName, heldEntries}
@@ -163,6 +165,25 @@ innerAdd m x =
     (cond (roomFor m x) (record { answer = done; modelAfter = innerAddAt m (emptySlot m) x }) (innerRefused m (refusal 15))))
     (innerRefused m (refusal 12))
 
+-- ---- batch
+
+-- an item in the inner model
+unfoldable pub innerItem : Inner → Item → InnerChanged
+innerItem m (removing name) = innerRemove m name
+innerItem m (adding x) = innerAdd m x
+
+-- the items from number n on, in turn, up to the first refusal
+unfoldable pub innerItems : Inner → ℕ → List Item → InnerChanged
+innerItems m n [] = record { answer = done; modelAfter = m }
+innerItems m n (x ∷ xs) =
+    cond (eqb (innerItem m x .answer .number) 0) (innerItems (innerItem m x .modelAfter) (suc n) xs)
+    (record { answer = atItem n (innerItem m x .answer); modelAfter = innerItem m x .modelAfter })
+
+-- the inner model's batch: 20, which names the first wrong item, or the items
+unfoldable pub innerBatch : Inner → ItemList → InnerChanged
+innerBatch m (Items xs) = innerItems m 1 xs
+innerBatch m (WrongItem n) = innerRefused m (replyWith 20 0 0 n)
+
 -- ---- histories
 
 -- the inner model after a call
@@ -171,6 +192,7 @@ innerStep m (toAdd x) = innerAdd m x .modelAfter
 innerStep m (toRemove name) = innerRemove m name .modelAfter
 innerStep m (toList buf) = m
 innerStep m (toRead name buf) = m
+innerStep m (toBatch list) = innerBatch m (readItems list) .modelAfter
 
 -- reply and result buffer of a call
 unfoldable pub innerOut : Inner → Call → Outcome
@@ -178,6 +200,7 @@ innerOut m (toAdd x) = bufferKept [] (innerAdd m x .answer)
 innerOut m (toRemove name) = bufferKept [] (innerRemove m name .answer)
 innerOut m (toList buf) = innerList m buf
 innerOut m (toRead name buf) = innerRead m name buf
+innerOut m (toBatch list) = bufferKept [] (innerBatch m (readItems list) .answer)
 
 -- replies and result buffers of a history, each call on what the last left
 unfoldable pub innerOuts : Inner → List Call → List Outcome

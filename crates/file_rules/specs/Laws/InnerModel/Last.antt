@@ -10,7 +10,7 @@ use Rattle.laws.specs.Numbers.{at32, bigEndian, highByte}
 use Rattle.laws.specs.Laws.Tests.{true≢false}
 use Rattle.laws.specs.Laws.Lowest.{lowest-only}
 use Rattle.laws.specs.Laws.Changes.{upd-same, upd-other, patch-in, patch-below, patch-above, by-place, patch-cong, patch-twice, patch-swap}
-use Rattle.laws.specs.Laws.Numbers.{high4-at}
+use Rattle.file_rules.specs.Laws.Base.Header.{at-16}
 use Rattle.sector_rules.specs.Geometry.{blocks}
 use Rattle.file_rules.specs.declared.Record.{Record}
 use Rattle.file_rules.specs.declared.Record.the-variants.{Free, Bad, System, File, Other}
@@ -75,10 +75,6 @@ module _ (args : FormatArguments) where
       ∙ patch-cong (patch (patch Y 34 2 a) 34 2 a′) (patch Y 34 2 a′) 36 2 b o (patch-twice Y 34 2 a a′ o))
       ∙ patch-twice (patch Y 34 2 a′) 36 2 b b′ o
 
-  updates-at : (u w e : ℕ) → u < 4294967296 → at32 (diskHeaderByte args u w e) 16 ≡ u
-  unfolding at32 bigEndian diskHeaderByte patch
-  updates-at u w e h = high4-at u h
-
 wrap-bytes : (u i : ℕ) → u < 4294967296 → highByte 4 (u + 1) i ≡ highByte 4 (wrap (u + 1)) i
 unfolding highByte wrap
 wrap-bytes u zero h = omega arith
@@ -122,7 +118,7 @@ module _ (args : FormatArguments) (u w e : ℕ) (owner : ℕ → Record) (c : Re
   update-step small =
       let h : ℕ → ℕ = diskHeaderByte args u w e in
       let n : at32 (d 0) 16 ≡ u =
-      rw (p .head 16 (omega arith), p .head 17 (omega arith), p .head 18 (omega arith), p .head 19 (omega arith)) (updates-at args u w e small) in
+      rw (p .head 16 (omega arith), p .head 17 (omega arith), p .head 18 (omega arith), p .head 19 (omega arith)) (at-16 args u w e small) in
       let g : highByte 4 (u + 1) ≡ highByte 4 (wrap (u + 1)) = fun-ext (λ (i : ℕ). wrap-bytes u i small) in
       subst (λ (f : ℕ → ℕ). With (upd d 0 (patch (d 0) 16 4 f)) (diskHeaderByte args (wrap (u + 1)) w e) owner c)
       (sym (ap (λ (k : ℕ). highByte 4 (k + 1)) n ∙ g))

@@ -31,7 +31,7 @@ use Rattle.file_rules.specs.Directory.{dirEnd, findName, vacantSlot}
 use Rattle.file_rules.specs.Disk.{Disk}
 use Rattle.file_rules.specs.Laws.InnerModel.Inner.{Inner, fileBlocks, innerBad, header, render, innerFind, emptySlot, freeOf, innerList, innerRead}
 use Rattle.file_rules.specs.Laws.InnerModel.Invariant.{partsOf, Inv}
-use Rattle.file_rules.specs.Laws.Base.Header.{at-20, at-22, at-34, at-36}
+use Rattle.file_rules.specs.Laws.Base.Header.{at-16, at-20, at-22, at-34, at-36}
 use Rattle.file_rules.specs.Laws.Base.Whole.{With, with-is, record-is, freeCount-is, badCount-is, partBlock-is}
 use Rattle.file_rules.specs.Map.{recordAt, isBadRecord, isSystem, isPart, freeCount, badCount, partBlock, fileByte}
 use Rattle.file_rules.specs.Model.{NamedFile, HeldFile, heldBlocks, dirBlocks, usable, freeWord, slotOf, heldBytes, dirByte, content, hasName}
@@ -84,6 +84,12 @@ module _ (m : Inner) (v : Inv m) where
   pub dirEnd-is : dirEnd d ≡ suc (m .peak)
   unfolding dirEnd
   dirEnd-is = ap (λ (x : ℕ). x / slotBytes) dirBytes-is ∙ omega arith
+
+  -- the update count that is read is the inner model's
+  pub word16 : at32 (d 0) 16 ≡ m .updates
+  unfolding header at32 bigEndian
+  word16 =
+      rw (P .head 16 (omega arith), P .head 17 (omega arith), P .head 18 (omega arith), P .head 19 (omega arith)) (at-16 _ _ _ _ (v .updates-fit))
 
   -- the free word that is read is the inner model's
   pub word20 : at16 (d 0) 20 ≡ freeWord (innerBad m) (m .peak) (fileBlocks m)

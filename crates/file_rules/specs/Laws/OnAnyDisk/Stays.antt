@@ -4,21 +4,21 @@ use mathlib.Core.Path.{_≡_, refl, sym, _∙_}
 use mathlib.Core.List.{List}
 use Prim.Native.Nat.{ℕ, _+_, _*_, _<_}
 use native.Mathlib.Omega.{arith}
-use lib.Dec.{leb, ltb}
 use lib.ListN.{length}
-use Rattle.laws.specs.Laws.Cases.{by-order, by-cond}
+use Rattle.laws.specs.Laws.Cases.{by-order}
 use Rattle.sector_rules.specs.Geometry.{blocks}
 use Rattle.file_rules.specs.declared.Record.the-variants.{System}
 use Rattle.file_rules.specs.declared.Entry.{Entry}
-use Rattle.file_rules.specs.Calls.{DiskChanged, ImageChanged, diskKept, imageKept, needed, addAt, addSound, imaged, add, removeAt, removeSound, remove}
-use Rattle.file_rules.specs.Directory.{nameRight, entryFor, dirEnd, findName, vacantSlot}
+use Rattle.file_rules.specs.Calls.{DiskChanged, ImageChanged, diskKept, imageKept, addAt, addSound, imaged, add, removeAt, removeSound, remove}
+use Rattle.file_rules.specs.Directory.{entryFor, findName, vacantSlot}
 use Rattle.file_rules.specs.Disk.{Disk, diskOf, imageOf}
 use Rattle.file_rules.specs.FreeTails.{SameRecord}
 use Rattle.file_rules.specs.Laws.Base.Disk.{inside-disk, outside-disk}
+use Rattle.file_rules.specs.Laws.OnAnyDisk.Cases.{add-cases, remove-cases}
 use Rattle.file_rules.specs.Laws.Base.OnSound.{by-sound}
 use Rattle.file_rules.specs.Laws.Base.Sound.{first-system}
 use Rattle.file_rules.specs.Laws.OnAnyDisk.BlockBytes.{SameBlock}
-use Rattle.file_rules.specs.Map.{recordByte, recordAt, freeCount}
+use Rattle.file_rules.specs.Map.{recordByte, recordAt}
 use Rattle.file_rules.specs.Sizes.{blockBytes, mapStart, recordBytes}
 
 -- what holds of the disk before, and of that which the steps of a call leave, holds of the disk after the call, whatever its reply
@@ -33,28 +33,21 @@ module _ (image : List ℕ) (P : Disk → Type 0) (on-image : (e : Disk) → P e
   pub by-add : (name : List ℕ) (date : ℕ) (content : List ℕ)
       → (recordAt (diskOf image) 0 ≡ System → (x : Entry) → P (addAt (diskOf image) (vacantSlot (diskOf image)) x content))
       → OnImage (add image name date content)
-  unfolding add addSound imaged diskKept imageKept
+  unfolding add imaged diskKept imageKept
   by-add name date content steps =
       let d : Disk = diskOf image in
       by-sound image (imageKept image) (λ (x : Disk). imaged (addSound x name date content)) OnImage (λ r. before)
       (λ long passed. on-image (addSound d name date content .diskAfter)
-      (by-cond OnDisk (nameRight name) _ _
-      (λ t. by-cond OnDisk (ltb (findName d name) (dirEnd d)) _ _ (λ u. before)
-      (λ u. by-cond OnDisk (leb (needed d (vacantSlot d) (length content)) (freeCount d)) _ _
-      (λ r. steps (first-system d passed) (entryFor name date (length content))) (λ r. before)))
-      (λ t. before)))
+      (add-cases OnDisk d name date content (λ r o. before) (steps (first-system d passed) (entryFor name date (length content)))))
 
   -- of a remove
   pub by-remove : (name : List ℕ) → (recordAt (diskOf image) 0 ≡ System → P (removeAt (diskOf image) (findName (diskOf image) name)))
       → OnImage (remove image name)
-  unfolding remove removeSound imaged diskKept imageKept
+  unfolding remove imaged diskKept imageKept
   by-remove name steps =
       let d : Disk = diskOf image in
       by-sound image (imageKept image) (λ (x : Disk). imaged (removeSound x name)) OnImage (λ r. before)
-      (λ long passed. on-image (removeSound d name .diskAfter)
-      (by-cond OnDisk (nameRight name) _ _
-      (λ t. by-cond OnDisk (ltb (findName d name) (dirEnd d)) _ _ (λ u. steps (first-system d passed)) (λ u. before))
-      (λ t. before)))
+      (λ long passed. on-image (removeSound d name .diskAfter) (remove-cases OnDisk d name (λ r o. before) (steps (first-system d passed))))
 
 module _ (image : List ℕ) (b : ℕ) (l : b < blocks) where
   abbrev d : Disk

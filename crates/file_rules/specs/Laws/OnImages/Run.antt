@@ -1,7 +1,7 @@
 -- Every history on an image gives what the inner model gives, reply by reply, and ends with its image.
--- Rests on reads and judgements of the inner model's disk (InnerModel.Reads, Judgements) and on Add and Remove.
+-- Rests on reads of the inner model's disk (InnerModel.Reads), on one call (Single) and on a batch (Batch).
 use mathlib.Core.Path.{_≡_, refl, sym, ap, ap₂, _∙_, subst}
-use mathlib.Core.Bool.{Bool, true, false, not, cond, _&&_, _||_}
+use mathlib.Core.Bool.{Bool, false, not, cond, _&&_, _||_}
 use mathlib.Core.List.{List, [], _∷_}
 use mathlib.Core.Option.{some}
 use Prim.Native.Nat.{ℕ, zero, suc, _+_, _-_, _≤_, _<_}
@@ -11,41 +11,34 @@ use lib.ListN.{length}
 use Rattle.laws.specs.Below.{count, sum}
 use Rattle.laws.specs.Options.{isSome}
 use Rattle.laws.specs.Laws.Cases.{by-order, by-test, by-cond}
-use Rattle.laws.specs.Laws.Tests.{lt-true, lt-false, le-true, eq-true, true-le, true≢false, cond-true, cond-false, and-true}
+use Rattle.laws.specs.Laws.Tests.{lt-false, le-true, eq-true, true≢false, cond-true, cond-false, and-true}
 use Rattle.laws.specs.Laws.Tests.{and-false-left, and-false-right}
 use Rattle.laws.specs.Laws.Count.{count-cong, count-or, count-not}
 use Rattle.sector_rules.specs.Geometry.{blocks, imageBytes}
-use Rattle.sector_rules.specs.Replies.{replyWith, done, refusal}
-use Rattle.sector_rules.specs.declared.Reply.{Reply}
+use Rattle.sector_rules.specs.Replies.{done}
 use Rattle.file_rules.specs.declared.Record.{Record}
 use Rattle.file_rules.specs.declared.Record.the-variants.{Free, Bad, System, File, Other}
-use Rattle.file_rules.specs.Calls.{Outcome, DiskChanged, ImageChanged, bufferKept, diskKept, imageRight, onSound, freshOwner}
-use Rattle.file_rules.specs.Calls.{freshHeader, formatDisk, format, list, read, addSound, imaged, add, removeSound, remove}
-use Rattle.file_rules.specs.Check.{diskRefusal}
-use Rattle.file_rules.specs.Directory.{nameEq, nameRight}
+use Rattle.file_rules.specs.Batch.{itemCall}
+use Rattle.file_rules.specs.Items.{removing, adding, readItems}
+use Rattle.file_rules.specs.Calls.{Outcome, ImageChanged, bufferKept, imageRight, freshOwner}
+use Rattle.file_rules.specs.Calls.{freshHeader, formatDisk, format, list, read, add, remove}
 use Rattle.file_rules.specs.Arguments.{FormatArguments, listed, countListed, EachCanBeBad}
-use Rattle.file_rules.specs.Disk.{Disk, diskOf, imageOf}
-use Rattle.file_rules.specs.Histories.{Call, imageOut, imageStep, imageOuts, imageEnd, toAdd, toRemove, toList, toRead}
-use Rattle.file_rules.specs.Laws.OnImages.Slot.{room-is}
-use Rattle.file_rules.specs.Laws.OnImages.Added.{add-inv}
-use Rattle.file_rules.specs.Laws.OnImages.Add.{add-image}
-use Rattle.file_rules.specs.Laws.Base.Disk.{length-image, disk-image}
-use Rattle.file_rules.specs.Laws.Base.OnSound.{sound-passed}
-use Rattle.file_rules.specs.Laws.InnerModel.Reads.{dirEnd-is, findName-is, vacantSlot-is, found-slot, list-is, read-is}
-use Rattle.file_rules.specs.Laws.InnerModel.Judgements.{disk-refusal-none}
-use Rattle.file_rules.specs.Laws.InnerModel.Inner.{Inner, fileBlocks, header, render, emptySlots, innerFormat, innerFind, emptySlot}
-use Rattle.file_rules.specs.Laws.InnerModel.Inner.{freeOf, InnerChanged, innerRefused, innerRemoveAt, innerRemove, innerAddAt}
-use Rattle.file_rules.specs.Laws.InnerModel.Inner.{roomFor, innerAdd, innerStep, innerOut, innerOuts, innerEnd}
+use Rattle.file_rules.specs.Disk.{imageOf}
+use Rattle.file_rules.specs.Histories.{Call, imageOut, imageStep, imageOuts, imageEnd, toAdd, toRemove, toList, toRead, toBatch}
+use Rattle.file_rules.specs.Laws.InnerModel.Reads.{list-is, read-is}
+use Rattle.file_rules.specs.Laws.InnerModel.Inner.{Inner, fileBlocks, header, render, emptySlots, innerFormat}
+use Rattle.file_rules.specs.Laws.InnerModel.Inner.{freeOf, innerRemove}
+use Rattle.file_rules.specs.Laws.InnerModel.Inner.{innerAdd, innerItem, innerStep, innerOut, innerOuts, innerEnd}
 use Rattle.file_rules.specs.Laws.InnerModel.Invariant.{partsOf, Inv}
 use Rattle.file_rules.specs.Laws.Base.BadList.{each-right, low-unlisted, different-is}
-use Rattle.file_rules.specs.Laws.Base.Names.{name-bounds}
 use Rattle.file_rules.specs.Laws.InnerModel.Fields.{isPart-true}
-use Rattle.file_rules.specs.Laws.OnImages.Remove.{remove-inv, remove-image}
 use Rattle.file_rules.specs.Laws.Base.Records.{Valid}
+use Rattle.file_rules.specs.Laws.OnImages.Single.{imageAfter, img-sound, item-is, item-inv}
+use Rattle.file_rules.specs.Laws.OnImages.Batch.{batch-is, batch-inv}
 use Rattle.file_rules.specs.Laws.Base.Whole.{with-is, with-only, with-same}
 use Rattle.file_rules.specs.Map.{isFree, isBadRecord, isSystem, isPart}
 use Rattle.file_rules.specs.Model.{NamedFile, heldBlocks, dirBlocks, differentBlocks, usable, freeWord, slotOf, heldBytes, dirByte, content}
-use Rattle.file_rules.specs.Sizes.{blockBytes, nameMost, titleMost, freeSectors}
+use Rattle.file_rules.specs.Sizes.{blockBytes, titleMost, freeSectors}
 use Rattle.file_rules.specs.Written.{diskHeaderByte, part}
 
 -- ---- format
@@ -184,120 +177,43 @@ format-inv args each =
 
 -- ---- one call
 
-disked : InnerChanged → DiskChanged
-disked c = record { answer = c .answer; diskAfter = render (c .modelAfter) }
-
 module _ (m : Inner) (v : Inv m) where
-  remove-is : (name : List ℕ) → (removeSound (render m) name ≡ disked (innerRemove m name)) × Inv (innerRemove m name .modelAfter)
-  unfolding removeSound innerRemove diskKept innerRefused disked
-  remove-is name =
-      by-test (nameRight name)
-      (λ t. by-order (innerFind m name) (suc (m .peak))
-      (λ h.
-      let w : (x : NamedFile) × (m .slots (innerFind m name) ≡ some x) × (nameEq (x .name) name ≡ true) × (0 < innerFind m name) = found-slot m v name h in
-      let e : innerRemove m name ≡ record { answer = done; modelAfter = innerRemoveAt m (innerFind m name) } = cond-true _ _ t ∙ cond-true _ _ (lt-true h) in (
-        rw (findName-is m v name, dirEnd-is m v)
-            (cond-true _ _ t ∙ cond-true _ _ (lt-true h)
-            ∙ ap (λ (d : Disk). record { answer = done; diskAfter = d }) (remove-image m v (innerFind m name) (w .3) (omega arith))
-            ∙ ap disked (sym e)),
-        subst (λ (c : InnerChanged). Inv (c .modelAfter)) (sym e) (remove-inv m v (innerFind m name) (w .3) (omega arith)),
-      ))
-      (λ h.
-      let e : innerRemove m name ≡ innerRefused m (refusal 14) = cond-true _ _ t ∙ cond-false _ _ (lt-false h) in (
-        rw (findName-is m v name, dirEnd-is m v)
-            (cond-true _ _ t ∙ cond-false _ _ (lt-false h) ∙ ap disked (sym e)),
-        subst (λ (c : InnerChanged). Inv (c .modelAfter)) (sym e) v,
-      )))
-      (λ t.
-      let e : innerRemove m name ≡ innerRefused m (refusal 12) = cond-false _ _ t in (
-        cond-false _ _ t ∙ ap disked (sym e),
-        subst (λ (c : InnerChanged). Inv (c .modelAfter)) (sym e) v,
-      ))
-
-  add-is : (x : NamedFile) → (addSound (render m) (x .name) (x .date) (x .content) ≡ disked (innerAdd m x)) × Inv (innerAdd m x .modelAfter)
-  unfolding addSound innerAdd diskKept innerRefused disked nameRight roomFor
-  add-is x =
-      by-test (nameRight (x .name))
-      (λ t. by-order (innerFind m (x .name)) (suc (m .peak))
-      (λ h.
-      let e : innerAdd m x ≡ innerRefused m (replyWith 13 (innerFind m (x .name)) 0 0) = cond-true _ _ t ∙ cond-true _ _ (lt-true h) in (
-        rw (findName-is m v (x .name), dirEnd-is m v) (cond-true _ _ t ∙ cond-true _ _ (lt-true h) ∙ ap disked (sym e)),
-        subst (λ (c : InnerChanged). Inv (c .modelAfter)) (sym e) v,
-      ))
-      (λ h. by-test (roomFor m x)
-      (λ r.
-      let right : (1 ≤ length (x .name)) × (length (x .name) ≤ nameMost) = name-bounds (x .name) t in
-      let e : innerAdd m x ≡ record { answer = done; modelAfter = innerAddAt m (emptySlot m) x } =
-      cond-true _ _ t ∙ cond-false _ _ (lt-false h) ∙ cond-true _ _ r in (
-        rw (findName-is m v (x .name), dirEnd-is m v, vacantSlot-is m v)
-            (cond-true _ _ t ∙ cond-false _ _ (lt-false h) ∙ cond-true _ _ (sym (room-is m v x) ∙ r)
-            ∙ ap (λ (d : Disk). record { answer = done; diskAfter = d }) (add-image m v x right h (true-le r))
-            ∙ ap disked (sym e)),
-        subst (λ (c : InnerChanged). Inv (c .modelAfter)) (sym e) (add-inv m v x right h (true-le r)),
-      ))
-      (λ r.
-      let e : innerAdd m x ≡ innerRefused m (refusal 15) = cond-true _ _ t ∙ cond-false _ _ (lt-false h) ∙ cond-false _ _ r in (
-        rw (findName-is m v (x .name), dirEnd-is m v, vacantSlot-is m v)
-            (cond-true _ _ t ∙ cond-false _ _ (lt-false h) ∙ cond-false _ _ (sym (room-is m v x) ∙ r) ∙ ap disked (sym e)),
-        subst (λ (c : InnerChanged). Inv (c .modelAfter)) (sym e) v,
-      ))))
-      (λ t.
-      let e : innerAdd m x ≡ innerRefused m (refusal 12) = cond-false _ _ t in (
-        cond-false _ _ t ∙ ap disked (sym e),
-        subst (λ (c : InnerChanged). Inv (c .modelAfter)) (sym e) v,
-      ))
-
-  -- ---- the same on the image
-
   abbrev img : List ℕ
   img = imageOf (render m)
 
-  -- the disk of the inner model's image is its disk
-  pub img-disk : diskOf img ≡ render m
-  unfolding render
-  img-disk =
-      disk-image (render m) (with-is (header m) (m .owner) (content (m .slots) (m .slots)) .far)
-      (with-is (header m) (m .owner) (content (m .slots) (m .slots)) .out)
+  -- the single call of an item is the call
+  add-same : (x : NamedFile) → add img (x .name) (x .date) (x .content) ≡ imageAfter (innerAdd m x)
+  add-same x = unfold itemCall innerItem in item-is m v (adding x)
 
-  -- the inner model's image is sound, so that a call acts on its disk
-  pub img-sound : {A : Type 0} (refuse : Reply → A) (act : Disk → A) → onSound img refuse act ≡ act (render m)
-  img-sound refuse act = sound-passed img refuse act (length-image (render m)) (ap diskRefusal img-disk ∙ disk-refusal-none m v) ∙ ap act img-disk
-
-  add-image-is : (x : NamedFile)
-      → add img (x .name) (x .date) (x .content) ≡ record { answer = innerAdd m x .answer; image = imageOf (render (innerAdd m x .modelAfter)) }
-  unfolding add imaged disked
-  add-image-is x =
-      img-sound _ _ ∙ ap imaged (add-is x .0)
-
-  remove-image-is : (name : List ℕ)
-      → remove img name ≡ record { answer = innerRemove m name .answer; image = imageOf (render (innerRemove m name .modelAfter)) }
-  unfolding remove imaged disked
-  remove-image-is name =
-      img-sound _ _ ∙ ap imaged (remove-is name .0)
+  remove-same : (name : List ℕ) → remove img name ≡ imageAfter (innerRemove m name)
+  remove-same name = unfold itemCall innerItem in item-is m v (removing name)
 
   -- reply and result buffer of a call on the image are the inner model's
   pub out-is : (c : Call) → imageOut img c ≡ innerOut m c
-  unfolding imageOut innerOut list read
-  out-is (toAdd x) = ap (λ (w : ImageChanged). bufferKept [] (w .answer)) (add-image-is x)
-  out-is (toRemove name) = ap (λ (w : ImageChanged). bufferKept [] (w .answer)) (remove-image-is name)
-  out-is (toList buf) = img-sound _ _ ∙ list-is m v buf
-  out-is (toRead name buf) = img-sound _ _ ∙ read-is m v name buf
+  unfolding imageOut innerOut list read imageAfter
+  out-is (toAdd x) = ap (λ (w : ImageChanged). bufferKept [] (w .answer)) (add-same x)
+  out-is (toRemove name) = ap (λ (w : ImageChanged). bufferKept [] (w .answer)) (remove-same name)
+  out-is (toList buf) = img-sound m v _ _ ∙ list-is m v buf
+  out-is (toRead name buf) = img-sound m v _ _ ∙ read-is m v name buf
+  out-is (toBatch list) = ap (λ (w : ImageChanged). bufferKept [] (w .answer)) (batch-is m v list)
 
   -- the image after a call is that of the inner model after it
   pub step-is : (c : Call) → imageStep img c ≡ imageOf (render (innerStep m c))
-  unfolding imageStep innerStep
-  step-is (toAdd x) = ap (λ (w : ImageChanged). w .image) (add-image-is x)
-  step-is (toRemove name) = ap (λ (w : ImageChanged). w .image) (remove-image-is name)
+  unfolding imageStep innerStep imageAfter
+  step-is (toAdd x) = ap (λ (w : ImageChanged). w .image) (add-same x)
+  step-is (toRemove name) = ap (λ (w : ImageChanged). w .image) (remove-same name)
   step-is (toList buf) = refl
   step-is (toRead name buf) = refl
+  step-is (toBatch list) = ap (λ (w : ImageChanged). w .image) (batch-is m v list)
 
   -- the invariant holds after every call
   pub step-inv : (c : Call) → Inv (innerStep m c)
-  unfolding innerStep
-  step-inv (toAdd x) = add-is x .1
-  step-inv (toRemove name) = remove-is name .1
+  unfolding innerStep innerItem
+  step-inv (toAdd x) = item-inv m v (adding x)
+  step-inv (toRemove name) = item-inv m v (removing name)
   step-inv (toList buf) = v
   step-inv (toRead name buf) = v
+  step-inv (toBatch list) = batch-inv (readItems list) m v
 
 -- ---- a history
 

@@ -53,7 +53,8 @@ use Rattle.file_rules.specs.Laws.OnAnyDisk.BlockBytes.{bad-no-file, bad-
 use Rattle.file_rules.specs.Laws.OnAnyDisk.HeaderKept.{add-header-kept, remove-header-kept}
 use Rattle.file_rules.specs.Laws.OnAnyDisk.Kept.{held-beside, add-held, remove-beside}
 use Rattle.file_rules.specs.Laws.OnAnyDisk.Stays.{by-add, by-remove, add-kept, remove-kept, add-stays, remove-stays}
-use Rattle.file_rules.specs.Laws.OnImages.Run.{format-inv, img-disk, end-inv}
+use Rattle.file_rules.specs.Laws.OnImages.Single.{img-disk}
+use Rattle.file_rules.specs.Laws.OnImages.Run.{format-inv, end-inv}
 use Rattle.file_rules.specs.Laws.Theorem.FreeTails.{written-free}
 use Rattle.file_rules.specs.Laws.Theorem.History.{same-arguments, end-is}
 use Rattle.file_rules.specs.Map.{fileBound, freeByte, tailCount, systemNumber, badNumber, sequences, decode}

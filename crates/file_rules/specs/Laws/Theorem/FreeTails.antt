@@ -41,7 +41,8 @@ use Rattle.file_rules.specs.Laws.Base.Sound.{first-system, NotDone, refu
 use Rattle.file_rules.specs.Laws.Base.Whole.{with-is, free-is}
 use Rattle.file_rules.specs.Laws.InnerModel.Inner.{Inner, render, innerFormat, innerEnd}
 use Rattle.file_rules.specs.Laws.InnerModel.Invariant.{Inv}
-use Rattle.file_rules.specs.Laws.OnImages.Run.{format-inv, img-disk, end-inv}
+use Rattle.file_rules.specs.Laws.OnImages.Single.{img-disk}
+use Rattle.file_rules.specs.Laws.OnImages.Run.{format-inv, end-inv}
 use Rattle.file_rules.specs.Laws.OnAnyDisk.Kept.{free-same, word-written, grow-system, add-held, left-beside, add-left, remove-beside, remove-freed}
 use Rattle.file_rules.specs.Laws.OnAnyDisk.BlockBytes.{free-no-file, free-not-zero, add-bytes, remove-bytes, remove-zeros}
 use Rattle.file_rules.specs.Laws.OnAnyDisk.Stays.{record-image, add-kept, remove-kept, add-stays, remove-stays}

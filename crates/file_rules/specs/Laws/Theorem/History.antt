@@ -1,43 +1,45 @@
--- history, history-check and every-byte. On an image each call does what it does in the inner model (OnImages: runs), which agrees with the model
+-- history, history-check, calls-made and every-byte. On an image each call does what it does in the inner model (OnImages: runs), which agrees with the model
 -- (InModel: agree) and whose slots have the files that the accepted calls leave (FilesLeft: left-is); its invariant (InnerModel: Inv) gives the rest.
 use mathlib.Core.Path.{_≡_, refl, sym, ap, ap₂, _∙_, subst}
 use mathlib.Core.Bool.{Bool, true, false, cond}
 use mathlib.Core.List.{List, [], _∷_}
 use mathlib.Core.Option.{none, some}
-use Prim.Native.Nat.{ℕ, suc, _+_, _≤_, _<_, max}
+use Prim.Native.Nat.{ℕ, suc, _+_, _≤_, _<_, max, _%_}
 use native.Mathlib.Omega.{arith}
-use lib.Dec.{leb, ltb}
+use lib.Dec.{leb, ltb, eqb}
 use lib.ListN.{length, getD}
 use Rattle.laws.specs.Below.{count}
-use Rattle.laws.specs.Numbers.{at16}
+use Rattle.laws.specs.Numbers.{at16, at32}
 use Rattle.laws.specs.Options.{isSome}
 use Rattle.laws.specs.Laws.Cases.{by-order, by-test, by-cond}
 use Rattle.laws.specs.Laws.Tests.{lt-true, lt-false, true≢false, cond-true, cond-false, and-true}
 use Rattle.laws.specs.Laws.Lowest.{lowest-low}
 use Rattle.sector_rules.specs.Geometry.{imageBytes}
 use Rattle.sector_rules.specs.Replies.{done, refusal}
-use Rattle.file_rules.specs.Calls.{Outcome, ImageChanged, bufferKept, freshOwner, formatDisk, format, check, deliver, read, add}
+use Rattle.file_rules.specs.Calls.{Outcome, ImageChanged, bufferKept, check, deliver, read, add}
 use Rattle.file_rules.specs.Directory.{nameEq, nameRight, held, dirEnd}
 use Rattle.file_rules.specs.Arguments.{FormatArguments, EachCanBeBad}
 use Rattle.file_rules.specs.Disk.{Disk, diskOf, imageOf}
-use Rattle.file_rules.specs.Histories.{Call, toAdd, toRemove, toList, toRead, imageOut, imageOuts, imageEnd, modelOuts, modelEnd}
-use Rattle.file_rules.specs.Histories.{filesLeft, mostPresent, blocksOfFiles, fileNamed, IsPresent}
-use Rattle.file_rules.specs.History.{dataFound, HasEntry, Belongs, Holds, formatted, EveryHistory, HistoryCheck, EveryByte}
-use Rattle.file_rules.specs.Laws.InModel.Agree.{agree, fresh-listed, start-is}
+use Rattle.file_rules.specs.Items.{Item, removing, adding, ItemList, Items, WrongItem, readItems}
+use Rattle.file_rules.specs.Histories.{Call, toAdd, toRemove, toList, toRead, toBatch, imageOut, imageStep, imageOuts, imageEnd, modelOuts, modelEnd}
+use Rattle.file_rules.specs.Histories.{changes, filesLeft, mostPresent, blocksOfFiles, fileNamed, IsPresent}
+use Rattle.file_rules.specs.History.{dataFound, HasEntry, Belongs, Holds, formatted, EveryHistory, HistoryCheck, CallsMade, EveryByte}
+use Rattle.file_rules.specs.Laws.InModel.Run.{agree, fresh-agrees}
 use Rattle.file_rules.specs.Laws.Base.Disk.{block-lt, offset-lt, byte-is, length-image}
-use Rattle.file_rules.specs.Laws.InnerModel.Reads.{dirEnd-is, word20, held-is, found-slot}
+use Rattle.file_rules.specs.Laws.InnerModel.Reads.{dirEnd-is, word16, word20, held-is, found-slot}
 use Rattle.file_rules.specs.Laws.InnerModel.Inner.{Inner, presentCount, fileBlocks, innerBad, render, emptySlots, innerFormat, innerFind, innerRead}
 use Rattle.file_rules.specs.Laws.InnerModel.Inner.{InnerChanged, innerRefused, innerRemoveAt, innerRemove, peakAfter, innerAddAt, roomFor}
-use Rattle.file_rules.specs.Laws.InnerModel.Inner.{innerAdd, innerStep, innerOut, innerOuts, innerEnd}
-use Rattle.file_rules.specs.Laws.InnerModel.Invariant.{partsOf, Inv}
-use Rattle.file_rules.specs.Laws.FilesLeft.Left.{count-is, left-is}
-use Rattle.file_rules.specs.Laws.InModel.Listed.{withOwner, BlocksListed}
+use Rattle.file_rules.specs.Laws.InnerModel.Inner.{innerAdd, innerItem, innerItems, innerBatch, innerStep, innerOut, innerOuts, innerEnd}
+use Rattle.file_rules.specs.Laws.InnerModel.Invariant.{Inv}
+use Rattle.file_rules.specs.Laws.FilesLeft.Left.{count-is, LeftAfter, left-is}
 use Rattle.file_rules.specs.Laws.FilesLeft.Present.{Fills, none-some, fills-blocks, fills-named, fills-not-named, fills-present, present-fills}
 use Rattle.file_rules.specs.Laws.Base.Names.{bounds-name}
 use Rattle.file_rules.specs.Laws.Base.Results.{result-is}
-use Rattle.file_rules.specs.Laws.OnImages.Run.{format-done, format-is, format-inv, img-disk, img-sound, out-is, runs, end-inv}
+use Rattle.file_rules.specs.Laws.OnImages.Single.{img-disk, img-sound}
+use Rattle.file_rules.specs.Laws.OnImages.Run.{format-done, format-is, format-inv, out-is, runs, end-inv}
 use Rattle.file_rules.specs.Laws.FilesLeft.Zero.{by-slot, filled-below, slot-entry, zero-outside}
-use Rattle.file_rules.specs.Model.{NamedFile, HeldFile, Model, dirBlocks, differentBlocks, usable, freeWord, modelDisk, modelFormat, hasName, heldData}
+use Rattle.file_rules.specs.Model.{NamedFile, HeldFile, Model, dirBlocks, differentBlocks, usable, freeWord, modelDisk, modelFormat, hasName}
+use Rattle.file_rules.specs.Model.{heldData, wrap}
 use Rattle.file_rules.specs.Sizes.{nameMost, titleMost}
 use Rattle.file_rules.specs.Written.{blocksFor}
 
@@ -123,18 +125,36 @@ module _ (m : Inner) (v : Inv m) (fs : List NamedFile) (r : Fills (m .slots) fs)
 
 -- ---- what no call changes
 
-next-arguments : (c : Call) (m : Inner) → innerStep m c .arguments ≡ m .arguments
-unfolding innerStep innerAdd innerRemove innerRefused innerAddAt innerRemoveAt
-next-arguments (toList buf) m = refl
-next-arguments (toRead name buf) m = refl
-next-arguments (toRemove name) m =
+item-arguments : (x : Item) (m : Inner) → innerItem m x .modelAfter .arguments ≡ m .arguments
+unfolding innerItem innerAdd innerRemove innerRefused innerAddAt innerRemoveAt
+item-arguments (removing name) m =
     let same : InnerChanged → Type 0 = λ c. c .modelAfter .arguments ≡ m .arguments in
     by-cond same (nameRight name) _ _ (λ t. by-cond same (ltb (innerFind m name) (suc (m .peak))) _ _ (λ h. refl) (λ h. refl)) (λ t. refl)
-next-arguments (toAdd x) m =
+item-arguments (adding x) m =
     let same : InnerChanged → Type 0 = λ c. c .modelAfter .arguments ≡ m .arguments in
     by-cond same (nameRight (x .name)) _ _
     (λ t. by-cond same (ltb (innerFind m (x .name)) (suc (m .peak))) _ _ (λ h. refl)
     (λ h. by-cond same (roomFor m x) _ _ (λ r. refl) (λ r. refl))) (λ t. refl)
+
+items-arguments : (xs : List Item) (n : ℕ) (m : Inner) → innerItems m n xs .modelAfter .arguments ≡ m .arguments
+unfolding innerItems
+items-arguments [] n m = refl
+items-arguments (x ∷ xs) n m =
+    by-cond (λ (c : InnerChanged). c .modelAfter .arguments ≡ m .arguments) (eqb (innerItem m x .answer .number) 0) _ _
+    (λ t. items-arguments xs (suc n) (innerItem m x .modelAfter) ∙ item-arguments x m) (λ t. item-arguments x m)
+
+batch-arguments : (l : ItemList) (m : Inner) → innerBatch m l .modelAfter .arguments ≡ m .arguments
+unfolding innerBatch innerRefused
+batch-arguments (Items xs) m = items-arguments xs 1 m
+batch-arguments (WrongItem n) m = refl
+
+next-arguments : (c : Call) (m : Inner) → innerStep m c .arguments ≡ m .arguments
+unfolding innerStep innerItem
+next-arguments (toList buf) m = refl
+next-arguments (toRead name buf) m = refl
+next-arguments (toRemove name) m = item-arguments (removing name) m
+next-arguments (toAdd x) m = item-arguments (adding x) m
+next-arguments (toBatch list) m = batch-arguments (readItems list) m
 
 -- a history keeps the arguments of its format
 pub same-arguments : (cs : List Call) (m : Inner) → innerEnd m cs .arguments ≡ m .arguments
@@ -166,8 +186,17 @@ module _ (args : FormatArguments) (each : EachCanBeBad (args .bad)) (calls : Lis
   v : Inv m
   v = end-inv calls m₀ (format-inv args each)
 
+  left : LeftAfter m₀ [] (changes calls os) m
+  left = left-is calls m₀ [] (format-inv args each) (fresh-fills args) (fresh-few args)
+
   both : Fills (m .slots) fs × (m .peak ≡ max (m₀ .peak) P)
-  both = left-is calls m₀ [] (format-inv args each) (fresh-fills args) (fresh-few args)
+  unfolding filesLeft mostPresent
+  both = (left .fills, left .peak)
+
+  -- the update count begins with 0
+  updates-same : m .updates ≡ length (changes calls os) % 4294967296
+  unfolding innerFormat wrap
+  updates-same = let e : m₀ .updates + length (changes calls os) ≡ length (changes calls os) = omega arith in left .updates ∙ ap wrap e
 
   -- the arguments of the format stay
   bad-same : innerBad m ≡ differentBlocks (args .bad)
@@ -178,18 +207,7 @@ module _ (args : FormatArguments) (each : EachCanBeBad (args .bad)) (calls : Lis
   peak-most-is = omega (arith, both .1, fresh-peak args)
 
   with-model : (os ≡ modelOuts b₀ calls) × (render m ≡ modelDisk (modelEnd b₀ calls)) × (m .peak ≡ modelEnd b₀ calls .peak)
-  with-model =
-      let e : m₀ ≡ withOwner b₀ (freshOwner args) = start-is args in
-      let w : Inv (withOwner b₀ (freshOwner args)) = subst Inv e (format-inv args each) in
-      let l : BlocksListed (b₀ .slots) (b₀ .dir) (freshOwner args) (partsOf (withOwner b₀ (freshOwner args))) =
-      subst (λ (z : Inner). BlocksListed (b₀ .slots) (b₀ .dir) (freshOwner args) (partsOf z)) e (fresh-listed args) in
-      let h : (innerOuts (withOwner b₀ (freshOwner args)) calls ≡ modelOuts b₀ calls)
-      × (render (innerEnd (withOwner b₀ (freshOwner args)) calls) ≡ modelDisk (modelEnd b₀ calls))
-      × (innerEnd (withOwner b₀ (freshOwner args)) calls .peak ≡ modelEnd b₀ calls .peak) = agree calls b₀ (freshOwner args) w l in (
-        ap (λ (z : Inner). innerOuts z calls) e ∙ h .0,
-        ap (λ (z : Inner). render (innerEnd z calls)) e ∙ h .1,
-        ap (λ (z : Inner). innerEnd z calls .peak) e ∙ h .2,
-      )
+  with-model = agree calls m₀ b₀ (format-inv args each) (fresh-agrees args)
 
   abbrev img : List ℕ
   img = imageOf (render m)
@@ -210,6 +228,7 @@ module _ (args : FormatArguments) (each : EachCanBeBad (args .bad)) (calls : Lis
             subst (λ (d : Disk). (k : ℕ) → k < dirEnd d → held d k ≡ true → (x : NamedFile) × IsPresent x fs × HasEntry d k x) (sym on-disk)
             (of-slot m v fs (both .0));
         peak-is = sym (with-model .2) ∙ peak-most-is;
+        updates-are = ap (λ (d : Disk). at32 (d 0) 16) on-disk ∙ word16 m v ∙ updates-same;
         free-word =
             ap (λ (d : Disk). at16 (d 0) 20) on-disk ∙ word20 m v ∙ ap (λ (n : ℕ). freeWord n (m .peak) (fileBlocks m)) bad-same
             ∙ ap₂ (freeWord (differentBlocks (args .bad))) peak-most-is (present-blocks m v fs (both .0));
@@ -264,6 +283,18 @@ history-check old args calls long short each =
     let n : Inner = innerEnd (innerFormat args) calls in
     let w : Inv n = end-inv calls (innerFormat args) (format-inv args each) in
     ap check (end-is old args calls long short each) ∙ img-sound n w _ _
+
+-- each call of a history is the call of its name
+pub calls-made : CallsMade
+unfolding imageOut imageStep bufferKept
+calls-made =
+    record {
+      made-add = λ image x. (refl, refl);
+      made-remove = λ image name. (refl, refl);
+      made-list = λ image buffer. (refl, refl);
+      made-read = λ image name buffer. (refl, refl);
+      made-batch = λ image items. (refl, refl);
+    }
 
 -- each byte of an image is a byte of its disk
 pub every-byte : EveryByte

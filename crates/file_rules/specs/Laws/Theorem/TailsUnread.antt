@@ -1,17 +1,21 @@
 -- tails-unread (FreeTails.antt): two block images that differ at most in tails get the same answers. All that is read of their disks is the same
 -- (OnAnyDisk.Alike), and adds and removes leave disks that differ at most in tails (OnAnyDisk.Unread).
 use mathlib.Core.Path.{_≡_, refl, sym, ap, ap₂, _∙_, subst}
-use mathlib.Core.List.{List}
+use mathlib.Core.List.{List, [], _∷_}
 use mathlib.Core.Option.{Option, none, some}
-use Prim.Native.Nat.{ℕ, _+_, _*_, _<_}
+use Prim.Native.Nat.{ℕ, suc, _+_, _*_, _<_}
 use native.Mathlib.Omega.{arith}
-use lib.Dec.{ltb}
+use lib.Dec.{ltb, eqb}
 use lib.ListN.{take}
 use Rattle.laws.specs.Laws.Cases.{by-order, by-both}
+use Rattle.laws.specs.Laws.Tests.{eq-true}
 use Rattle.sector_rules.specs.Geometry.{blocks}
+use Rattle.sector_rules.specs.Replies.{replyWith, wrongLength}
 use Rattle.sector_rules.specs.declared.Reply.{Reply}
 use Rattle.file_rules.specs.declared.Record.the-variants.{System}
-use Rattle.file_rules.specs.Calls.{Outcome, imageKept, onSound, check, deliver, entries, listSound, list}
+use Rattle.file_rules.specs.Batch.{itemCall, atItem, itemsInTurn, batchOf, batch}
+use Rattle.file_rules.specs.Items.{Item, removing, adding, ItemList, Items, WrongItem, readItems}
+use Rattle.file_rules.specs.Calls.{Outcome, imageKept, imageRight, onSound, check, deliver, entries, listSound, list}
 use Rattle.file_rules.specs.Calls.{dataOf, readSound, read, imaged, add, remove}
 use Rattle.file_rules.specs.Check.{diskRefusal}
 use Rattle.file_rules.specs.Directory.{nameRight, dirEnd, findName}
@@ -122,6 +126,34 @@ module _ (x y : List ℕ) (p : ImagesSameButTails x y) where
       let w = remove-like d e alike first name in
       record { answers = w .0; images = images-same-but-tails _ _ (w .1) })
 
+-- ---- a batch
+
+one-alike : (x y : List ℕ) → ImagesSameButTails x y → (i : Item) → ChangedAlike (itemCall x i) (itemCall y i)
+unfolding itemCall
+one-alike x y p (removing name) = remove-is x y p name
+one-alike x y p (adding f) = add-is x y p (f .name) (f .date) (f .content)
+
+items-alike : (xs : List Item) (n : ℕ) (x y : List ℕ) → ImagesSameButTails x y → ChangedAlike (itemsInTurn x n xs) (itemsInTurn y n xs)
+unfolding itemsInTurn
+items-alike [] n x y p = record { answers = refl; images = p }
+items-alike (i ∷ xs) n x y p =
+    let w : ChangedAlike (itemCall x i) (itemCall y i) = one-alike x y p i in
+    by-both ChangedAlike (eqb (itemCall x i .answer .number) 0) (eqb (itemCall y i .answer .number) 0) _ _ _ _
+    (ap (λ (r : Reply). eqb (r .number) 0) (w .answers))
+    (λ t. items-alike xs (suc n) (itemCall x i .image) (itemCall y i .image) (w .images))
+    (λ t. record { answers = ap (atItem n) (w .answers); images = w .images })
+
+list-alike : (l : ItemList) (x y : List ℕ) → ImagesSameButTails x y → ChangedAlike (batchOf x l) (batchOf y l)
+unfolding batchOf
+list-alike (Items xs) x y p = items-alike xs 1 x y p
+list-alike (WrongItem n) x y p = kept x y p (replyWith 20 0 0 n)
+
+batch-same : (x y items : List ℕ) → ImagesSameButTails x y → ChangedAlike (batch x items) (batch y items)
+unfolding batch imageRight
+batch-same x y items p =
+    by-both ChangedAlike (imageRight x) (imageRight y) _ _ _ _ (eq-true (p .0) ∙ sym (eq-true (p .1)))
+    (λ t. list-alike (readItems items) x y p) (λ t. kept x y p wrongLength)
+
 -- tails-unread: all of this holds
 pub tails-unread : TailsUnread
 tails-unread =
@@ -132,4 +164,5 @@ tails-unread =
       track-alike = track-same;
       add-alike = λ x y name date content p. add-is x y p name date content;
       remove-alike = λ x y name p. remove-is x y p name;
+      batch-alike = batch-same;
     }

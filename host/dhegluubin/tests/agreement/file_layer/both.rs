@@ -11,22 +11,32 @@ pub use support::cases::cases;
 /// Number and places.
 pub type Parts = [usize; 4];
 
-/// A call that changes the image.
-fn on_image(
+/// A call that changes the image, unless its reply is one that keeps it.
+fn compared(
     image: &mut [u8],
+    keeps: impl FnOnce(Parts) -> bool,
     library: impl FnOnce(&mut [u8]) -> dhegluubin::Reply,
     reference: impl FnOnce(&mut [u8]) -> reference::Reply,
 ) -> Parts {
     let mut lent = Lent::new(image);
     let reply = library(lent.bytes()).parts();
     assert!(
-        reply[0] == 0 || lent.after() == image,
+        !keeps(reply) || lent.after() == image,
         "image changed by refusal {reply:?}"
     );
     let expected = reference(image).parts();
     assert_eq!(reply, expected, "library, then reference");
     assert!(lent.after() == image, "other image than the reference");
     reply
+}
+
+/// A call that changes the image where it is done.
+fn on_image(
+    image: &mut [u8],
+    library: impl FnOnce(&mut [u8]) -> dhegluubin::Reply,
+    reference: impl FnOnce(&mut [u8]) -> reference::Reply,
+) -> Parts {
+    compared(image, |[number, ..]| number != 0, library, reference)
 }
 
 /// A call that reads the image and writes to a buffer.
@@ -89,6 +99,20 @@ pub fn remove(image: &mut [u8], name: &[u8]) -> Parts {
         |lent| raw::remove(lent, name),
         |lent| reference::remove(lent, name),
     )
+}
+
+/// Of a batch the items before the refused one stand; a refusal of the first item
+/// or of the whole call keeps the image.
+pub fn batch(image: &mut [u8], list: &[u8]) -> Parts {
+    let mut lent_list = Lent::new(list);
+    let reply = compared(
+        image,
+        |[number, .., item]| number == 20 || (number != 0 && item < 2),
+        |lent| raw::batch(lent, lent_list.bytes()),
+        |lent| reference::batch(lent, list),
+    );
+    assert!(lent_list.after() == list, "list changed");
+    reply
 }
 
 pub fn check(image: &[u8]) -> Parts {

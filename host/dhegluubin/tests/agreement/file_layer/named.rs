@@ -2,9 +2,10 @@
 
 use super::shared::build::{patch, set_record, set_word, three_files};
 use dhegluubin::{
-    add, check, first_track, format, format_bad, list, read, remove, FirstTrack, Lent, Refusal,
-    FIRST_TRACK_LEN, IMAGE_LEN,
+    add, batch, check, first_track, format, format_bad, list, raw, read, remove, BatchList,
+    BatchRefusal, FirstTrack, Lent, Refusal, FIRST_TRACK_LEN, IMAGE_LEN,
 };
+use support::noise::noise;
 
 #[test]
 fn done() {
@@ -48,6 +49,11 @@ fn wrong_lengths() {
     assert_eq!(read(&[], b"", &mut []), Err(refusal));
     assert_eq!(add(&mut [], b"", 0, &[]), Err(refusal));
     assert_eq!(remove(&mut [], b""), Err(refusal));
+    let whole = BatchRefusal {
+        item: None,
+        refusal,
+    };
+    assert_eq!(batch(&mut [], &BatchList::new()), Err(whole));
     assert_eq!(first_track(&[]), Err(refusal));
 }
 
@@ -88,4 +94,78 @@ fn own_refusals() {
     let short = Err(Refusal::BufferTooShort { needed: 1500 });
     assert_eq!(read(&image, b"f2", &mut [0; 10]), short);
     assert!(image == three_files());
+}
+
+/// The refusal of an item, and how many before it stand.
+fn refused_at(item: usize, refusal: Refusal) -> BatchRefusal {
+    let item = Some(item);
+    BatchRefusal { item, refusal }
+}
+
+#[test]
+fn batches() {
+    let mut image = three_files();
+    let mut list = BatchList::new();
+    list.remove(b"F1").add(b"f4", 3, b"data").remove(b"f2");
+    assert_eq!(batch(&mut image, &list), Ok(()));
+    let mut expected = three_files();
+    remove(&mut expected, b"f1").unwrap();
+    add(&mut expected, b"f4", 3, b"data").unwrap();
+    remove(&mut expected, b"f2").unwrap();
+    assert!(image == expected);
+
+    let mut list = BatchList::new();
+    list.remove(b"f4").add(b"F3", 0, &[]).remove(b"f3");
+    let refused = batch(&mut image, &list).unwrap_err();
+    let present = Refusal::NamePresent { slot: 3 };
+    assert_eq!(refused, refused_at(2, present));
+    assert_eq!(refused.accepted(), 1);
+    assert_eq!(remove(&mut expected, b"f4"), Ok(()));
+    assert!(image == expected);
+
+    set_word(&mut image, 28, 0);
+    let header = Refusal::DiskHeader { offset: 28 };
+    assert_eq!(batch(&mut image, &list), Err(refused_at(1, header)));
+    assert_eq!(batch(&mut image, &BatchList::new()), Ok(()));
+}
+
+/// Bytes that are no list (§7.27).
+#[test]
+fn wrong_lists() {
+    let mut image = three_files();
+    for (list, item) in [(&b"\x03"[..], 1), (b"\x01\x02f1\x02", 2)] {
+        let refused = raw::batch(&mut image, list).batch_result();
+        assert_eq!(refused, Err(refused_at(item, Refusal::WrongItem { item })));
+        assert_eq!(refused.unwrap_err().accepted(), 0);
+    }
+    assert!(image == three_files());
+}
+
+/// A listed item is answered as its single call, also where a list has no room
+/// for all of its name or data (§8.18 §8.19).
+#[test]
+fn listed_items_of_any_length() {
+    let data = noise(3, 2 * IMAGE_LEN);
+    let room = 734_144 - 1536 * 7;
+    let names = [0, 1, 36, 37, 255, 256, 257, 292, 293, 65_537].map(|len| vec![b'n'; len]);
+    let lens = [0, room, room + 1, IMAGE_LEN, IMAGE_LEN + 1, 2 * IMAGE_LEN];
+    let calls = names.iter().map(|name| (name, 0));
+    let present = b"f2".to_vec();
+    let of_data = lens
+        .iter()
+        .flat_map(|&len| [(&names[1], len), (&present, len)]);
+    for (name, len) in calls.chain(of_data) {
+        let (mut image, mut expected) = (three_files(), three_files());
+        let added = add(&mut expected, name, 7, &data[..len]);
+        let mut list = BatchList::new();
+        list.add(name, 7, &data[..len]);
+        let batched = batch(&mut image, &list).map_err(|refused| refused.refusal);
+        assert_eq!(batched, added, "{} and {len} bytes", name.len());
+        let removed = remove(&mut expected, name);
+        let mut list = BatchList::new();
+        list.remove(name);
+        let batched = batch(&mut image, &list).map_err(|refused| refused.refusal);
+        assert_eq!(batched, removed, "{} bytes", name.len());
+        assert!(image == expected);
+    }
 }

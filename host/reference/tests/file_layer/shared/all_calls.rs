@@ -1,11 +1,13 @@
 //! Every call on one image.
 
-use super::answer::{add, check, first_track, list, read, remove, Parts};
+use super::answer::{add, batch, check, first_track, list, read, remove, Parts};
+use super::call::{add_item, remove_item};
 use reference::geometry::TRACK_LEN;
 
 /// Makes every call on the image, add and remove on copies of it, and gives
 /// what check says. What check refuses, list, read, add and remove refuse
-/// alike: they judge the same first.
+/// alike: they judge the same first. So does a batch at its first item; without
+/// one it judges the length alone.
 pub fn all_calls(image: &[u8], name: &[u8]) -> Parts {
     let checked = check(image);
     first_track(&image[..image.len().min(TRACK_LEN)]);
@@ -16,8 +18,15 @@ pub fn all_calls(image: &[u8], name: &[u8]) -> Parts {
         add(&mut image.to_vec(), name, 1, &[]),
         remove(&mut image.to_vec(), name),
     ];
-    if checked[0] != 0 {
-        assert_eq!(replies, [checked; 5]);
+    let items = [remove_item(name), add_item(b"new file", 1, &[0x3C; 3000])];
+    let batched = [&items.concat()[..], &[]].map(|list| batch(&mut image.to_vec(), list));
+    match checked {
+        [0, ..] => assert_eq!(batched[1], [0; 4]),
+        [1, ..] => assert_eq!((replies, batched), ([checked; 5], [checked; 2])),
+        [number, first, ..] => {
+            assert_eq!(replies, [checked; 5]);
+            assert_eq!(batched, [[number, first, 0, 1], [0; 4]]);
+        }
     }
     checked
 }

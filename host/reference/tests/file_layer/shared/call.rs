@@ -25,6 +25,11 @@ pub enum Call {
     List {
         buffer: Vec<u8>,
     },
+    /// The items of a list, adds and removes, and bytes after the last of them.
+    Batch {
+        items: Vec<Call>,
+        tail: Vec<u8>,
+    },
 }
 
 /// Reply and, for list and read, the whole buffer afterwards.
@@ -60,7 +65,23 @@ impl Call {
                     buffer: buffer(lent),
                 }
             }
+            "batch" => {
+                let [_, items, tail] = call.members(["op", "items", "tail"]);
+                Call::Batch {
+                    items: items.list().iter().map(Call::from_json).collect(),
+                    tail: from_hex(tail.text()),
+                }
+            }
             op => panic!("call {op}"),
+        }
+    }
+
+    /// The bytes of an add or remove as an item of a list (§8.18).
+    pub fn item(&self) -> Vec<u8> {
+        match self {
+            Call::Add { name, date, data } => add_item(name, *date, data),
+            Call::Remove { name } => remove_item(name),
+            other => panic!("no item: {other:?}"),
         }
     }
 
@@ -71,6 +92,7 @@ impl Call {
             Call::Remove { name } => (answer::remove(image, name), None),
             Call::Read { name, buffer } => filled(answer::read(image, name, buffer)),
             Call::List { buffer } => filled(answer::list(image, buffer)),
+            Call::Batch { items, tail } => (answer::batch(image, &list_of(items, tail)), None),
         }
     }
 
@@ -81,8 +103,31 @@ impl Call {
             Call::Remove { name } => (model.remove(name).parts(), None),
             Call::Read { name, buffer } => lent(buffer, |out| model.read(name, out)),
             Call::List { buffer } => lent(buffer, |out| model.list(out)),
+            Call::Batch { items, tail } => (model.batch(&list_of(items, tail)).parts(), None),
         }
     }
+}
+
+/// The bytes of these items in order, then these.
+pub fn list_of(items: &[Call], tail: &[u8]) -> Vec<u8> {
+    let mut list: Vec<u8> = items.iter().flat_map(Call::item).collect();
+    list.extend(tail);
+    list
+}
+
+/// The item that removes a file: its kind, the name's length, the name (§8.18).
+pub fn remove_item(name: &[u8]) -> Vec<u8> {
+    let len = u8::try_from(name.len()).expect("a name of a list");
+    [&[1, len], name].concat()
+}
+
+/// The item that adds a file: after the name come its date and how many data
+/// there are, each as a number of 32 bits, and then these (§8.18).
+pub fn add_item(name: &[u8], date: u32, data: &[u8]) -> Vec<u8> {
+    let len = u8::try_from(name.len()).expect("a name of a list");
+    let data_len = u32::try_from(data.len()).expect("data of a list");
+    let numbers = [date.to_be_bytes(), data_len.to_be_bytes()].concat();
+    [&[2, len], name, &numbers, data].concat()
 }
 
 /// A number and a length.

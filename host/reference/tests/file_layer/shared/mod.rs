@@ -6,8 +6,9 @@ use super::answer;
 
 pub mod all_calls;
 pub mod bad_blocks;
+pub mod batch;
 pub mod build;
-mod call;
+pub mod call;
 mod calls;
 mod changes;
 mod corrupted;

@@ -1,8 +1,9 @@
 //! Random histories: the calls on an image, the model, and the free word by
 //! the files present (§9.7).
 
-use super::answer::cases;
+use super::answer::{cases, Parts};
 use super::bad_blocks::random_list;
+use super::batch::random_tail;
 use super::call::Call;
 use super::disk::Disk;
 use reference::model::Model;
@@ -96,26 +97,70 @@ impl Kind {
         vec![generator.byte(); *generator.choice(&lengths)]
     }
 
-    fn call(&self, generator: &mut Generator) -> Call {
+    /// An add, or a remove where this number is not below that of adds.
+    fn change(&self, generator: &mut Generator, kind: usize) -> Call {
         let name = self.name(generator);
+        if kind >= self.adds {
+            return Call::Remove { name };
+        }
+        let len = generator.choice(self.lengths) - 1 + generator.below(3);
+        Call::Add {
+            name,
+            date: generator.below(1 << 24) as u32 * 251,
+            data: noise(generator.below(1 << 24) as u32, len),
+        }
+    }
+
+    /// A batch of up to seven adds and removes, with names that a list can have;
+    /// now and then what follows them is wrong.
+    fn batch(&self, generator: &mut Generator) -> Call {
+        let count = generator.below(8);
+        let mut items = Vec::new();
+        for _ in 0..count {
+            let kind = generator.below(self.adds + self.removes);
+            let mut item = self.change(generator, kind);
+            let (Call::Add { name, .. } | Call::Remove { name }) = &mut item else {
+                panic!("no item");
+            };
+            name.truncate(255);
+            items.push(item);
+        }
+        let tail = random_tail(generator, 4);
+        Call::Batch { items, tail }
+    }
+
+    fn call(&self, generator: &mut Generator) -> Call {
+        if generator.below(6) == 0 {
+            return self.batch(generator);
+        }
         let kind = generator.below(100);
-        if kind < self.adds {
-            let len = generator.choice(self.lengths) - 1 + generator.below(3);
-            Call::Add {
-                name,
-                date: generator.below(1 << 24) as u32 * 251,
-                data: noise(generator.below(1 << 24) as u32, len),
-            }
-        } else if kind < self.adds + self.removes {
-            Call::Remove { name }
+        if kind < self.adds + self.removes {
+            self.change(generator, kind)
         } else if generator.below(2) == 0 {
-            let buffer = self.buffer(generator);
+            let (name, buffer) = (self.name(generator), self.buffer(generator));
             Call::Read { name, buffer }
         } else {
             let buffer = self.buffer(generator);
             Call::List { buffer }
         }
     }
+}
+
+/// The single calls that a call comes to, each with the number of its reply: of
+/// a batch the items that were tried, those before the refused one accepted; none
+/// where its list is wrong (§9.9).
+fn tried(call: &Call, [number, .., third]: Parts) -> Vec<(&Call, usize)> {
+    let Call::Batch { items, tail } = call else {
+        return vec![(call, number)];
+    };
+    assert_eq!(number == 20, !tail.is_empty());
+    let (accepted, refused) = match number {
+        0 => (items.len(), None),
+        20 => (0, None),
+        _ => (third - 1, Some((&items[third - 1], number))),
+    };
+    let accepted = items[..accepted].iter().map(|item| (item, 0));
+    accepted.chain(refused).collect()
 }
 
 /// A file as it was added.
@@ -149,6 +194,7 @@ impl Present {
             Call::Add { name, .. } => (name, number == 13),
             Call::Remove { name } | Call::Read { name, .. } => (name, ![12, 14].contains(&number)),
             Call::List { .. } => return false,
+            Call::Batch { .. } => panic!("a batch is judged by its items"),
         };
         let present = self.file(name);
         assert_eq!(found, present.is_some());
@@ -202,6 +248,8 @@ struct Shown {
     respelled: usize,
     /// Calls on disks with bad blocks.
     beside_bad: usize,
+    /// Items of batches that were accepted, and those that were refused.
+    items: [usize; 2],
     /// Whether there were as many as usual.
     enough: bool,
 }
@@ -233,12 +281,16 @@ impl Shown {
             let call = kind.call(&mut generator);
             let answer = call.on_image(&mut disk.image);
             assert!(answer == call.in_model(&mut disk.model), "call {index}");
-            let [number, ..] = answer.0;
-            self.numbers.insert(number);
+            self.numbers.insert(answer.0[0]);
             self.beside_bad += usize::from(!present.bad.is_empty());
-            self.respelled += usize::from(present.judge(&call, number));
-            if number == 0 {
-                present.accept(&call);
+            for (single, number) in tried(&call, answer.0) {
+                self.respelled += usize::from(present.judge(single, number));
+                if number == 0 {
+                    present.accept(single);
+                }
+                if matches!(call, Call::Batch { .. }) {
+                    self.items[usize::from(number != 0)] += 1;
+                }
             }
             assert_eq!(disk.free(), present.free_word());
             if index % 16 == 0 {
@@ -253,8 +305,8 @@ impl Shown {
 
     /// Asserts that these numbers were given, that a directory had so many
     /// blocks, that so many slots were taken again, that files were named by
-    /// other spellings and that there were bad blocks. Too few histories need not
-    /// show all that.
+    /// other spellings, that there were bad blocks and that items of batches were
+    /// accepted and refused. Too few histories need not show all that.
     fn assert(&self, numbers: &[usize], blocks: usize, again: usize) {
         let Shown {
             slots,
@@ -264,41 +316,43 @@ impl Shown {
         } = self;
         println!("{:?}, {slots} slots, {} again", self.numbers, self.again);
         println!("{respelled} calls by another spelling, {beside_bad} beside bad blocks");
+        println!("{:?} items accepted and refused", self.items);
         if self.enough {
             assert!(numbers.iter().all(|number| self.numbers.contains(number)));
             assert!(slots.div_ceil(24) >= blocks);
             assert!(self.again >= again);
             assert!(*respelled >= 10);
             assert!(*beside_bad >= 10);
+            assert!(self.items.iter().all(|&items| items >= 5));
         }
     }
 }
 
-/// The model answers lists and reads (§9.2 §9.3), adds and removes (§9.4) as
-/// the calls do.
+/// The model answers lists and reads (§9.2 §9.3), adds and removes (§9.4) and
+/// batches of them (§9.9) as the calls do.
 #[test]
 fn few_files() {
-    Shown::of(&FEW, 6, 0).assert(&[0, 12, 13, 14, 16], 1, 5);
+    Shown::of(&FEW, 6, 0).assert(&[0, 12, 13, 14, 16, 20], 1, 5);
 }
 
 /// Adds are refused with 15 where the free word says so (§9.7).
 #[test]
 fn long_files() {
-    Shown::of(&LONG, 4, 1).assert(&[0, 12, 13, 14, 15, 16], 1, 5);
+    Shown::of(&LONG, 4, 1).assert(&[0, 12, 13, 14, 15, 16, 20], 1, 5);
 }
 
 /// Each file present has its entry and data (§9.6).
 #[test]
 fn growing_directory() {
-    Shown::of(&GROWING, 3, 2).assert(&[0, 12, 13, 14, 16], 3, 5);
+    Shown::of(&GROWING, 3, 2).assert(&[0, 12, 13, 14, 16, 20], 3, 5);
 }
 
 #[test]
 fn many_files() {
-    Shown::of(&MANY, 2, 3).assert(&[0, 12, 13, 14, 15, 16], 10, 1);
+    Shown::of(&MANY, 2, 3).assert(&[0, 12, 13, 14, 15, 16, 20], 10, 1);
 }
 
 #[test]
 fn mostly_refused() {
-    Shown::of(&REFUSED, 4, 4).assert(&[0, 12, 13, 14, 16], 1, 1);
+    Shown::of(&REFUSED, 4, 4).assert(&[0, 12, 13, 14, 16, 20], 1, 1);
 }

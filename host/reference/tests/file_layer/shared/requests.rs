@@ -32,6 +32,11 @@ const SIX: Requested = Requested {
     count: 80,
 };
 
+const SEVEN: Requested = Requested {
+    lines: include_str!("../../data/requests/seven.jsonl"),
+    count: 75,
+};
+
 /// A history, then what check and the program say of its last image.
 fn history<'a>(case: &'a Value, answer: &'a Value) -> (History<'a>, [&'a Value; 2]) {
     let [_, format, calls] = case.members(["kind", "format", "calls"]);
@@ -205,4 +210,23 @@ fn six_in_the_model() {
 #[test]
 fn formats_of_six() {
     SIX.run_kind("formats", 7, run_formats);
+}
+
+/// Batches on disks of other makers, sound ones and others: 1 (§7.1), 20 (§7.27)
+/// and what items before a refusal leave (§8.19).
+#[test]
+fn disks_of_seven() {
+    SEVEN.run_kind("disk", 34, run_disk);
+}
+
+/// Batches among the other calls of a history (§9.9).
+#[test]
+fn histories_of_seven() {
+    SEVEN.run_kind("history", 41, run_history);
+}
+
+/// The model counts accepted items as calls (§9.9).
+#[test]
+fn seven_in_the_model() {
+    SEVEN.run_kind("history", 41, run_in_model);
 }
