@@ -1,6 +1,6 @@
 //! Times of the proved library and of the reference, in one run, and of batches
 //! and their single calls:
-//! `cargo run --release -p bench`, with the number of runs as an argument.
+//! `host/run-cargo run --release -p bench`, with the number of runs as an argument.
 //!
 //! Nothing is judged here; the limits are printed for comparison.
 

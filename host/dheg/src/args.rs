@@ -1,223 +1,168 @@
-//! The command line of a command: words and options in any order.
+//! Arguments that several commands take, and how their values are read.
 
 use std::ffi::{OsStr, OsString};
 
-use crate::failure::Failure;
+use clap::builder::{OsStringValueParser, TypedValueParser};
+use clap::{Arg, ArgAction, ArgMatches, ValueHint};
 
-/// An option that a command knows.
-pub struct Known {
-    /// As it is written, with its dashes.
-    pub name: &'static str,
-    /// Whether the next argument is its value.
-    pub valued: bool,
+use crate::patterns::{self, Pattern};
+use crate::{dates, names};
+
+/// A file or a folder that has to be named.
+pub fn path(id: &'static str, value: &'static str, help: &'static str) -> Arg {
+    Arg::new(id)
+        .value_name(value)
+        .help(help)
+        .required(true)
+        .value_parser(OsStringValueParser::new().try_map(parse_path))
+        .value_hint(ValueHint::AnyPath)
 }
 
-/// What the command line gives.
-#[derive(Debug)]
-pub struct Given<'a> {
-    words: Vec<&'a OsStr>,
-    /// Option and value; the value is empty where the option has none.
-    options: Vec<(&'static str, &'a OsStr)>,
+/// One or more files.
+pub fn paths(id: &'static str, value: &'static str, help: &'static str) -> Arg {
+    path(id, value, help).num_args(1..)
 }
 
-/// Whether help is asked for. What stands after `--` is never an option.
-pub fn asks_help(args: &[OsString]) -> bool {
-    args.iter()
-        .take_while(|arg| *arg != "--")
-        .any(|arg| arg == "--help" || arg == "-h")
+/// An option whose value is a file or a folder.
+pub fn path_option(id: &'static str, value: &'static str, help: &'static str) -> Arg {
+    path(id, value, help).required(false).long(id)
 }
 
-/// What stands before and after the first `--`, if there is one.
-pub fn split(args: &[OsString]) -> Option<(&[OsString], &[OsString])> {
-    let mut parts = args.splitn(2, |arg| arg == "--");
-    parts.next().zip(parts.next())
+/// The name of a file on a disk, or of a disk.
+pub fn name(id: &'static str, help: &'static str) -> Arg {
+    Arg::new(id)
+        .value_name("NAME")
+        .help(help)
+        .required(true)
+        .value_parser(OsStringValueParser::new().try_map(|text| names::parse(&text)))
 }
 
-impl<'a> Given<'a> {
-    /// Sorts the arguments. Whatever begins with a dash is an option; after
-    /// `--` all are words.
-    pub fn parse(args: &'a [OsString], known: &[Known]) -> Result<Given<'a>, Failure> {
-        let mut given = Given {
-            words: Vec::new(),
-            options: Vec::new(),
-        };
-        let mut rest = args.iter().map(OsString::as_os_str);
-        while let Some(arg) = rest.next() {
-            if arg == "--" {
-                given.words.extend(rest.by_ref());
-            } else if arg.as_encoded_bytes().starts_with(b"-") {
-                let option = find(arg, known)?;
-                let value = match option.valued {
-                    true => rest.next().ok_or_else(|| without_value(option.name))?,
-                    false => OsStr::new(""),
-                };
-                given.take(option.name, value)?;
-            } else {
-                given.words.push(arg);
-            }
-        }
-        Ok(given)
-    }
-
-    fn take(&mut self, name: &'static str, value: &'a OsStr) -> Result<(), Failure> {
-        if self.has(name) {
-            return Err(Failure::Usage(format!("{name} is given twice")));
-        }
-        self.options.push((name, value));
-        Ok(())
-    }
-
-    /// The words, if there are as many as the command takes.
-    pub fn exactly<const N: usize>(&self) -> Result<[&'a OsStr; N], Failure> {
-        <[&OsStr; N]>::try_from(self.words.as_slice()).map_err(|_| {
-            let count = self.words.len();
-            Failure::Usage(format!("words needed: {N}, given: {count}"))
-        })
-    }
-
-    /// The words, if there are any.
-    pub fn some(&self) -> Result<&[&'a OsStr], Failure> {
-        match self.words.is_empty() {
-            true => Err(Failure::Usage(String::from("no image is named"))),
-            false => Ok(&self.words),
-        }
-    }
-
-    /// The value of an option that is given.
-    pub fn value(&self, name: &str) -> Option<&'a OsStr> {
-        let found = self.options.iter().find(|(given, _)| *given == name)?;
-        Some(found.1)
-    }
-
-    /// Whether an option is given.
-    pub fn has(&self, name: &str) -> bool {
-        self.value(name).is_some()
-    }
+/// An option whose value is a name.
+pub fn name_option(id: &'static str, help: &'static str) -> Arg {
+    name(id, help).required(false).long(id)
 }
 
-fn find<'k>(arg: &OsStr, known: &'k [Known]) -> Result<&'k Known, Failure> {
-    let found = known.iter().find(|option| arg == option.name);
-    found.ok_or_else(|| Failure::Usage(format!("there is no option {}", arg.to_string_lossy())))
+/// Patterns of names of files on a disk.
+pub fn patterns(id: &'static str, value: &'static str, help: &'static str) -> Arg {
+    Arg::new(id)
+        .value_name(value)
+        .help(help)
+        .required(true)
+        .value_parser(OsStringValueParser::new().try_map(|text| patterns::parse(&text)))
 }
 
-/// The option's value is missing.
-pub fn without_value(name: &str) -> Failure {
-    Failure::Usage(format!("{name} has no value"))
+/// An option whose value is a pattern, and that may be repeated.
+pub fn patterns_option(id: &'static str, help: &'static str) -> Arg {
+    patterns(id, "PATTERN", help)
+        .required(false)
+        .long(id)
+        .action(ArgAction::Append)
+}
+
+/// A number that has to be given.
+pub fn number(id: &'static str, value: &'static str, help: &'static str) -> Arg {
+    Arg::new(id)
+        .value_name(value)
+        .help(help)
+        .required(true)
+        .value_parser(parse_number)
+}
+
+/// The date of files that are added.
+pub fn date() -> Arg {
+    Arg::new("date")
+        .long("date")
+        .value_name("D")
+        .help("QL date: its seconds, or YYYY-MM-DD HH:MM:SS, or now")
+        .value_parser(|text: &str| dates::parse(text))
+}
+
+/// An option without a value.
+pub fn flag(id: &'static str, help: &'static str) -> Arg {
+    Arg::new(id).long(id).help(help).action(ArgAction::SetTrue)
+}
+
+/// That results are to be JSON.
+pub fn json() -> Arg {
+    flag(
+        "json",
+        "Print a line of JSON for each image, refused ones too",
+    )
+}
+
+/// The path that was given; the reader has seen to it that there is one.
+pub fn path_of<'a>(given: &'a ArgMatches, id: &str) -> &'a OsStr {
+    let path = given.get_one::<OsString>(id);
+    path.map(OsString::as_os_str).unwrap_or_default()
+}
+
+/// All paths that were given.
+pub fn paths_of(given: &ArgMatches, id: &str) -> Vec<OsString> {
+    let paths = given.get_many::<OsString>(id);
+    paths
+        .map(|paths| paths.cloned().collect())
+        .unwrap_or_default()
+}
+
+/// All patterns that were given.
+pub fn patterns_of(given: &ArgMatches, id: &str) -> Vec<Pattern> {
+    let patterns = given.get_many::<Pattern>(id);
+    patterns
+        .map(|patterns| patterns.cloned().collect())
+        .unwrap_or_default()
+}
+
+/// The name that was given.
+pub fn name_of(given: &ArgMatches, id: &str) -> Option<Vec<u8>> {
+    given.get_one::<Vec<u8>>(id).cloned()
+}
+
+/// The number that was given.
+pub fn number_of(given: &ArgMatches, id: &str) -> usize {
+    given.get_one(id).copied().unwrap_or_default()
+}
+
+/// A path. An empty one would be taken for the current folder.
+fn parse_path(text: OsString) -> Result<OsString, &'static str> {
+    match text.is_empty() {
+        true => Err("a path is needed"),
+        false => Ok(text),
+    }
 }
 
 /// A number in decimal digits. One that is too great for the machine is given
 /// as the greatest: both are out of every range that the library judges.
-pub fn number(text: &OsStr) -> Result<usize, Failure> {
-    match text.to_str() {
-        Some(digits) if !digits.is_empty() && digits.bytes().all(|byte| byte.is_ascii_digit()) => {
-            Ok(digits.parse().unwrap_or(usize::MAX))
-        }
-        _ => Err(Failure::Usage(format!(
-            "{} is not a number",
-            text.to_string_lossy()
-        ))),
+pub fn parse_number(text: &str) -> Result<usize, String> {
+    match !text.is_empty() && text.bytes().all(|byte| byte.is_ascii_digit()) {
+        true => Ok(text.parse().unwrap_or(usize::MAX)),
+        false => Err(String::from("not a number")),
     }
+}
+
+/// A number of 16 bits.
+pub fn parse_word(text: &str) -> Result<u16, String> {
+    u16::try_from(parse_number(text)?).map_err(|_| String::from("over 65535"))
 }
 
 #[cfg(test)]
 mod tests {
     use super::*;
 
-    const KNOWN: [Known; 2] = [
-        Known {
-            name: "--name",
-            valued: true,
-        },
-        Known {
-            name: "--force",
-            valued: false,
-        },
-    ];
-
-    fn line(text: &str) -> Vec<OsString> {
-        text.split(' ').map(OsString::from).collect()
-    }
-
-    #[test]
-    fn words_and_options_in_any_order() {
-        for text in [
-            "a b --name n --force",
-            "--force a --name n b",
-            "--name n --force -- a b",
-        ] {
-            let args = line(text);
-            let given = Given::parse(&args, &KNOWN).unwrap();
-            assert_eq!(given.exactly().unwrap(), ["a", "b"]);
-            assert_eq!(given.some().unwrap(), ["a", "b"]);
-            assert_eq!(given.value("--name"), Some(OsStr::new("n")));
-            assert!(given.has("--force"));
-        }
-    }
-
-    #[test]
-    fn nothing_given() {
-        let given = Given::parse(&[], &KNOWN).unwrap();
-        assert_eq!(given.exactly::<0>().unwrap().len(), 0);
-        assert!(given.some().is_err());
-        assert_eq!(given.value("--name"), None);
-        assert!(!given.has("--force"));
-    }
-
-    #[test]
-    fn dashes() {
-        let args = line("--name --force -- -x --name --");
-        let given = Given::parse(&args, &KNOWN).unwrap();
-        assert_eq!(given.value("--name"), Some(OsStr::new("--force")));
-        assert!(!given.has("--force"));
-        assert_eq!(given.exactly().unwrap(), ["-x", "--name", "--"]);
-    }
-
-    #[test]
-    fn wrong_lines() {
-        for (text, words) in [
-            ("a --nam n", "there is no option --nam"),
-            ("a -f", "there is no option -f"),
-            ("a --name=n", "there is no option --name=n"),
-            ("a --name", "--name has no value"),
-            ("--name a --name b", "--name is given twice"),
-            ("--force --force", "--force is given twice"),
-        ] {
-            let failure = Given::parse(&line(text), &KNOWN).unwrap_err();
-            assert_eq!(failure.to_string(), format!("dheg: {words}\n"));
-            assert_eq!(failure.status(), 2);
-        }
-    }
-
-    #[test]
-    fn wrong_count() {
-        let args = line("a b");
-        let given = Given::parse(&args, &KNOWN).unwrap();
-        assert!(given.exactly::<1>().is_err());
-        assert!(given.exactly::<3>().is_err());
-    }
-
-    #[test]
-    fn help_and_split() {
-        assert!(asks_help(&line("a --help")));
-        assert!(asks_help(&line("-h -- b")));
-        assert!(!asks_help(&line("a -- --help")));
-        assert!(!asks_help(&[]));
-
-        let args = line("a -- b -- c");
-        let (before, after) = split(&args).unwrap();
-        assert_eq!(before, line("a"));
-        assert_eq!(after, line("b -- c"));
-        assert_eq!(split(&line("a b")), None);
-    }
-
     #[test]
     fn numbers() {
-        let parsed = |text: &str| number(OsStr::new(text)).ok();
+        let parsed = |text: &str| parse_number(text).ok();
         assert_eq!(parsed("0"), Some(0));
         assert_eq!(parsed("479"), Some(479));
         assert_eq!(parsed(&"9".repeat(40)), Some(usize::MAX));
         for text in ["", "-1", "+1", "1 ", "0x10", "\u{661}"] {
             assert_eq!(parsed(text), None, "{text}");
         }
+    }
+
+    #[test]
+    fn words() {
+        assert_eq!(parse_word("65535"), Ok(65535));
+        assert_eq!(parse_word("65536"), Err(String::from("over 65535")));
+        assert_eq!(parse_word("six"), Err(String::from("not a number")));
     }
 }

@@ -1,9 +1,6 @@
 //! QL dates: seconds since 1961-01-01 00:00:00, in 32 bits.
 
-use std::ffi::OsStr;
 use std::time::SystemTime;
-
-use crate::failure::Failure;
 
 const FIRST_YEAR: u32 = 1961;
 
@@ -28,19 +25,18 @@ pub fn shown(date: u32) -> String {
 }
 
 /// A date from the command line: `now`, seconds, or what `shown` gives.
-pub fn parse(text: &OsStr) -> Result<u32, Failure> {
-    let date = text.to_str().and_then(|text| match text {
+pub fn parse(text: &str) -> Result<u32, String> {
+    let date = match text {
         "now" => now(),
         _ if text.bytes().all(|byte| byte.is_ascii_digit()) => text.parse().ok(),
-        _ => seconds(fields(text)?),
-    });
+        _ => fields(text).and_then(seconds),
+    };
     date.ok_or_else(|| {
-        Failure::Usage(format!(
-            "{} is not a date from {} to {}, nor its seconds, nor now",
-            text.to_string_lossy(),
+        format!(
+            "{text} is not a date from {} to {}, nor its seconds, nor now",
             shown(0),
             shown(u32::MAX)
-        ))
+        )
     })
 }
 
@@ -131,7 +127,7 @@ mod tests {
     use super::*;
 
     fn parsed(text: &str) -> Option<u32> {
-        parse(OsStr::new(text)).ok()
+        parse(text).ok()
     }
 
     #[test]

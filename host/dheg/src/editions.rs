@@ -10,11 +10,8 @@ use crate::failure::Failure;
 /// A refusal of this HFE image. The edition is told where it is not the usual
 /// one, or where it is what the image is refused for.
 pub fn refused(path: &OsStr, hfe: &[u8], refusal: Refusal) -> Failure {
-    Failure::Refused {
-        what: Path::new(path).display().to_string(),
-        refusal,
-        note: note(Edition::of(hfe), refusal),
-    }
+    let what = Path::new(path).display().to_string();
+    Failure::refused(what, refusal, note(Edition::of(hfe), refusal))
 }
 
 /// What is told after a refusal.

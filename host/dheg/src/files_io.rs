@@ -4,8 +4,9 @@ use std::ffi::OsStr;
 use std::fs::{self, File, OpenOptions, Permissions};
 use std::io::{self, Read, Write};
 use std::path::{Path, PathBuf};
+use std::sync::atomic::{AtomicUsize, Ordering};
 
-use dhegluubin::{IMAGE_LEN, SECTOR_LEN};
+use dhegluubin::{Edition, IMAGE_LEN, SECTOR_LEN};
 
 use crate::failure::Failure;
 
@@ -21,6 +22,9 @@ const SECTOR_LIMIT: usize = SECTOR_LEN + 1;
 
 /// Most bytes of the list of a batch, many times what a disk's files need.
 const LIST_LIMIT: usize = 1 << 24;
+
+/// Letters that tell the version of an HFE image (§2.2).
+const EDITION_LEN: usize = 8;
 
 /// Temporary names that are tried before it is given up.
 const TRIES: u32 = 100;
@@ -83,6 +87,46 @@ fn read(path: &OsStr, limit: usize) -> Result<Vec<u8>, Failure> {
     Ok(bytes)
 }
 
+/// Whether a path is that of a file that begins as an HFE image does.
+pub fn is_hfe(path: &OsStr) -> bool {
+    // A device or a pipe is not read: it might wait, and what is read is lost.
+    let plain = fs::metadata(path).is_ok_and(|about| about.is_file());
+    plain && read(path, EDITION_LEN).is_ok_and(|start| Edition::of(&start).is_some())
+}
+
+/// Whether a path is that of a file that has the length of a block image.
+pub fn is_block_image(path: &OsStr) -> bool {
+    let length = u64::try_from(IMAGE_LEN).unwrap_or(u64::MAX);
+    fs::metadata(path).is_ok_and(|about| about.is_file() && about.len() == length)
+}
+
+/// Fails where a path is that of the input, which would be lost.
+pub fn not_the_input(input: &OsStr, path: &OsStr) -> Result<(), Failure> {
+    let same = match (fs::canonicalize(input), fs::canonicalize(path)) {
+        (Ok(input), Ok(path)) => input == path,
+        _ => false,
+    };
+    match same {
+        true => {
+            let path = Path::new(path).display();
+            let words = format!("{path} is the input, which would be lost");
+            Err(Failure::Usage(words))
+        }
+        false => Ok(()),
+    }
+}
+
+/// Fails where a path is not that of a plain file: a pipe that is read cannot be
+/// written again.
+pub fn plain_file(path: &OsStr) -> Result<(), Failure> {
+    let path = Path::new(path);
+    let about = fs::metadata(path).map_err(|error| Failure::io(path, error))?;
+    match about.is_file() {
+        true => Ok(()),
+        false => Err(Failure::io(path, io::Error::other("is no plain file"))),
+    }
+}
+
 /// Writes a file under a temporary name in the same folder, then renames it:
 /// until all is written, what was there before stays.
 pub fn write(path: &OsStr, bytes: &[u8]) -> Result<(), Failure> {
@@ -92,17 +136,26 @@ pub fn write(path: &OsStr, bytes: &[u8]) -> Result<(), Failure> {
 
 /// As `write`, but only where nothing is there yet.
 pub fn write_new(path: &OsStr, bytes: &[u8]) -> Result<(), Failure> {
-    if fs::symlink_metadata(path).is_ok() {
-        let error = io::Error::new(
-            io::ErrorKind::AlreadyExists,
-            "is there already, --force writes over it",
-        );
-        return Err(Failure::io(Path::new(path), error));
-    }
+    not_there(path)?;
     write(path, bytes)
 }
 
+/// Fails where something is there already.
+pub fn not_there(path: &OsStr) -> Result<(), Failure> {
+    if fs::symlink_metadata(path).is_err() {
+        return Ok(());
+    }
+    let words = "is there already, --force writes over it";
+    let error = io::Error::new(io::ErrorKind::AlreadyExists, words);
+    Err(Failure::io(Path::new(path), error))
+}
+
 fn replace(path: &Path, bytes: &[u8]) -> io::Result<()> {
+    // What it leads to may be a file that others write to as well.
+    if path == Path::new("/dev/stdout") {
+        let mut out = io::stdout();
+        return out.write_all(bytes).and_then(|()| out.flush());
+    }
     let old = match fs::metadata(path) {
         Err(error) if error.kind() == io::ErrorKind::NotFound => None,
         Err(error) => return Err(error),
@@ -152,12 +205,15 @@ struct Temporary {
 impl Temporary {
     /// Creates it under a name that nothing has.
     fn create(folder: &Path) -> io::Result<(Temporary, File)> {
-        let mut number = 0;
+        // Several threads write at once.
+        static NEXT: AtomicUsize = AtomicUsize::new(0);
+        let mut tries = 0;
         loop {
+            let number = NEXT.fetch_add(1, Ordering::Relaxed);
             let path = folder.join(format!(".dheg-{}-{number}.tmp", std::process::id()));
             match OpenOptions::new().write(true).create_new(true).open(&path) {
-                Err(error) if error.kind() == io::ErrorKind::AlreadyExists && number < TRIES => {
-                    number += 1;
+                Err(error) if error.kind() == io::ErrorKind::AlreadyExists && tries < TRIES => {
+                    tries += 1;
                 }
                 Err(error) => return Err(error),
                 Ok(file) => {

@@ -1,4 +1,5 @@
-//! `dheg`, the bench tool: QL disks in HFE images, from the command line.
+//! `dheg`, the bench tool: QL disks in HFE images and block images, from the
+//! command line.
 //!
 //! What is judged and what is written is the proved library's; this program
 //! reads the command line, the files and the clock, and tells the outcome.
@@ -16,25 +17,36 @@
 )]
 
 mod args;
+mod bad_sectors;
+mod blocks;
+mod changes;
 mod commands;
 mod dates;
 mod editions;
+mod entries;
 mod failure;
 mod files_io;
+mod host_names;
+mod images;
+mod listing;
+mod map_svg;
+mod map_text;
 mod names;
+mod output;
+mod parallel;
+mod patterns;
 mod progress;
+mod sources;
 mod step_list;
 mod steps;
 
-use std::ffi::OsString;
-use std::io::{self, Write};
 use std::process::ExitCode;
 
 use failure::Failure;
+use output::{complain, print, Output};
 
 fn main() -> ExitCode {
-    let args: Vec<OsString> = std::env::args_os().skip(1).collect();
-    match run(&args) {
+    match run() {
         Ok(()) => ExitCode::SUCCESS,
         Err(failure) => {
             complain(&failure);
@@ -44,44 +56,27 @@ fn main() -> ExitCode {
 }
 
 /// Does what the command line asks for.
-fn run(args: &[OsString]) -> Result<(), Failure> {
-    let Some((first, rest)) = args.split_first() else {
-        return Err(Failure::Usage(String::from("a command is needed")).in_tool());
+fn run() -> Result<(), Failure> {
+    let given = match commands::tool().try_get_matches() {
+        Ok(given) => given,
+        Err(error) => return wrong_or_help(&error),
     };
-    let word = first.to_string_lossy();
-    match &*word {
-        "--help" | "-h" => return print(&commands::overview()),
-        "--version" => return print(concat!("dheg ", env!("CARGO_PKG_VERSION"), "\n")),
-        _ => {}
-    }
-    let Some(command) = commands::named(&word) else {
-        return Err(Failure::Usage(format!("there is no command {word}")).in_tool());
+    let Some((name, given)) = given.subcommand() else {
+        return Err(Failure::Usage(String::from("a command is needed")));
     };
-    if args::asks_help(rest) {
-        return print(&command.help());
+    match commands::named(name) {
+        Some(command) => (command.run)(given, &Output::of(given))
+            .map_err(|failure| failure.in_command(name, &command.usage())),
+        None => Err(Failure::Usage(format!("there is no command {name}"))),
     }
-    (command.run)(rest).map_err(|failure| failure.in_command(command))
 }
 
-/// Writes to standard output. A closed pipe is an error as any other; the
-/// `print!` macros would panic there.
-fn print(text: &str) -> Result<(), Failure> {
-    let mut out = io::stdout();
-    out.write_all(text.as_bytes())
-        .and_then(|()| out.flush())
-        .map_err(|error| Failure::Io {
-            what: String::from("standard output"),
-            error,
-        })
-}
-
-/// Tells of something on standard error, so that results on standard output are
-/// not mixed with it. Where that is closed there is nobody to tell.
-fn tell(text: &str) {
-    let _ = writeln!(io::stderr(), "dheg: {text}");
-}
-
-/// Tells of a failure. Where standard error is closed there is nobody to tell.
-fn complain(failure: &Failure) {
-    let _ = write!(io::stderr(), "{failure}");
+/// A command line that asks for help or the version, or a wrong one.
+fn wrong_or_help(error: &clap::Error) -> Result<(), Failure> {
+    let text = error.to_string();
+    if !error.use_stderr() {
+        return print(&text);
+    }
+    let words = text.strip_prefix("error: ").unwrap_or(&text);
+    Err(Failure::Usage(words.trim_end().to_string()))
 }

@@ -4,32 +4,47 @@
 //! backslash; every other character stands for its own bytes, those of UTF-8
 //! where it is not ASCII. What is shown can be given back as it is.
 //!
-//! The tool compares no names: which of them are equal the library judges.
+//! Which names are equal the library judges; only patterns are compared here
+//! (`patterns`).
 
 use std::ffi::OsStr;
 
-use crate::failure::Failure;
-
 /// The bytes of a name from the command line. How many a name may have is
 /// judged by the library.
-pub fn parse(text: &OsStr) -> Result<Vec<u8>, Failure> {
-    let mut rest = text.as_encoded_bytes().iter().copied();
-    let mut name = Vec::new();
-    while let Some(byte) = rest.next() {
-        let meant = match byte {
-            b'\\' => escaped(&mut rest),
-            plain => Some(plain),
-        };
-        name.push(meant.ok_or_else(|| wrong(text))?);
-    }
-    Ok(name)
+pub fn parse(text: &OsStr) -> Result<Vec<u8>, String> {
+    let letters = letters(text)?.into_iter();
+    let bytes = letters.map(|letter| match letter {
+        Letter::Plain(byte) | Letter::Escaped(byte) => byte,
+    });
+    Ok(bytes.collect())
 }
 
-fn wrong(text: &OsStr) -> Failure {
-    Failure::Usage(format!(
+/// A byte, and whether it was written with a backslash.
+#[derive(Clone, Copy, Debug, PartialEq, Eq)]
+pub enum Letter {
+    Plain(u8),
+    Escaped(u8),
+}
+
+/// What a text stands for, byte by byte.
+pub fn letters(text: &OsStr) -> Result<Vec<Letter>, String> {
+    let mut rest = text.as_encoded_bytes().iter().copied();
+    let mut letters = Vec::new();
+    while let Some(byte) = rest.next() {
+        let letter = match byte {
+            b'\\' => escaped(&mut rest).map(Letter::Escaped),
+            plain => Some(Letter::Plain(plain)),
+        };
+        letters.push(letter.ok_or_else(|| wrong(text))?);
+    }
+    Ok(letters)
+}
+
+fn wrong(text: &OsStr) -> String {
+    format!(
         "in the name {} a backslash is not followed by xHH or another backslash",
         text.to_string_lossy()
-    ))
+    )
 }
 
 /// The byte that stands after a backslash.
@@ -48,7 +63,8 @@ fn digit(byte: u8) -> Option<u8> {
 }
 
 /// A name as text. Bytes that are not printable ASCII are escaped, and so are
-/// spaces at either end, which one would not see.
+/// spaces at either end, which one would not see, what a pattern would take for
+/// more than itself, and at the start what an option or a quoted word begins with.
 pub fn shown(name: &[u8]) -> String {
     let last = name.len().saturating_sub(1);
     let mut text = String::new();
@@ -56,11 +72,17 @@ pub fn shown(name: &[u8]) -> String {
         match byte {
             b'\\' => text.push_str("\\\\"),
             b' ' if at != 0 && at != last => text.push(' '),
+            b'*' | b'?' => text.push_str(&escape(byte)),
+            b'-' | b'"' if at == 0 => text.push_str(&escape(byte)),
             b'!'..=b'~' => text.push(char::from(byte)),
-            _ => text.push_str(&format!("\\x{byte:02X}")),
+            _ => text.push_str(&escape(byte)),
         }
     }
     text
+}
+
+fn escape(byte: u8) -> String {
+    format!("\\x{byte:02X}")
 }
 
 #[cfg(test)]
@@ -85,8 +107,7 @@ mod tests {
     #[test]
     fn wrong_escapes() {
         for text in ["\\", "\\x", "\\x4", "\\xG0", "\\x0G", "\\n", "a\\X41"] {
-            let failure = parse(OsStr::new(text)).unwrap_err();
-            assert_eq!(failure.status(), 2, "{text}");
+            assert!(parse(OsStr::new(text)).is_err(), "{text}");
         }
     }
 
@@ -96,6 +117,9 @@ mod tests {
         assert_eq!(shown(b"letter_txt"), "letter_txt");
         assert_eq!(shown(b" two words "), "\\x20two words\\x20");
         assert_eq!(shown(b" "), "\\x20");
+        assert_eq!(shown(b"a*b?"), "a\\x2Ab\\x3F");
+        assert_eq!(shown(b"-a-\""), "\\x2Da-\"");
+        assert_eq!(shown(b"\"a\""), "\\x22a\"");
         assert_eq!(shown(b"\x00\x1F\x7F\xFF\\"), "\\x00\\x1F\\x7F\\xFF\\\\");
     }
 

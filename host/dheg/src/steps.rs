@@ -8,7 +8,7 @@ use dhegluubin::BatchList;
 
 use crate::failure::Failure;
 use crate::progress::Progress;
-use crate::{args, dates, files_io, names};
+use crate::{dates, files_io, names};
 
 /// A change of the disk.
 #[derive(Debug, PartialEq)]
@@ -28,13 +28,13 @@ pub enum Step {
 pub fn first(words: &[OsString]) -> Result<(Step, &[OsString]), Failure> {
     match words {
         [verb, name, file, rest @ ..] if verb == "put" => {
-            let name = names::parse(name)?;
+            let name = names::parse(name).map_err(Failure::Usage)?;
             let file = file.clone();
             let (date, rest) = date(rest)?;
             Ok((Step::Put { name, file, date }, rest))
         }
         [verb, name, rest @ ..] if verb == "rm" => {
-            let name = names::parse(name)?;
+            let name = names::parse(name).map_err(Failure::Usage)?;
             Ok((Step::Rm { name }, rest))
         }
         _ => Err(Failure::Usage(none(words.first().map(OsString::as_os_str)))),
@@ -55,8 +55,11 @@ fn none(verb: Option<&OsStr>) -> String {
 fn date(words: &[OsString]) -> Result<(u32, &[OsString]), Failure> {
     match words {
         [option, rest @ ..] if option == "--date" => match rest {
-            [text, rest @ ..] => Ok((dates::parse(text)?, rest)),
-            [] => Err(args::without_value("--date")),
+            [text, rest @ ..] => {
+                let date = dates::parse(&text.to_string_lossy()).map_err(Failure::Usage)?;
+                Ok((date, rest))
+            }
+            [] => Err(Failure::Usage(String::from("--date has no value"))),
         },
         _ => Ok((0, words)),
     }

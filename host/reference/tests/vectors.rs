@@ -2,7 +2,7 @@
 //! change request.
 
 use std::collections::BTreeSet;
-use support::json::parse_lines;
+use support::json::{parse_lines, Contents};
 
 const BASE: &str = include_str!("data/requests/base.jsonl");
 
@@ -20,7 +20,7 @@ fn lines_that_change_are_there() {
     let changes = parse_lines(BASE);
     let named: BTreeSet<(&str, usize)> = changes
         .iter()
-        .map(|change| (change.get("file").text(), change.get("line").size()))
+        .map(|change| (change.member("file").text(), change.member("line").size()))
         .collect();
     assert_eq!(named.len(), changes.len());
     for (file, line) in &named {

@@ -1,7 +1,7 @@
 //! Cases of a test: how many random ones, and those of the outside answers.
 
 use crate::hex::from_hex;
-use crate::json::{parse_lines, Value};
+use crate::json::{parse_lines, Contents, Value};
 use crate::levels::{later_answer, of_request, LEVEL};
 use std::cell::Cell;
 use std::collections::BTreeMap;
@@ -93,7 +93,7 @@ impl Requested {
     pub fn run_kind(&self, kind: &str, count: usize, run: impl Fn(&Value, &Value)) {
         let found = Cell::new(0);
         self.run(0, 1, |case, answer| {
-            if case.get("kind").text() == kind {
+            if case.member("kind").text() == kind {
                 found.set(found.get() + 1);
                 run(case, answer);
             }
@@ -112,7 +112,7 @@ fn run_share(cases: &[Value], first: usize, step: usize, run: impl Fn(&Value)) {
 
 /// Lays the patches of a case over the bytes.
 pub fn lay_patches(case: &Value, bytes: &mut [u8]) {
-    for patch in case.get("patches").list() {
+    for patch in case.member("patches").list() {
         let offset = patch.list()[0].size();
         let patch = from_hex(patch.list()[1].text());
         bytes[offset..offset + patch.len()].copy_from_slice(&patch);
@@ -153,7 +153,7 @@ mod tests {
             CASES.run(first, step, |case| {
                 numbers
                     .borrow_mut()
-                    .push(expected_reply(case.get("reply"))[0]);
+                    .push(expected_reply(case.member("reply"))[0]);
             });
             assert_eq!(numbers.into_inner(), expected);
         }
@@ -223,8 +223,8 @@ mod tests {
         assert_eq!(CASES.at_level(50), own);
         let changed = CASES.at_level(51);
         assert_eq!([&changed[0], &changed[2]], [&own[0], &own[2]]);
-        assert_eq!(expected_reply(changed[1].get("reply")), [5, 0, 0, 0]);
-        assert_eq!(changed[1].get("patches"), own[1].get("patches"));
+        assert_eq!(expected_reply(changed[1].member("reply")), [5, 0, 0, 0]);
+        assert_eq!(changed[1].member("patches"), own[1].member("patches"));
         assert_eq!(CASES.changed(51).into_keys().collect::<Vec<_>>(), [2]);
     }
 }

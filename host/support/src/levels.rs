@@ -1,7 +1,7 @@
 //! Levels of the outside answers: at level n the first n change requests are
 //! in.
 
-use crate::json::Value;
+use crate::json::{Contents, Value};
 
 /// The project's level: the requests One to this one are in. The tests take
 /// the answers that hold at it.
@@ -48,6 +48,7 @@ pub fn of_request(line: &Value, level: usize) -> (&Value, &Value) {
 mod tests {
     use super::*;
     use crate::json::parse;
+    use serde_json::json;
 
     /// A line of request Three, whose answer changes with Six.
     const LINE: &str = r#"{"level": 3, "holds_until": 5, "case": "asked", "answer": "own",
@@ -62,12 +63,12 @@ mod tests {
     /// Each level has one answer, from the level after the last one's end.
     #[test]
     fn one_answer_at_each_level() {
-        let (until, later) = (Value::Number(4), parse(LATER));
+        let (until, later) = (json!(4), parse(LATER));
         let at = |level| later_answer(&until, &later, level).map(Value::text);
         assert_eq!((at(0), at(4)), (None, None));
         assert_eq!((at(5), at(11)), (Some("second"), Some("second")));
         assert_eq!((at(12), at(99)), (Some("third"), Some("third")));
-        assert_eq!(later_answer(&Value::Null, &Value::List(vec![]), 99), None);
+        assert_eq!(later_answer(&Value::Null, &json!([]), 99), None);
     }
 
     /// A line's own answer holds until another does.
@@ -91,13 +92,13 @@ mod tests {
     #[test]
     #[should_panic(expected = "levels without an answer")]
     fn no_level_is_left_out() {
-        later_answer(&Value::Number(3), &parse(LATER), 5);
+        later_answer(&json!(3), &parse(LATER), 5);
     }
 
     /// So are levels after the last answer.
     #[test]
     #[should_panic(expected = "no answer at level 6")]
     fn last_answer_holds_for_ever() {
-        later_answer(&Value::Number(5), &parse("[]"), 6);
+        later_answer(&json!(5), &parse("[]"), 6);
     }
 }

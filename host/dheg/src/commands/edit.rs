@@ -1,55 +1,74 @@
 //! `dheg edit`: unpack, change, pack.
 
-use std::ffi::{OsStr, OsString};
+use std::ffi::OsString;
 use std::path::Path;
 
-use dhegluubin::{batch, BatchList, BatchRefusal, Edition};
+use clap::{value_parser, Arg, ArgMatches};
+use dhegluubin::{BatchList, Edition};
 
-use super::pack::packed;
-use super::unpack::unpacked;
 use super::Command;
-use crate::args::{self, Given};
+use crate::args::{path, path_of, paths_of};
+use crate::changes;
 use crate::failure::Failure;
-use crate::files_io;
+use crate::images::{packed, unpacked, Disk};
+use crate::output::Output;
 use crate::progress::Progress;
 use crate::steps::{self, Step};
+use crate::{editions, files_io};
 
 pub const COMMAND: Command = Command {
     name: "edit",
-    arguments: "IN.hfe OUT.hfe -- (put NAME FILE [--date D] | rm NAME)...",
-    about: "change the files in an HFE image",
+    usage: &["IN.hfe OUT.hfe -- (put NAME FILE [--date D] | rm NAME)..."],
+    about: "Change the files in an HFE image",
     details: "\
 Unpacks IN.hfe, takes the steps after -- in order and packs the result as
 OUT.hfe, which may be IN.hfe. If a step is refused, nothing is written. The
-steps are those of dheg put and dheg rm, with names and dates as there.
+steps are those of dheg put and dheg rm, with names and dates as there, and
+without patterns.
 
 IN.hfe is of HFE version 1 or 3. OUT.hfe is of version 1: where IN.hfe is of
 version 3, a line on standard error says so.
 ",
-    example: "dheg edit old.hfe new.hfe -- rm boot put boot boot.bas put notes_txt notes.txt\n",
+    example: "dheg edit old.hfe new.hfe -- rm boot put boot boot.bas put notes_txt notes.txt",
+    arguments,
     run,
 };
 
-fn run(args: &[OsString]) -> Result<(), Failure> {
-    let Some((before, after)) = args::split(args) else {
-        return Err(Failure::Usage(String::from(
-            "-- is needed before the steps",
-        )));
+fn arguments() -> Vec<Arg> {
+    vec![
+        path("from", "IN.hfe", "HFE image to change"),
+        path("to", "OUT.hfe", "HFE image to write"),
+        Arg::new("steps")
+            .value_name("STEP")
+            .help("Steps: put NAME FILE [--date D], or rm NAME")
+            .required(true)
+            .last(true)
+            .num_args(1..)
+            .allow_hyphen_values(true)
+            .value_parser(value_parser!(OsString)),
+    ]
+}
+
+fn run(given: &ArgMatches, output: &Output) -> Result<(), Failure> {
+    let (from, to) = (path_of(given, "from"), path_of(given, "to"));
+    let steps = steps(&paths_of(given, "steps"))?;
+    let progress = output.progress();
+    let hfe = files_io::read_hfe(from)?;
+    let mut disk = Disk {
+        path: from.to_os_string(),
+        blocks: unpacked(from, &hfe, &progress)?,
+        edition: Edition::of(&hfe),
     };
-    let [from, to] = Given::parse(before, &[])?.exactly()?;
-    let steps = steps(after)?;
-    let progress = Progress::new();
-    let (mut image, edition_to_tell) = unpacked(from, &progress)?;
     let (list, unread) = listed(&steps, &progress);
-    batch(&mut image, &list).map_err(|refused| in_step(from, &steps, refused))?;
+    let names: Vec<&[u8]> = steps.iter().map(Step::name).collect();
+    changes::make(&mut disk, &list, &names)?;
     unread?;
-    let hfe = packed(from, &image, &progress)?;
-    files_io::write(to, &hfe)?;
-    progress.wipe();
-    if let Some(edition) = edition_to_tell {
+    files_io::write(to, &packed(from, &disk.blocks, &progress)?)?;
+    drop(progress);
+    if let Some(edition) = editions::edition_to_tell(&hfe) {
         let [from, to] = [from, to].map(|path| Path::new(path).display());
         let written = Edition::Version1;
-        crate::tell(&format!("{from}: {edition}, written to {to} as {written}"));
+        output.note(&format!("{from}: {edition}, written to {to} as {written}"));
     }
     Ok(())
 }
@@ -63,10 +82,7 @@ fn steps(args: &[OsString]) -> Result<Vec<Step>, Failure> {
         steps.push(step);
         rest = after;
     }
-    match steps.is_empty() {
-        true => Err(Failure::Usage(String::from("no step is given after --"))),
-        false => Ok(steps),
-    }
+    Ok(steps)
 }
 
 /// The steps for the library, up to the first whose file cannot be read, and why
@@ -76,15 +92,6 @@ fn listed(steps: &[Step], progress: &Progress) -> (BatchList, Result<(), Failure
     let mut put = steps.iter().map(|step| step.put_on(&mut list, progress));
     let unread = put.find_map(Result::err).map_or(Ok(()), Err);
     (list, unread)
-}
-
-/// The refusal of a step, with the name of its file.
-fn in_step(from: &OsStr, steps: &[Step], refused: BatchRefusal) -> Failure {
-    let index = refused.item.and_then(|item| item.checked_sub(1));
-    match index.and_then(|index| steps.get(index)) {
-        Some(step) => super::in_file(from, step.name(), refused.refusal),
-        None => Failure::refused(Path::new(from), refused.refusal),
-    }
 }
 
 #[cfg(test)]
@@ -108,7 +115,6 @@ mod tests {
 
     #[test]
     fn wrong_steps() {
-        assert_eq!(steps(&[]).unwrap_err().status(), 2);
         for text in [
             "put a b c",
             "rm a b",

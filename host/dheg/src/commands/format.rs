@@ -1,91 +1,60 @@
 //! `dheg format`
 
-use std::ffi::{OsStr, OsString};
 use std::path::Path;
 
+use clap::{Arg, ArgMatches};
 use dhegluubin::{format_bad, IMAGE_LEN};
 
 use super::Command;
-use crate::args::{number, Given, Known};
+use crate::args::{flag, name_of, name_option, parse_word, path, path_of};
 use crate::failure::Failure;
-use crate::{files_io, names};
+use crate::files_io;
+use crate::output::Output;
 
 pub const COMMAND: Command = Command {
     name: "format",
-    arguments: "OUT.img [--name N] [--number K] [--bad B,B...] [--force]",
-    about: "write a block image with an empty disk",
+    usage: &["OUT.img [--name N] [--number K] [--bad B,B...] [--force]"],
+    about: "Write a block image with an empty disk",
     details: "\
-  --name N     name of the disk, up to 10 bytes; empty unless given
-  --number K   number in the disk header, 0 to 65535; 0 unless given
-  --bad B,B... bad blocks of the disk, 2 to 479, in any order; no file is given
-               one of them; none unless given
-  --force      write over OUT.img if it is there
+The name of the disk is empty and its number 0 unless given. No file is given a
+bad block.
 ",
-    example: "dheg format work.img --name WORK --number 7 --bad 17,18\n",
+    example: "dheg format work.img --name WORK --number 7 --bad 17,18",
+    arguments,
     run,
 };
 
-const OPTIONS: [Known; 4] = [
-    Known {
-        name: "--name",
-        valued: true,
-    },
-    Known {
-        name: "--number",
-        valued: true,
-    },
-    Known {
-        name: "--bad",
-        valued: true,
-    },
-    Known {
-        name: "--force",
-        valued: false,
-    },
-];
+fn arguments() -> Vec<Arg> {
+    vec![
+        path("to", "OUT.img", "Block image to write"),
+        name_option("name", "Name of the disk, up to 10 bytes").value_name("N"),
+        Arg::new("number")
+            .long("number")
+            .value_name("K")
+            .help("Number in the disk header, 0 to 65535")
+            .value_parser(parse_word),
+        Arg::new("bad")
+            .long("bad")
+            .value_name("B,B...")
+            .help("Bad blocks of the disk, 2 to 479, in any order")
+            .value_delimiter(',')
+            .value_parser(parse_word),
+        flag("force", "Write over OUT.img if it is there"),
+    ]
+}
 
-fn run(args: &[OsString]) -> Result<(), Failure> {
-    let given = Given::parse(args, &OPTIONS)?;
-    let [to] = given.exactly()?;
-    let name = match given.value("--name") {
-        Some(text) => names::parse(text)?,
-        None => Vec::new(),
-    };
+fn run(given: &ArgMatches, _output: &Output) -> Result<(), Failure> {
+    let to = path_of(given, "to");
+    let name = name_of(given, "name").unwrap_or_default();
+    let number = given.get_one("number").copied().unwrap_or_default();
+    // Which blocks may be bad is for the library to judge.
+    let bad = given.get_many::<u16>("bad");
+    let bad: Vec<u16> = bad.map(|bad| bad.copied().collect()).unwrap_or_default();
     let mut image = vec![0; IMAGE_LEN];
-    format_bad(
-        &mut image,
-        &name,
-        disk_number(&given)?,
-        &bad_blocks(&given)?,
-    )
-    .map_err(|refusal| Failure::refused(Path::new(to), refusal))?;
-    match given.has("--force") {
+    format_bad(&mut image, &name, number, &bad)
+        .map_err(|refusal| Failure::of_image(Path::new(to), refusal))?;
+    match given.get_flag("force") {
         true => files_io::write(to, &image),
         false => files_io::write_new(to, &image),
     }
-}
-
-fn disk_number(given: &Given) -> Result<u16, Failure> {
-    match given.value("--number") {
-        None => Ok(0),
-        Some(text) => word(text, "--number"),
-    }
-}
-
-/// The list of bad blocks. Which blocks may be in it is for the library to
-/// judge.
-fn bad_blocks(given: &Given) -> Result<Vec<u16>, Failure> {
-    match given.value("--bad") {
-        None => Ok(Vec::new()),
-        Some(text) => {
-            let text = text.to_string_lossy();
-            let parts = text.split(',').map(OsStr::new);
-            parts.map(|part| word(part, "a block of --bad")).collect()
-        }
-    }
-}
-
-/// A number of 16 bits, which is named so where it is greater.
-fn word(text: &OsStr, what: &str) -> Result<u16, Failure> {
-    u16::try_from(number(text)?).map_err(|_| Failure::Usage(format!("{what} is over 65535")))
 }

@@ -1,82 +1,141 @@
 //! `dheg ls`
 
-use std::ffi::OsString;
-use std::path::Path;
+use std::ffi::OsStr;
 
-use dhegluubin::{list, Refusal, ENTRY_LEN, IMAGE_LEN};
+use clap::{Arg, ArgMatches};
+use dhegluubin::{FirstTrack, Refusal};
+use serde_json::{json, Value};
 
-use super::{counts, several, Command};
-use crate::args::Given;
+use super::several::{each, Told, Words};
+use super::{counts, Command};
+use crate::args::{json, paths, paths_of, patterns_of, patterns_option};
+use crate::entries::{self, Entry};
 use crate::failure::Failure;
+use crate::images::Disk;
+use crate::output::Output;
+use crate::patterns::Pattern;
+use crate::progress::Progress;
 use crate::{dates, names};
 
 pub const COMMAND: Command = Command {
     name: "ls",
-    arguments: "IMG...",
-    about: "list the files in each block image",
+    usage: &["IMAGE... [--name PATTERN]... [--json] [--quiet]"],
+    about: "List the files in each image",
     details: "\
 A line tells of the disk, with its bad blocks if it has any, then one of each
-file: bytes of data, date, name in the spelling that the disk keeps. An image
-that is refused is told of on standard error; with several images a last line
-gives the counts.
+file: bytes of data, date, name in the spelling that the disk keeps. At a
+terminal the columns have a heading. An image that is refused is told of on
+standard error, with its bad sectors where some of an HFE image cannot be read;
+with several images a last line gives the counts.
 ",
-    example: "dheg ls work.img games.img\n",
+    example: "dheg ls work.img games.img",
+    arguments,
     run,
 };
 
-fn run(args: &[OsString]) -> Result<(), Failure> {
-    let given = Given::parse(args, &[])?;
-    several::each(given.some()?, "listed", report)
+/// The columns of the files.
+const COLUMNS: &str = "   BYTES  DATE                 NAME\n";
+
+fn arguments() -> Vec<Arg> {
+    vec![
+        paths("images", "IMAGE", "HFE images or block images"),
+        patterns_option(
+            "name",
+            "List only the files whose names match; may be repeated",
+        ),
+        json(),
+    ]
 }
 
-fn report(path: &Path, image: &[u8]) -> Result<String, Failure> {
-    lines(path, image).map_err(|refusal| Failure::refused(path, refusal))
+fn run(given: &ArgMatches, output: &Output) -> Result<(), Failure> {
+    let words = Words {
+        done: "listed",
+        unread: "not read",
+    };
+    let patterns = patterns_of(given, "name");
+    each(
+        &paths_of(given, "images"),
+        words,
+        output,
+        |_, path, progress| report(path, &patterns, output, progress),
+    )
 }
 
-fn lines(path: &Path, image: &[u8]) -> Result<String, Refusal> {
-    // Entries stand in the image, so that they never need more than it has.
-    let mut entries = vec![0; IMAGE_LEN];
-    let count = list(image, &mut entries)?;
-    entries.truncate(count);
-    let mut text = format!(
-        "{}: {}\n",
-        path.display(),
-        heading(image, count / ENTRY_LEN)?
-    );
-    for entry in entries.chunks_exact(ENTRY_LEN) {
-        text.push_str(&file(entry));
+fn report(
+    path: &OsStr,
+    patterns: &[Pattern],
+    output: &Output,
+    progress: &Progress,
+) -> Result<Told, Failure> {
+    let disk = Disk::read_or_name_bad_sectors(path, progress)?;
+    let (counts, files) = found(&disk.blocks).map_err(|refusal| disk.refused(refusal))?;
+    let heading = heading(&disk.blocks, counts, files.len());
+    let wanted = |entry: &&Entry| {
+        patterns.is_empty() || patterns.iter().any(|pattern| pattern.matches(&entry.name))
+    };
+    let shown: Vec<&Entry> = files.iter().filter(wanted).collect();
+    let mut lines = format!("{}: {heading}\n", disk.path().display());
+    if output.at_a_terminal() && !shown.is_empty() {
+        lines.push_str(COLUMNS);
     }
-    Ok(text)
+    lines.extend(shown.iter().map(|entry| line(entry)));
+    let mut json = json!({
+        "form": disk.form(),
+        "name": disk_name(&disk.blocks),
+        "number": disk_number(&disk.blocks),
+        "files": shown.iter().map(|entry| file_json(entry)).collect::<Vec<_>>(),
+    });
+    counts::put_into(&mut json, counts);
+    Ok(Told {
+        lines,
+        json,
+        note: None,
+    })
+}
+
+fn found(image: &[u8]) -> Result<(FirstTrack, Vec<Entry>), Refusal> {
+    let files = entries::of(image)?;
+    Ok((counts::of(image)?, files))
 }
 
 /// Name and number of the disk, count of files, free sectors, bad blocks.
-fn heading(image: &[u8], files: usize) -> Result<String, Refusal> {
-    let counts = counts::of(image)?;
-    let name = image.get(4..14).unwrap_or_default();
+fn heading(image: &[u8], counts: FirstTrack, files: usize) -> String {
     let plural = if files == 1 { "" } else { "s" };
-    Ok(format!(
+    format!(
         "disk \"{}\", number {}, {files} file{plural}, {} of {} sectors free{}",
-        names::shown(name.trim_ascii_end()),
-        value(image, 14..16),
+        disk_name(image),
+        disk_number(image),
         counts.free,
         counts.good,
-        counts::bad_blocks(counts)
-    ))
+        counts::bad_blocks_in_words(counts)
+    )
+}
+
+fn disk_name(image: &[u8]) -> String {
+    let name = image.get(4..14).unwrap_or_default();
+    names::shown(name.trim_ascii_end())
+}
+
+fn disk_number(image: &[u8]) -> u32 {
+    entries::value(image, 14..16)
 }
 
 /// The line of a file.
-fn file(entry: &[u8]) -> String {
-    let length = value(entry, 0..4).saturating_sub(64);
-    let name_length = usize::try_from(value(entry, 14..16)).unwrap_or(0);
-    let name = entry.get(16..16 + name_length).unwrap_or_default();
-    let date = dates::shown(value(entry, 52..56));
-    format!("{length:>8}  {date}  {}\n", names::shown(name))
+fn line(entry: &Entry) -> String {
+    let date = dates::shown(entry.date);
+    format!(
+        "{:>8}  {date}  {}\n",
+        entry.length,
+        names::shown(&entry.name)
+    )
 }
 
-/// A number of up to four bytes, highest first.
-fn value(bytes: &[u8], at: std::ops::Range<usize>) -> u32 {
-    let bytes = bytes.get(at).unwrap_or_default();
-    bytes
-        .iter()
-        .fold(0, |value, &byte| value << 8 | u32::from(byte))
+/// The same as JSON.
+fn file_json(entry: &Entry) -> Value {
+    json!({
+        "name": names::shown(&entry.name),
+        "bytes": entry.length,
+        "date": dates::shown(entry.date),
+        "seconds": entry.date,
+    })
 }

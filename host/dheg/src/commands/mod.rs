@@ -2,11 +2,16 @@
 
 mod batch;
 mod check;
+mod completion;
+mod convert;
 mod counts;
+mod cp;
 mod edit;
 mod format;
 mod get;
 mod ls;
+mod man;
+mod map;
 mod pack;
 mod place;
 mod poke;
@@ -15,30 +20,29 @@ mod rm;
 mod several;
 mod unpack;
 
-use std::ffi::{OsStr, OsString};
-use std::path::Path;
+use clap::{Arg, ArgMatches};
 
-use dhegluubin::Refusal;
-
+use crate::args;
 use crate::failure::Failure;
-use crate::names;
+use crate::output::Output;
 
 /// A command: its words for the reader, and what it does.
 pub struct Command {
     pub name: &'static str,
-    /// What stands after the name.
-    pub arguments: &'static str,
+    /// What stands after the name; a line for each way to call it.
+    pub usage: &'static [&'static str],
     /// In one line.
     pub about: &'static str,
     /// In full, with lines that end.
     pub details: &'static str,
-    /// Command lines that work.
+    /// A command line that works.
     pub example: &'static str,
-    pub run: fn(&[OsString]) -> Result<(), Failure>,
+    pub arguments: fn() -> Vec<Arg>,
+    pub run: fn(&ArgMatches, &Output) -> Result<(), Failure>,
 }
 
 /// In the order in which the overview shows them.
-const ALL: [&Command; 12] = [
+const ALL: [&Command; 16] = [
     &unpack::COMMAND,
     &pack::COMMAND,
     &edit::COMMAND,
@@ -46,21 +50,30 @@ const ALL: [&Command; 12] = [
     &format::COMMAND,
     &check::COMMAND,
     &ls::COMMAND,
+    &map::COMMAND,
     &get::COMMAND,
     &put::COMMAND,
+    &cp::COMMAND,
     &rm::COMMAND,
     &batch::COMMAND,
     &place::COMMAND,
+    &completion::COMMAND,
+    &man::COMMAND,
 ];
 
+/// In one line, what the tool is for.
+const ABOUT: &str = "QL double-density disks in HFE images and block images";
+
 /// What holds for all commands.
-const COMMON: &str = r"
-HFE images of version 1 and of version 3 are read; those that are written are
-of version 1.
+const COMMON: &str = r"An IMAGE is an HFE image or a block image of 737280 bytes; the letters at its
+start tell which. HFE images of version 1 and of version 3 are read; those that
+are written are of version 1. A changed HFE image is unpacked and packed again;
+where it was of version 3, a line on standard error says so.
 
 Names of files and disks are text; \xHH stands for the byte with this
-hexadecimal value and \\ for a backslash. Whatever begins with a dash is an
-option; after -- nothing is.
+hexadecimal value and \\ for a backslash. Where a command takes patterns, *
+stands for any bytes and ? for one; \x2A and \x3F are these two themselves.
+Whatever begins with a dash is an option; after -- nothing is.
 
 In the names of files on a disk A to Z count as a to z: Reel_one and REEL_ONE
 are one name. The disk keeps the spelling that the file was put with.
@@ -73,55 +86,46 @@ a command fails, what was there before is unchanged, but for the items of a
 batch before one that is refused. A device or a pipe is written directly.
 
 Exit status: 0 done, 1 refused, 2 wrong command line or list, 3 a file could not
-be read or written.
-";
+be read or written.";
 
 /// The command of this name.
 pub fn named(name: &str) -> Option<&'static Command> {
     ALL.into_iter().find(|command| command.name == name)
 }
 
-/// A refusal that concerns a file in an image.
-fn in_file(image: &OsStr, name: &[u8], refusal: Refusal) -> Failure {
-    let image = Path::new(image).display();
-    Failure::Refused {
-        what: format!("{image}: {}", names::shown(name)),
-        refusal,
-        note: None,
-    }
-}
-
-/// Help for the whole tool.
-pub fn overview() -> String {
-    let mut text = String::from(
-        "dheg: QL double-density disks in HFE images\n\n\
-         usage: dheg COMMAND ...\n       dheg COMMAND --help\n       dheg --version\n\n",
-    );
-    for command in ALL {
-        text.push_str(&format!("  {:8}{}\n", command.name, command.about));
-    }
-    text.push_str(COMMON);
-    text.push_str("\nexample: ");
-    text.push_str(edit::COMMAND.example);
-    text
+/// The whole command line.
+pub fn tool() -> clap::Command {
+    clap::Command::new("dheg")
+        .version(env!("CARGO_PKG_VERSION"))
+        .about(ABOUT)
+        .after_help(format!("{COMMON}\n\nExample: {}", edit::COMMAND.example))
+        .subcommand_required(true)
+        .arg(
+            args::flag("quiet", "Tell only of results and failures")
+                .short('q')
+                .global(true),
+        )
+        .subcommands(ALL.map(Command::reader))
 }
 
 impl Command {
-    /// The line that shows how it is called.
+    /// The lines that show how it is called.
     pub fn usage(&self) -> String {
-        format!("usage: dheg {} {}", self.name, self.arguments)
+        let lines = self.usage.iter().map(|line| {
+            let line = format!("dheg {} {line}", self.name);
+            line.trim_end().to_string()
+        });
+        format!("Usage: {}", lines.collect::<Vec<_>>().join("\n       "))
     }
 
-    /// Help for this command.
-    pub fn help(&self) -> String {
-        let Command {
-            name,
-            about,
-            details,
-            example,
-            ..
-        } = self;
+    /// What reads its command line, and has its help.
+    fn reader(&self) -> clap::Command {
         let usage = self.usage();
-        format!("dheg {name}: {about}\n\n{usage}\n\n{details}\nexample: {example}")
+        let usage = usage.strip_prefix("Usage: ").unwrap_or(&usage).to_string();
+        clap::Command::new(self.name)
+            .about(self.about)
+            .override_usage(usage)
+            .after_help(format!("{}\nExample: {}", self.details, self.example))
+            .args((self.arguments)())
     }
 }

@@ -1,52 +1,54 @@
 //! `dheg unpack`
 
-use std::ffi::{OsStr, OsString};
+use std::ffi::OsStr;
 use std::path::Path;
 
-use dhegluubin::{unpack, Edition, IMAGE_LEN};
+use clap::ArgMatches;
 
+use super::convert::{self, Conversion};
+use super::several::Told;
 use super::Command;
-use crate::args::Given;
 use crate::failure::Failure;
+use crate::images::unpacked;
+use crate::output::Output;
 use crate::progress::Progress;
 use crate::{editions, files_io};
 
 pub const COMMAND: Command = Command {
     name: "unpack",
-    arguments: "IN.hfe OUT.img",
-    about: "read an HFE image into a block image",
+    usage: &["IN.hfe OUT.img", "IN.hfe... --to DIR"],
+    about: "Read HFE images into block images",
     details: "\
 IN.hfe is of HFE version 1 or 3; for version 3 a line on standard error says
 so. All 1,440 sectors are judged first: if one cannot be read, nothing is
 written. The disk in it is not judged, see dheg check. OUT.img is replaced if
-it is there.
+it is there, unless it is an HFE image.
+
+With --to each IN.hfe becomes DIR/IN.img, on all processors. One that fails does
+not stop the others; a last line gives the counts.
 ",
-    example: "dheg unpack games.hfe games.img\n",
+    example: "dheg unpack games.hfe games.img",
+    arguments: convert::arguments,
     run,
 };
 
-fn run(args: &[OsString]) -> Result<(), Failure> {
-    let [from, to] = Given::parse(args, &[])?.exactly()?;
-    let progress = Progress::new();
-    let (image, edition_to_tell) = unpacked(from, &progress)?;
-    files_io::write(to, &image)?;
-    progress.wipe();
-    if let Some(edition) = edition_to_tell {
-        crate::tell(&format!("{}: {edition}", Path::new(from).display()));
-    }
-    Ok(())
+const CONVERSION: Conversion = Conversion {
+    is_input: files_io::is_hfe,
+    extension: "img",
+    done: "unpacked",
+};
+
+fn run(given: &ArgMatches, output: &Output) -> Result<(), Failure> {
+    convert::run(given, output, &CONVERSION, unpack)
 }
 
-/// The block image of an HFE image, and the edition of that if it is to be
-/// told.
-pub fn unpacked(from: &OsStr, progress: &Progress) -> Result<(Vec<u8>, Option<Edition>), Failure> {
+fn unpack(from: &OsStr, to: &OsStr, progress: &Progress) -> Result<Told, Failure> {
     let hfe = files_io::read_hfe(from)?;
-    let path = Path::new(from).display();
-    progress.show(&match Edition::of(&hfe) {
-        Some(edition) => format!("unpacking {path}, {edition}"),
-        None => format!("unpacking {path}"),
-    });
-    let mut image = vec![0; IMAGE_LEN];
-    unpack(&hfe, &mut image).map_err(|refusal| editions::refused(from, &hfe, refusal))?;
-    Ok((image, editions::edition_to_tell(&hfe)))
+    files_io::write(to, &unpacked(from, &hfe, progress)?)?;
+    let note = editions::edition_to_tell(&hfe)
+        .map(|edition| format!("{}: {edition}", Path::new(from).display()));
+    Ok(Told {
+        note,
+        ..Told::default()
+    })
 }

@@ -127,7 +127,8 @@ fn refused_first_items() {
 fn images_of_a_wrong_length() {
     let bench = bench();
     bench.write("disk.img", &bench.read("disk.img")[1..]);
-    let words = "disk.img: refused 1: block image or first track of a wrong length";
+    let words = "disk.img: refused 1: block image or first track of a wrong length \
+                 (neither an HFE image of version 1 or 3 nor 737280 bytes)";
     for list in ["", "rm old", "rm none\nput new one"] {
         fails(&bench, list, 1, words);
     }
@@ -164,7 +165,7 @@ fn wrong_lists() {
         bench.write("cues.txt", format!("rm old\n{line}\nls").as_bytes());
         let before = bench.all();
         let ended = bench.line("batch disk.img cues.txt");
-        let usage = "usage: dheg batch IMG LISTFILE\n";
+        let usage = "Usage: dheg batch IMAGE LISTFILE\n";
         let expected = format!("dheg: batch: cues.txt, line 2: {words}\n{usage}");
         assert_eq!(ended, Ended::new(2, "", &expected));
         assert!(bench.all() == before, "{line} changed a file");

@@ -142,6 +142,15 @@ impl Bench {
         self.write(name, &bytes);
     }
 
+    /// The names in a folder, in order.
+    pub fn names(&self, folder: &str) -> Vec<String> {
+        let entries = fs::read_dir(self.path(folder)).unwrap();
+        let name = |entry: fs::DirEntry| entry.file_name().into_string().unwrap();
+        let mut names: Vec<String> = entries.map(|entry| name(entry.unwrap())).collect();
+        names.sort();
+        names
+    }
+
     /// Names and bytes of all files, in order: what a failure must not change.
     pub fn all(&self) -> Vec<(String, Vec<u8>)> {
         let mut all: Vec<_> = fs::read_dir(&self.folder)
@@ -164,6 +173,11 @@ impl Bench {
         assert_eq!(self.line(line), Ended::failed(status, err), "{line}");
         assert!(self.all() == before, "{line} changed a file");
     }
+}
+
+/// Where byte `index` of a side stands in a written HFE image.
+pub fn side_byte(track: usize, side: usize, index: usize) -> usize {
+    512 * (2 + 49 * track) + 512 * (index / 256) + 256 * side + index % 256
 }
 
 /// Tells of a test that passes. Written past the macros, whose output a

@@ -116,6 +116,16 @@ fn names_that_look_like_options() {
     bench.quiet("put --date 5 -- disk.img --help data");
     bench.quiet("get disk.img \\x2D-help back");
     bench.quiet("rm -- disk.img --help");
+    bench.write("--all", b"more");
+    bench.quiet("put -- disk.img --all");
+    bench.quiet("get -- disk.img --all --to");
+    assert_eq!(bench.read("--to"), b"more");
+    bench.quiet("rm disk.img -- --ALL");
+    bench.fails(
+        "rm disk.img -- -q",
+        1,
+        "disk.img: \\x2Dq: refused 14: no file of this name",
+    );
 }
 
 #[cfg(unix)]
@@ -127,13 +137,23 @@ fn arguments_that_are_not_text() {
     let odd = OsStr::from_bytes(b"odd\xFF");
     std::fs::rename(bench.path("disk.img"), bench.path("").join(odd)).unwrap();
     bench.write("data", b"data");
+    // The image has this name too, so that it could be meant as a file.
     let args = ["put".as_ref(), odd, odd, "data".as_ref()];
+    assert_eq!(bench.dheg(args).status, Some(2));
+    let args = ["put".as_ref(), odd, "data".as_ref(), "--name".as_ref(), odd];
+    assert_eq!(bench.dheg(args), Ended::quiet());
+    let more = OsStr::from_bytes(b"more\xFE");
+    let args = ["put".as_ref(), odd, more, "data".as_ref()];
     assert_eq!(bench.dheg(args), Ended::quiet());
     let listed = bench.dheg(["ls".as_ref(), odd]);
-    assert!(listed.out.ends_with("  odd\\xFF\n"), "{listed:?}");
+    assert!(listed.out.contains("  odd\\xFF\n"), "{listed:?}");
+    assert!(listed.out.ends_with("  more\\xFE\n"), "{listed:?}");
     let wrong = bench.dheg([odd, odd]);
     assert_eq!(wrong.status, Some(2));
     let wrong = bench.dheg(["place".as_ref(), odd, odd]);
+    assert_eq!(wrong.status, Some(2));
+    assert!(wrong.err.starts_with("dheg: "), "{wrong:?}");
+    let wrong = bench.dheg(["put".as_ref(), odd, "data".as_ref(), "--date".as_ref(), odd]);
     assert_eq!(wrong.status, Some(2));
 }
 

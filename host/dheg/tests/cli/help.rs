@@ -2,8 +2,23 @@
 
 use crate::bench::{Bench, Ended};
 
-const COMMANDS: [&str; 12] = [
-    "unpack", "pack", "edit", "poke", "format", "check", "ls", "get", "put", "rm", "batch", "place",
+pub const COMMANDS: [&str; 16] = [
+    "unpack",
+    "pack",
+    "edit",
+    "poke",
+    "format",
+    "check",
+    "ls",
+    "map",
+    "get",
+    "put",
+    "cp",
+    "rm",
+    "batch",
+    "place",
+    "completion",
+    "man",
 ];
 
 #[test]
@@ -11,11 +26,14 @@ fn the_tool() {
     let bench = Bench::new();
     let help = bench.line("--help");
     assert_eq!((help.status, help.err.as_str()), (Some(0), ""));
+    let about = "QL double-density disks in HFE images and block images\n";
+    assert!(help.out.starts_with(about), "{}", help.out);
+    assert!(help.out.contains("\nUsage: dheg "));
     for command in COMMANDS {
         assert!(help.out.contains(&format!("\n  {command} ")), "{command}");
     }
     assert!(help.out.contains("\nExit status: 0 done, 1 refused, 2 "));
-    assert!(help.out.contains("\nexample: dheg edit "));
+    assert!(help.out.contains("\nExample: dheg edit "));
     assert_eq!(bench.line("-h"), help);
     let version = concat!("dheg ", env!("CARGO_PKG_VERSION"), "\n");
     assert_eq!(bench.line("--version"), Ended::new(0, version, ""));
@@ -24,15 +42,28 @@ fn the_tool() {
 #[test]
 fn each_command() {
     let bench = Bench::new();
+    let overview = bench.line("--help").out;
     for command in COMMANDS {
         let help = bench.line(&format!("{command} --help"));
         assert_eq!((help.status, help.err.as_str()), (Some(0), ""));
-        assert!(help.out.starts_with(&format!("dheg {command}: ")));
-        assert!(help.out.contains(&format!("\nusage: dheg {command} ")));
-        assert!(help.out.contains(&format!("\nexample: dheg {command} ")));
+        // The first line is the one that the overview has.
+        let about = help.out.lines().next().unwrap();
+        let mut lines = overview.lines().map(str::trim_start);
+        let line = lines.find(|line| line.starts_with(&format!("{command} ")));
+        assert!(line.unwrap().ends_with(&format!("  {about}")), "{command}");
+        assert!(help.out.contains(&format!("\nUsage: dheg {command}")));
+        assert!(help.out.contains(&format!("\nExample: dheg {command}")));
         let long = help.out.lines().find(|line| line.len() > 90);
         assert_eq!(long, None);
-        assert_eq!(bench.line(&format!("{command} a -h b")), help);
+        let blank = help.out.lines().find(|line| line.ends_with(' '));
+        assert_eq!(blank, None, "{command}");
+        let words = match command {
+            "place" => "1 -h 2",
+            "completion" => "bash -h",
+            "man" => "-h",
+            _ => "a -h b",
+        };
+        assert_eq!(bench.line(&format!("{command} {words}")), help);
     }
 }
 
@@ -71,12 +102,15 @@ fn examples_work() {
     for command in ["batch", "unpack", "edit", "poke", "place"] {
         run_example(&bench, command);
     }
+    for command in ["cp", "map", "completion", "man"] {
+        run_example(&bench, command);
+    }
 }
 
 /// Runs the example of a command's help as a shell would.
 fn run_example(bench: &Bench, command: &str) {
     let help = bench.line(&format!("{command} --help")).out;
-    let (_, example) = help.split_once("\nexample: dheg ").unwrap();
+    let (_, example) = help.split_once("\nExample: dheg ").unwrap();
     let example = example.trim_end().replace("*.img", "games.img work.img");
     // Quotes stand only around whole arguments.
     let mut args = Vec::new();

@@ -4,12 +4,7 @@ use dhegluubin::IMAGE_LEN;
 use support::codes::{with_codes, SKIP, WEAK};
 use support::noise::{noise, Generator};
 
-use crate::bench::{Bench, Ended};
-
-/// Where byte `index` of a side stands in a written HFE image.
-fn side_byte(track: usize, side: usize, index: usize) -> usize {
-    512 * (2 + 49 * track) + 512 * (index / 256) + 256 * side + index % 256
-}
+use crate::bench::{side_byte, Bench, Ended};
 
 /// A bench with a disk of one file, `one`, as `disk.img` and `disk.hfe`, which
 /// is also there as version 3: `plain.hfe` without codes, `coded.hfe` with

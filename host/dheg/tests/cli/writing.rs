@@ -41,8 +41,53 @@ fn inputs_that_do_not_exist() {
     ] {
         bench.fails(line, 3, &format!("none: {MISSING}"));
     }
-    assert_eq!(bench.dheg(["check", ""]).status, Some(3));
-    assert_eq!(bench.dheg(["pack", "disk.img", ""]).status, Some(3));
+    assert_eq!(bench.dheg(["put", "disk.img", "two", ""]).status, Some(3));
+}
+
+/// An empty path is no path, rather than the current folder: in a script it comes
+/// from a variable that is not set.
+#[test]
+fn empty_paths() {
+    let bench = Bench::with_file();
+    for args in [
+        &["check", ""][..],
+        &["pack", "disk.img", ""],
+        &["unpack", "disk.hfe", "--to", ""],
+        &["get", "disk.img", "--all", ""],
+        &["map", "disk.img", "--svg", ""],
+    ] {
+        let before = bench.all();
+        let ended = bench.dheg(args);
+        assert_eq!(ended.status, Some(2), "{args:?}");
+        assert!(ended.err.contains("a path is needed"), "{}", ended.err);
+        assert!(bench.all() == before, "{args:?}");
+    }
+}
+
+/// No result is written over its input.
+#[test]
+fn results_over_inputs() {
+    let bench = Bench::with_file();
+    bench.quiet("put disk.img data --name disk.img");
+    bench.write("same.img", &bench.read("disk.hfe"));
+    for line in [
+        "get disk.img one disk.img",
+        "get disk.img --all . --force",
+        "get disk.img disk* . --force",
+        "map disk.img --svg disk.img",
+        "map ./disk.img --svg disk.img",
+        "unpack disk.hfe disk.hfe",
+        "pack disk.img disk.img",
+        "unpack same.img --to .",
+        "pack disk.hfe --to .",
+    ] {
+        let before = bench.all();
+        let ended = bench.line(line);
+        assert_eq!((ended.status, &*ended.out), (Some(2), ""), "{line}");
+        let words = "is the input, which would be lost\n";
+        assert!(ended.err.contains(words), "{line}: {}", ended.err);
+        assert!(bench.all() == before, "{line}");
+    }
 }
 
 #[test]
@@ -150,6 +195,30 @@ mod unix {
             let ended = Ended::from(command.output().unwrap());
             assert_eq!(ended.status, Some(3), "{args:?}");
             assert!(ended.err.starts_with("dheg: standard output: "));
+        }
+    }
+
+    /// A reader that is gone is an error as any other, not a panic.
+    #[test]
+    fn standard_output_into_a_closed_pipe() {
+        let bench = Bench::with_file();
+        for line in [
+            "--help",
+            "put --help",
+            "--version",
+            "ls disk.img",
+            "check disk.img disk.hfe",
+            "check --json disk.img",
+            "place 0 0",
+            "completion bash",
+        ] {
+            let (reader, writer) = std::io::pipe().unwrap();
+            drop(reader);
+            let mut command = bench.command();
+            command.args(line.split(' ')).stdout(writer);
+            let ended = Ended::from(command.output().unwrap());
+            let words = "standard output: Broken pipe (os error 32)";
+            assert_eq!(ended, Ended::failed(3, words), "{line}");
         }
     }
 }

@@ -3,7 +3,7 @@
 //!
 //! Random tests have fixed seeds. With `DHEG_CASES=n` each of them runs n
 //! cases instead of its usual number; name the test when n is large, as in
-//! `DHEG_CASES=100000 cargo test -p dhegluubin random_headers`.
+//! `DHEG_CASES=100000 host/run-cargo test -p dhegluubin random_headers`.
 
 mod file_layer;
 mod lent;

@@ -8,8 +8,8 @@ mod shared;
 
 // What the shared tests ask.
 use both as answer;
-pub use shared::bad_blocks::{random_bad, random_list};
-pub use shared::batch::random_batch;
-pub use shared::build::set_word;
-pub use shared::call::list_of;
+pub use shared::bad_blocks::random_bad;
+pub use shared::batch::WRONG_ENDS;
+pub use shared::build::{self, set_word};
+pub use shared::call::{add_item, remove_item};
 pub use shared::free_tails::random_tails;

@@ -4,7 +4,7 @@ use super::answer::{self, Parts};
 use reference::model::Model;
 use reference::Reply;
 use support::hex::from_hex;
-use support::json::Value;
+use support::json::{Contents, Value};
 use support::noise::noise;
 
 /// A call with its arguments; a result buffer as it is lent.
@@ -40,7 +40,7 @@ impl Call {
     /// that is not known.
     pub fn from_json(call: &Value) -> Call {
         let name = |value: &Value| from_hex(value.text());
-        match call.get("op").text() {
+        match call.member("op").text() {
             "add" => {
                 let [_, own, date, data] = call.members(["op", "name", "date", "data"]);
                 let (seed, len) = pair(data);

@@ -6,7 +6,7 @@ use super::call::Call;
 use super::outside::assert_judged;
 use support::cases::{expected_reply, lay_patches, Outside};
 use support::hex::from_hex;
-use support::json::Value;
+use support::json::{Contents, Value};
 use support::noise::noise;
 use support::sha256::sha256_hex;
 
@@ -20,7 +20,7 @@ const CASES: Outside = Outside {
 /// The image of the case: a format, its calls, then its patches.
 fn corrupted_image(case: &Value) -> Vec<u8> {
     let mut image = fresh();
-    for call in case.get("calls").list() {
+    for call in case.member("calls").list() {
         Call::from_json(call).on_image(&mut image);
     }
     lay_patches(case, &mut image);
@@ -29,14 +29,14 @@ fn corrupted_image(case: &Value) -> Vec<u8> {
 
 /// Compares a reply and the lent bytes afterwards with the case's.
 fn compare(case: &Value, call: &str, reply: Parts, hash: &str, lent: &[u8]) {
-    assert_eq!(reply, *expected_reply(case.get(call)), "{call}");
-    assert_eq!(sha256_hex(lent), case.get(hash).text(), "{call}");
+    assert_eq!(reply, *expected_reply(case.member(call)), "{call}");
+    assert_eq!(sha256_hex(lent), case.member(hash).text(), "{call}");
 }
 
 fn run(case: &Value) {
     let image = corrupted_image(case);
-    let name = from_hex(case.get("name").text());
-    assert_judged(&image, case.get("check"), case.get("first_track"));
+    let name = from_hex(case.member("name").text());
+    assert_judged(&image, case.member("check"), case.member("first_track"));
 
     let (reply, buffer) = list(&image, &[0xAA; 4000]);
     compare(case, "list", reply, "list_buffer", &buffer);

@@ -4,7 +4,7 @@ use super::answer::{format, format_bad, Parts};
 use reference::geometry::IMAGE_LEN;
 use reference::model::Model;
 use support::hex::from_hex;
-use support::json::Value;
+use support::json::{Contents, Value};
 use support::noise::noise;
 
 /// A format of an image of noise.

@@ -3,7 +3,7 @@
 use super::format_call::FormatCall;
 use super::history::History;
 use support::cases::Outside;
-use support::json::Value;
+use support::json::{Contents, Value};
 
 const CASES: Outside = Outside {
     file: "histories.jsonl",

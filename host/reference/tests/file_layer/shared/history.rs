@@ -5,7 +5,7 @@ use super::call::{Answer, Call};
 use super::format_call::FormatCall;
 use super::outside::assert_answer;
 use support::cases::expected_reply;
-use support::json::Value;
+use support::json::{Contents, Value};
 use support::sha256::sha256_hex;
 
 /// A format of noise and the calls after it, then the answers to them as they

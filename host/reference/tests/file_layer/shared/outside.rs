@@ -4,7 +4,7 @@ use super::answer::{check, first_track, first_track_text};
 use super::call::Answer;
 use reference::geometry::TRACK_LEN;
 use support::cases::expected_reply;
-use support::json::Value;
+use support::json::{Contents, Value};
 use support::sha256::sha256_hex;
 
 /// Asserts that an answer has this reply, and a buffer of this hash or none.

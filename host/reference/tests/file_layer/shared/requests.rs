@@ -8,7 +8,7 @@ use super::outside::{assert_answer, assert_judged};
 use reference::geometry::IMAGE_LEN;
 use support::cases::{expected_reply, Requested};
 use support::hex::from_hex;
-use support::json::Value;
+use support::json::{Contents, Value};
 use support::noise::noise;
 use support::sha256::sha256_hex;
 
@@ -63,10 +63,10 @@ fn image_of(recipe: &Value) -> Vec<u8> {
     let mut image = vec![0; IMAGE_LEN];
     for patch in recipe.list() {
         let (at, bytes) = match patch.list() {
-            [at, Value::Text(hex)] => (at, from_hex(hex)),
-            [at, Value::Text(hex), times] => (at, from_hex(hex).repeat(times.size())),
-            [at, Value::Number(seed), count] => {
-                let seed = u32::try_from(*seed).unwrap();
+            [at, Value::String(hex)] => (at, from_hex(hex)),
+            [at, Value::String(hex), times] => (at, from_hex(hex).repeat(times.size())),
+            [at, seed, count] => {
+                let seed = u32::try_from(seed.number()).unwrap();
                 (at, noise(seed, count.size()))
             }
             _ => panic!("patch {patch:?}"),
@@ -113,7 +113,7 @@ fn run_formats(case: &Value, answer: &Value) {
 }
 
 fn run(case: &Value, answer: &Value) {
-    match case.get("kind").text() {
+    match case.member("kind").text() {
         "history" => run_history(case, answer),
         "disk" => run_disk(case, answer),
         kind => panic!("kind {kind}"),
@@ -122,7 +122,7 @@ fn run(case: &Value, answer: &Value) {
 
 /// The model is asked for histories, which begin with a format.
 fn run_in_model(case: &Value, answer: &Value) {
-    match case.get("kind").text() {
+    match case.member("kind").text() {
         "history" => history(case, answer).0.in_model(),
         "disk" => (),
         kind => panic!("kind {kind}"),

@@ -5,7 +5,7 @@ use super::build::pattern;
 use reference::geometry::IMAGE_LEN;
 use reference::pack::HFE_LEN;
 use support::cases::{expected_reply, lay_patches, Outside};
-use support::json::Value;
+use support::json::{Contents, Value};
 use support::noise::noise;
 use support::sha256::sha256_hex;
 
@@ -18,20 +18,20 @@ const CASES: Outside = Outside {
 
 /// The noise image of the case, packed.
 fn packed(case: &Value) -> Vec<u8> {
-    let seed = case.get("image").number() as u32;
+    let seed = case.member("image").number() as u32;
     let (reply, hfe) = pack_into(&noise(seed, IMAGE_LEN), &vec![0x55; HFE_LEN]);
     assert_eq!(reply, [0; 4]);
-    assert_eq!(sha256_hex(&hfe), case.get("hfe").text());
+    assert_eq!(sha256_hex(&hfe), case.member("hfe").text());
     hfe
 }
 
 fn run(case: &Value) {
     let mut hfe = packed(case);
     lay_patches(case, &mut hfe);
-    hfe.truncate(case.get("length").size());
+    hfe.truncate(case.member("length").size());
     let (reply, image) = unpack_into(&hfe, pattern());
-    assert_eq!(reply, *expected_reply(case.get("unpack")));
-    match case.get("unpacked") {
+    assert_eq!(reply, *expected_reply(case.member("unpack")));
+    match case.member("unpacked") {
         Value::Null => assert!(image == pattern()),
         hash => assert_eq!(sha256_hex(&image), hash.text()),
     }

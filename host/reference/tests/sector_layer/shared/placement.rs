@@ -3,6 +3,7 @@
 
 use super::answer::place;
 use support::cases::{expected_reply, Requested};
+use support::json::Contents;
 
 /// Side and place by the remainder of a running sector by 18; 80 (hex) is added
 /// on side 1 (§1.4).
@@ -71,8 +72,8 @@ fn placed_by_the_rule() {
 #[test]
 fn placements_of_four() {
     FOUR.run_kind("place", 6, |case, answer| {
-        let calls = case.get("calls").list();
-        let replies = answer.get("replies").list();
+        let calls = case.member("calls").list();
+        let replies = answer.member("replies").list();
         assert_eq!((calls.len(), replies.len()), (100, 100));
         for (call, reply) in calls.iter().zip(replies) {
             let [block, sector] = call.members(["block", "sector"]);

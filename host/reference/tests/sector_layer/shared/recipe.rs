@@ -8,7 +8,7 @@ use reference::pack::HFE_LEN;
 use reference::track_table::{good_entry, Track};
 use std::sync::OnceLock;
 use support::hex::{from_hex, to_hex};
-use support::json::{parse, Value};
+use support::json::{parse, Contents, Value};
 use support::noise::noise;
 
 /// What is done for an image, in this order.
@@ -65,13 +65,12 @@ fn numbers<const N: usize>(list: &[Value]) -> [usize; N] {
 
 /// The image that a recipe starts from.
 fn start(start: &Value) -> Vec<u8> {
-    let Value::Object(members) = start else {
-        panic!("start {start:?}");
-    };
-    match members.as_slice() {
-        [(name, seed)] if name == "packed" => packed(seed.number()),
-        [(name, list)] if name == "pieces" => pieces(list),
-        _ => panic!("start {start:?}"),
+    if start.has("packed") {
+        let [seed] = start.members(["packed"]);
+        packed(seed.number())
+    } else {
+        let [list] = start.members(["pieces"]);
+        pieces(list)
     }
 }
 

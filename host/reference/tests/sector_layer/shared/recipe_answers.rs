@@ -3,7 +3,7 @@
 use super::answer::{rewrite, unpack_into};
 use super::recipe::{pieces, Recipe};
 use support::cases::expected_reply;
-use support::json::Value;
+use support::json::{Contents, Value};
 use support::noise::noise;
 use support::sha256::sha256_hex;
 

@@ -4,7 +4,7 @@
 use super::super::answer::{batch, check};
 use super::super::build::{fresh, patch, set_record, set_word, three_files};
 use super::super::call::{add_item, list_of, remove_item};
-use super::{adding, as_one_by_one, removing, WRONG};
+use super::{adding, as_one_by_one, removing, WRONG_ENDS};
 use reference::geometry::IMAGE_LEN;
 use support::noise::noise;
 
@@ -121,7 +121,7 @@ fn wrong_items_after_others() {
     let refused = remove_item(b"none");
     let accepted = add_item(b"new", 1, b"data");
     let unsound = unsound().map(|(image, _)| image);
-    for wrong in WRONG {
+    for wrong in WRONG_ENDS {
         for (before, count) in [
             (Vec::new(), 0),
             (refused.clone(), 1),

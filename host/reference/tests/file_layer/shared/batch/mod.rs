@@ -10,7 +10,7 @@ use super::call::{list_of, Call};
 use support::noise::{noise, Generator};
 
 /// Ends of lists that are wrong items: of other kinds, or cut (§7.27).
-const WRONG: [&[u8]; 10] = [
+pub const WRONG_ENDS: [&[u8]; 10] = [
     &[0],
     &[3],
     &[255, 1, b'a'],
@@ -101,7 +101,7 @@ fn random_item(generator: &mut Generator) -> Call {
 /// many what makes the list wrong.
 pub fn random_tail(generator: &mut Generator, times: usize) -> Vec<u8> {
     match generator.below(times) {
-        0 => generator.choice(&WRONG).to_vec(),
+        0 => generator.choice(&WRONG_ENDS).to_vec(),
         _ => Vec::new(),
     }
 }

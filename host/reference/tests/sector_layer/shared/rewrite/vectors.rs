@@ -2,7 +2,7 @@
 
 use super::recipe_answers::run;
 use support::cases::Requested;
-use support::json::{parse_lines, Value};
+use support::json::{parse_lines, Contents, Value};
 use support::levels::of_request;
 
 const TWO: Requested = Requested {
@@ -41,7 +41,7 @@ fn cases_from_3() {
 fn answers_that_change_with_a_request() {
     let lines = parse_lines(TWO.lines);
     for (level, count) in [(2, 0), (3, 2), (13, 2), (14, 7)] {
-        let changed = |line: &&Value| of_request(line, level).1 != line.get("answer");
+        let changed = |line: &&Value| of_request(line, level).1 != line.member("answer");
         assert_eq!(lines.iter().filter(changed).count(), count, "level {level}");
     }
 }

@@ -3,7 +3,7 @@
 
 use super::recipe_answers::run;
 use support::cases::Requested;
-use support::json::{parse_lines, Value};
+use support::json::{parse_lines, Contents, Value};
 use support::levels::of_request;
 
 const THREE: Requested = Requested {
@@ -41,7 +41,7 @@ fn cases_from_3() {
 fn answers_that_change_with_a_request() {
     let lines = parse_lines(THREE.lines);
     for (level, count) in [(3, 0), (13, 0), (14, 6)] {
-        let changed = |line: &&Value| of_request(line, level).1 != line.get("answer");
+        let changed = |line: &&Value| of_request(line, level).1 != line.member("answer");
         assert_eq!(lines.iter().filter(changed).count(), count, "level {level}");
     }
 }
