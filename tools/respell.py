@@ -27,6 +27,19 @@ def snake(name):
     return name.replace("-", "_").replace("′", "'")
 
 
+class Spelled(dict):
+    """The table, and beside it the names that the libraries' scripts had turned in code alone: a comment or an
+    edit may have such a name in its old spelling yet."""
+
+    def __init__(self, turned, declared):
+        super().__init__(turned)
+        self.now = set(turned.values()) | {n for n in declared if n not in turned}
+
+    def late(self, token):
+        new = snake(token) if token and re.search(r"[a-z0-9][A-Z]|-", token) and not token[0].isupper() else None
+        return new if new in self.now else None
+
+
 def law_files():
     for path in sorted(glob.glob("crates/*/**/*.antt", recursive=True)):
         if "/out/" not in path and not path.endswith("/Proof.antt"):
@@ -56,17 +69,17 @@ def table():
     return declared, turned
 
 
-def turn_code(text, turned, fields):
+def turn_code(text, turned, fields, late=False):
     def one(m):
         token = m.group(0)
-        new = turned.get(token)
+        new = turned.get(token) or (turned.late(token) if late else None)
         if new is None:
             return token
         before = text[: m.start()]
         if before.endswith("."):
             head = re.search(r"([^\s(){};,.]+)\.$", before)
             by_module = head and head.group(1)[0].isupper()
-            if not by_module and token not in fields:
+            if not by_module and token not in fields and not late:
                 return token
         return new
 
@@ -77,14 +90,14 @@ def turn_comment(text, turned, fields, kebab_everywhere=False):
     """In code spans and italics every name; elsewhere names in camel case."""
 
     def span(m):
-        return m.group(1) + turn_code(m.group(2), turned, fields) + m.group(3)
+        return m.group(1) + turn_code(m.group(2), turned, fields, late=True) + m.group(3)
 
     text = re.sub(r"(`)([^`\n]+)(`)", span, text)
     text = re.sub(r"(?<![\w*])(\*)([^*\n ]+)(\*)(?![\w*])", span, text)
     camel = {k: v for k, v in turned.items() if kebab_everywhere or ("-" not in k and re.search(r"[a-z0-9][A-Z]", k))}
 
     def bare(m):
-        return camel.get(m.group(0), m.group(0))
+        return camel.get(m.group(0)) or (kebab_everywhere and turned.late(m.group(0))) or m.group(0)
 
     return re.sub(r"(?<![\w`./-])[A-Za-z][\w'-]*(?![\w/]|\.\w)", bare, text)
 
@@ -115,7 +128,7 @@ def turn_edit(text, turned, fields):
     for line in text.splitlines(keepends=True):
         m = re.match(r"(old|new): (.*)", line, re.S)
         if m:
-            out.append(m.group(1) + ": " + turn_code(m.group(2), turned, fields))
+            out.append(m.group(1) + ": " + turn_code(m.group(2), turned, fields, late=True))
         elif line.startswith("#"):
             out.append(turn_comment(line, turned, fields, kebab_everywhere=True))
         else:
@@ -145,6 +158,7 @@ def record_fields():
 
 def main(check):
     declared, turned = table()
+    turned = Spelled(turned, declared)
     fields = record_fields()
     rust = set()
     for path in glob.glob("crates/*/src/**/*.rt", recursive=True):
