@@ -171,7 +171,9 @@ def main(check):
         if path.endswith(".antt"):
             jobs.append((path, lambda t: turn_lines(t, "--", turned, fields)))
         elif path.endswith(".rt"):
-            jobs.append((path, lambda t: turn_lines(t, "//", turned, fields)))
+            # A name with underscores alone is a function's there, and stays.
+            ours = Spelled({k: v for k, v in turned.items() if "-" in k or re.search(r"[a-z0-9][A-Z]", k)}, declared)
+            jobs.append((path, lambda t, ours=ours: turn_lines(t, "//", ours, fields)))
         elif path.endswith(".edit"):
             jobs.append((path, lambda t: turn_edit(t, turned, fields)))
     for path in ["README.md"] + sorted(glob.glob("docs/**/*.md", recursive=True)):

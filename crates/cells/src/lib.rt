@@ -10,7 +10,7 @@ pub use codes::{coded_cells, judge_codes};
 pub use crc::{START, crc_at, crc_byte, crc_row};
 pub use mfm::{clock, encode_byte, encode_item, item_byte, last_bit, row_bit_before, row_cell};
 pub use stream::{cell, cell_from, cells_from, data_byte, hfe_side};
-pub use sync::{sync_at_lem, three_sync};
+pub use sync::{sync_at, three_sync};
 
 // Where the bytes of a side lie in the track's part of an image: runs of 256 bytes, the first of them at `first`, each
 // `stride` bytes after the one before; and how many cells they store (§2.6).

@@ -56,7 +56,7 @@ fn byte_of(item: Item) -> u8
 }
 
 // The clock cell that an item leaves out, 16 where there is none (§3.5).
-fn left_out_lem(item: Item) -> usize
+fn left_out(item: Item) -> usize
     ensures { result ≡ left_out item }
 {
     match item {
@@ -71,7 +71,7 @@ fn item_cell(p: u8, item: Item, j: usize) -> u8
     requires { j < 16 }
     ensures { result ≡ item_cell p item j }
 {
-    if j == left_out_lem(item) {
+    if j == left_out(item) {
         0
     } else {
         mfm_cell(p, byte_of(item), j)

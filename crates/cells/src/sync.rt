@@ -10,7 +10,7 @@ use crate::stream::{cell_from, cells_from};
 const SYNC: u16 = 0x4489;
 
 // Whether a sync byte stands at cell k of those from place i on (§3.7). The first cell that differs ends the test.
-pub fn sync_at_lem(part: &[u8], side: Side, i: usize, k: usize) -> bool
+pub fn sync_at(part: &[u8], side: Side, i: usize, k: usize) -> bool
     ensures { result ≡ sync_at (from (stream part.now side) i) k }
 {
     let room = cells_from(side, i);
@@ -32,9 +32,9 @@ pub fn sync_at_lem(part: &[u8], side: Side, i: usize, k: usize) -> bool
 pub fn three_sync(part: &[u8], side: Side, i: usize) -> bool
     ensures { result ≡ three_sync (from (stream part.now side) i) }
 {
-    if sync_at_lem(part, side, i, 0) {
-        if sync_at_lem(part, side, i, 16) {
-            return sync_at_lem(part, side, i, 32);
+    if sync_at(part, side, i, 0) {
+        if sync_at(part, side, i, 16) {
+            return sync_at(part, side, i, 32);
         }
     }
     false

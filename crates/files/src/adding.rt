@@ -64,7 +64,7 @@ fn end_after(image: &mut [u8], k: usize, end: usize)
 // A file is added in slot k: a new block of the directory (§8.10); then the file's blocks, the lowest free, in ascending
 // order, with sequences from 0 (§8.11); the slot and the header; nothing else (§8.12). In a history
 // the image is then the model's (§9.5).
-fn add_at_lem(image: &mut [u8], map: &mut MapNumbers, k: usize, e: Entry, content: &[u8])
+fn add_at(image: &mut [u8], map: &mut MapNumbers, k: usize, e: Entry, content: &[u8])
     requires { InStep map.old image.old × (k < sequences) × (length content.now ≤ image_bytes) }
     ensures { image.new ≡ image_of (add_at (disk_of image.old) k e content.now) }
 {
@@ -141,7 +141,7 @@ fn add_sound(
         return refused(15, 0);
     }
     let e = entry_for(name, date, content.len());
-    add_at_lem(image, map, k, e, content);
+    add_at(image, map, k, e, content);
     done()
 }
 
