@@ -1,5 +1,7 @@
 // The C interface, the calls of docs/RULES.md, section 8: each function calls one of the layers and nothing more, and
 // its contract is that function's. A slice is a pointer and a length.
+#![tactic(auto)]
+
 ghost use Rattle.std.specs.Prelude.{[], ◌≡◌, length};
 ghost use Rattle.sector_rules.specs.Geometry.{place_reply};
 ghost use Rattle.sector_rules.specs.Packed.{pack_reply, pack_hfe};

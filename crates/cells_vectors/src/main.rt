@@ -1,5 +1,7 @@
 // Published values of the cell layer, and for codes some reckoned by hand, computed by the proved functions and printed;
 // the file `stdout` has what they must be.
+#![tactic(auto)]
+
 use cells::{Expected, Item, Side};
 
 // The CRC of a row of bytes, from the register's start.

@@ -1,5 +1,7 @@
 // Bytes and numbers in a slice. Every function takes any place: what would stand past the end of
 // the slice reads as 0, and is not written.
+#![tactic(auto)]
+
 ghost use Rattle.std.specs.Prelude.{◌≡◌, ◌+◌, ◌-◌, ◌<◌, ◌≤◌, ◌^◌, min, length, get_or};
 ghost use Rattle.laws.specs.Lists.{stands_at};
 ghost use Rattle.laws.specs.Changes.{overlay, put};

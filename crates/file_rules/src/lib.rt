@@ -1,8 +1,10 @@
 // The rules of layer 3: the types that its definitions speak of.
+#![tactic(auto)]
+
 use sector_rules::{BlockNumber, Reply};
 
 // A map record: its block is free, bad, the system's, a file's with its sequence, or the record is of no kind (§6.9).
-#[derive(Drop)]
+#[derive(Clone, Copy)]
 pub enum Record {
     Free,
     Bad,
@@ -12,7 +14,7 @@ pub enum Record {
 }
 
 // A map record beside its block's number.
-#[derive(Drop)]
+#[derive(Clone, Copy)]
 pub struct MapRecord {
     pub block: BlockNumber,
     pub record: Record,
@@ -24,7 +26,7 @@ pub const NAME_MOST: usize = 36;
 // A directory entry (§6.13): the length counts the file's first 64 bytes, and the name is the first `namelen` of the 36
 // bytes.
 #[repr(C)]
-#[derive(Drop)]
+#[derive(Clone, Copy)]
 pub struct Entry {
     pub name: [u8; NAME_MOST],
     pub length: u32,
@@ -35,7 +37,7 @@ pub struct Entry {
 // What first track gives: the reply, and where that is 0 the free word, the good word and the number of records that
 // are not free (§8.14).
 #[repr(C)]
-#[derive(Drop)]
+#[derive(Clone, Copy)]
 pub struct FirstTrack {
     pub reply: Reply,
     pub free: usize,

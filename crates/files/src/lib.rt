@@ -1,4 +1,6 @@
 // Layer 3: the header, the map, the directory and the files of a disk, on its block image.
+#![tactic(auto)]
+
 mod adding;
 mod batching;
 mod blocks;
@@ -30,7 +32,7 @@ use sector_rules::Reply;
 pub use track::first_track;
 
 // What the judgements 8, 9, 19, 10 and 11 say: all passed, or the refusal.
-#[derive(Drop)]
+#[derive(Clone, Copy)]
 pub enum Verdict {
     Passed,
     Refused(Reply),

@@ -1,4 +1,6 @@
 // The example program: judges track 0 on standard input (§8.14), and prints a refusal or three counts.
+#![tactic(auto)]
+
 use sectors::Geometry;
 
 const TRACK_BYTES: usize = Geometry::TRACK_SECTORS * Geometry::SECTOR_BYTES;

@@ -1,8 +1,9 @@
 // The rules of layer 2: the types that its definitions speak of.
+#![tactic(auto)]
 
 // A reply: its number, of which 0 is done, and three places; one that is not named is 0 (§7.17).
 #[repr(C)]
-#[derive(Drop)]
+#[derive(Clone, Copy)]
 pub struct Reply {
     pub number: usize,
     pub first: usize,
@@ -11,26 +12,26 @@ pub struct Reply {
 }
 
 // A block's number, 0 to 479 (§1.1).
-#[derive(Drop)]
+#[derive(Clone, Copy)]
 pub struct BlockNumber(pub usize);
 
 // A sector's number in the order of the blocks, 0 to 1439: the running sector (§1.3).
-#[derive(Drop)]
+#[derive(Clone, Copy)]
 pub struct RunningSector(pub usize);
 
 // A sector's number in the block image, 0 to 1439 (§1.2).
-#[derive(Drop)]
+#[derive(Clone, Copy)]
 pub struct ImageSector(pub usize);
 
 // What a judgement finds: the lowest place that is at fault, or none (§7.18).
-#[derive(Drop)]
+#[derive(Clone, Copy)]
 pub enum Fault {
     At(usize),
     Sound,
 }
 
 // C, H, R and N of a header, which name a sector: track, side, sector and size (§4.1).
-#[derive(Drop)]
+#[derive(Clone, Copy)]
 pub struct Id {
     pub c: u8,
     pub h: u8,
@@ -39,14 +40,14 @@ pub struct Id {
 }
 
 // What stands at a cell place: a header that names a sector, or none (§4.1).
-#[derive(Drop)]
+#[derive(Clone, Copy)]
 pub enum Header {
     Is(Id),
     Absent,
 }
 
 // The answer of the search for a sector: at no cell place, at one, or at two or more (§4.3).
-#[derive(Drop)]
+#[derive(Clone, Copy)]
 pub enum Found {
     Nothing,
     One(usize),
@@ -54,7 +55,7 @@ pub enum Found {
 }
 
 // What a sector gives, judged alone: the cell place of its 512 bytes, or why there are none (§4.6).
-#[derive(Drop)]
+#[derive(Clone, Copy)]
 pub enum Sector {
     Missing,
     Repeated,

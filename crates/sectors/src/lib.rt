@@ -1,4 +1,6 @@
 // Layer 2: the geometry of the disk kind, HFE images and their sectors.
+#![tactic(auto)]
+
 mod codes;
 mod comparing;
 mod faults;
@@ -23,11 +25,11 @@ use sector_rules::Sector;
 pub use unpacking::unpack;
 
 // The disk kind (§1.1).
-#[derive(Drop)]
+#[derive(Clone, Copy)]
 pub struct Geometry {}
 
 // Where a sector stands on a track: its side, and its place there before the track offset moves it (§1.4).
-#[derive(Drop)]
+#[derive(Clone, Copy)]
 pub struct TrackPlace {
     pub side: usize,
     pub place: usize,
@@ -35,7 +37,7 @@ pub struct TrackPlace {
 
 // Some bytes of one side of a track, as they lie in an HFE image (§2.6): the track begins at `start` in the image, `side`
 // is 0 or 1, and the bytes are `count` of that side, the first of them its byte `first`.
-#[derive(Drop)]
+#[derive(Clone, Copy)]
 pub struct SideBytes {
     pub start: usize,
     pub side: usize,
@@ -44,7 +46,7 @@ pub struct SideBytes {
 }
 
 // What a sector gives (§4.6), and the cell place of its data (§8.16), of no meaning where it has no field.
-#[derive(Drop)]
+#[derive(Clone, Copy)]
 pub struct SectorField {
     pub sector: Sector,
     pub place: usize,

@@ -39,7 +39,7 @@ impl Geometry {
     // Side and place of a remainder by 18 (§1.4): the side is the block's parity, the place is that of sector and block
     // pair.
     fn track_place(remainder: usize) -> TrackPlace
-        requires* { do ⌜ remainder < (← ⟦Geometry::TRACK_SECTORS⟧) ⌝ }
+        requires { remainder < Geometry.TRACK_SECTORS }
         ensures { (result.side ≡ block_side (remainder / block_sectors)) × (result.place ≡ sector_place (remainder % block_sectors) (block_pair (remainder / block_sectors))) }
     {
         let block = remainder / Geometry::BLOCK_SECTORS;
@@ -53,7 +53,7 @@ impl Geometry {
 
     // The remainder by 18 that stands at a side and place (§1.6).
     fn remainder_at(at: TrackPlace) -> usize
-        requires* { do ⌜ (at.side < (← ⟦Geometry::SIDES⟧)) × (at.place < (← ⟦Geometry::SECTORS⟧)) ⌝ }
+        requires { (at.side < Geometry.SIDES) × (at.place < Geometry.SECTORS) }
         ensures { result ≡ remainder_at at.side at.place }
     {
         let pair = at.place % Geometry::SIDE_BLOCKS;
@@ -91,7 +91,7 @@ impl Geometry {
 
     // The running sector of sector s of a block (§1.3).
     pub fn running(b: BlockNumber, s: usize) -> RunningSector
-        requires* { do ⌜ (b.0 < (← ⟦Geometry::BLOCKS⟧)) × (s < (← ⟦Geometry::BLOCK_SECTORS⟧)) ⌝ }
+        requires { (b.0 < Geometry.BLOCKS) × (s < Geometry.BLOCK_SECTORS) }
         ensures { result.0 ≡ running b.0 s }
     {
         RunningSector(Geometry::BLOCK_SECTORS * b.0 + s)
@@ -99,7 +99,7 @@ impl Geometry {
 
     // The image sector of a running sector (§1.5).
     pub fn place(n: RunningSector) -> ImageSector
-        requires* { do ⌜ n.0 < (← ⟦Geometry::ALL_SECTORS⟧) ⌝ }
+        requires { n.0 < Geometry.ALL_SECTORS }
         ensures { result.0 ≡ to_image_sector n.0 }
     {
         let track = n.0 / Geometry::TRACK_SECTORS;
@@ -110,7 +110,7 @@ impl Geometry {
 
     // The running sector of an image sector (§1.6).
     pub fn running_of(m: ImageSector) -> RunningSector
-        requires* { do ⌜ m.0 < (← ⟦Geometry::ALL_SECTORS⟧) ⌝ }
+        requires { m.0 < Geometry.ALL_SECTORS }
         ensures { result.0 ≡ to_running_sector m.0 }
     {
         let track = m.0 / Geometry::TRACK_SECTORS;

@@ -1,0 +1,9 @@
+-- `reversed_bits` meets its contract.
+-- Rests on: the laws in CodesRead.
+-- Assumes nothing.
+use native.Mathlib.Omega.{arith}
+use Rattle.cells.specs.Laws.CodesRead.{reversed_steps}
+use Rattle.cells.proofs.codes.reversed_bits.Goals as goal
+
+pub returns : goal.returns
+returns c = reversed_steps _ (omega arith)

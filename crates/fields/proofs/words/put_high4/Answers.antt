@@ -1,0 +1,13 @@
+-- `fields::put_high4` meets its contract.
+-- Rests on: the laws in laws::Overlay and laws::Numbers; the contract of copy_into.
+-- Assumes nothing.
+use mathlib.Core.Path.{ap, ◌∙◌}
+use Rattle.laws.specs.Changes.{put}
+use Rattle.laws.specs.Numbers.{high_byte}
+use Rattle.laws.specs.Laws.Overlay.{put_tab}
+use Rattle.laws.specs.Laws.Numbers.{high_row4}
+use Rattle.fields.proofs.words.put_high4.Goals as goal
+
+pub returns : goal.returns
+returns c = c.copy_into.ensures ∙ ap (put c.args.s.now c.args.at) (high_row4 c.args.v) ∙ put_tab c.args.s.now c.args.at
+    (high_byte 4 c.args.v) 4
