@@ -1,0 +1,12 @@
+-- `judge_codes` meets its contract.
+-- Rests on: the laws in Unpacking/Codes; the contracts of is_version3, all_codes and done.
+-- Assumes nothing.
+use mathlib.Core.Path.{sym, ◌∙◌}
+use Rattle.sectors.specs.Laws.Unpacking.Codes.{plain_done}
+use Rattle.sectors.proofs.codes.judge_codes.Goals as goal
+
+pub all_codes-requires : goal.all_codes-requires
+all_codes-requires c = (c.requires, sym c.is_version3.ensures ∙ c.if-is_version3.true)
+
+pub returns : goal.returns
+returns c = plain_done _ (sym c.is_version3.ensures ∙ c.if-is_version3.false) _ c.done.ensures
