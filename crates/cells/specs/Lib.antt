@@ -1,4 +1,4 @@
--- The definitions, in the order of docs/RULES.md; then what is promised of them alone; then their laws.
+-- The definitions, in the order of docs/RULES.md; then what is stated of them alone.
 pub mod Stream
 pub mod Codes
 pub mod Mfm
@@ -7,6 +7,3 @@ pub mod Crc
 pub mod Written
 pub mod Damage
 pub mod CodeValues
-pub mod Theorems
-pub mod Caught
-pub mod Laws

@@ -50,3 +50,7 @@ packed_bits f i (suc n) = f (i + n) * 2 ^ n + packed_bits f i n
 -- byte b of a side whose cells are f 0, f 1 ..: cells go lowest bit first (§3.1)
 unfoldable pub packed : (ℕ → ℕ) → ℕ → ℕ
 packed f b = packed_bits f (8 * b) 8
+
+-- where the first n cells of a buffer lie: byte b of this side is byte b of the buffer
+abbrev pub buffer_side : ℕ → Side
+buffer_side n = record { first = 0; stride = 256; cells = n }

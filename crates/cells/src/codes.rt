@@ -3,7 +3,7 @@ ghost use Rattle.std.specs.Prelude.{cond, List, [], ◌++◌, ◌≡◌, ℕ, �
 ghost use Rattle.cells.specs.Stream.{byte_place, stream};
 ghost use Rattle.cells.specs.Codes.{stored_bytes, byte_cells, after_code, expected_after, cells_given, cells_before, at_end, coded, cells_of, wrong_of};
 ghost use Rattle.cells.specs.Codes as Codes;
-ghost use Rattle.cells.specs.Laws.CodesAppended.{buffer_side};
+ghost use Rattle.cells.specs.Stream.{buffer_side};
 
 use crate::{Expected, Side};
 

@@ -1,4 +1,4 @@
--- The definitions, in the order of docs/RULES.md; then what is promised of them alone; then their laws.
+-- The definitions, in the order of docs/RULES.md; then what is stated of them alone.
 pub mod Sizes
 pub mod Disk
 pub mod Map
@@ -23,5 +23,3 @@ pub mod Values
 pub mod HeaderValues
 pub mod CheckValues
 pub mod TrackValues
-pub mod Theorems
-pub mod Laws

@@ -1,5 +1,5 @@
 -- The definitions: replies, faults and the disk kind, the sector rules, the HFE image, unpacking, packing and rewriting;
--- then what is promised of them alone; then their laws.
+-- then what is stated of them alone.
 pub mod Replies
 pub mod Faults
 pub mod Geometry
@@ -16,6 +16,3 @@ pub mod Values
 pub mod HeaderValues
 pub mod ReplyValues
 pub mod WrittenValues
-pub mod Theorems
-pub mod Caught
-pub mod Laws

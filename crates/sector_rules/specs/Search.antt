@@ -117,3 +117,9 @@ delivered_bytes c Missing = []
 delivered_bytes c Repeated = []
 delivered_bytes c NoField = []
 delivered_bytes c Damaged = []
+
+-- one more place than those that gave the answer
+abbrev pub more_found : Found → ℕ → Found
+more_found Nothing i = One i
+more_found (One j) i = Several
+more_found Several i = Several

@@ -1,12 +1,9 @@
--- The placement by value (docs/RULES.md, §1.4 to §1.6): rule-is-table, the two tables that the rule gives; placement-values, the image sectors of eleven
--- sectors; placement-rule, those of all blocks in one line of numbers.
+-- The placement by value (docs/RULES.md, §1.4 to §1.6): the two tables, the image sectors of eleven sectors, and those of all blocks in one line of numbers.
+-- The statements on them stand in proofs/Values.antt.
 -- Assumes nothing.
-use Rattle.std.specs.Prelude.{◌≡◌, refl, List, [], ◌∷◌, map, ℕ, ◌+◌, ◌*◌, ◌/◌, ◌%◌, ◌<◌}
-use Rattle.std.proofs.Common.{ap₂, ◌∙◌, arith}
+use Rattle.std.specs.Prelude.{List, [], ◌∷◌, map, ℕ, ◌+◌, ◌*◌, ◌/◌, ◌%◌}
 use Rattle.laws.specs.Below.{all}
-use Rattle.laws.specs.Lists.{tab}
-use Rattle.laws.specs.Laws.All.{all_eq}
-use Rattle.sector_rules.specs.Geometry.{running, to_image_sector, side_place, backward}
+use Rattle.sector_rules.specs.Geometry.{running, to_image_sector}
 
 -- ---- the two tables
 
@@ -19,11 +16,6 @@ side_place_bytes =
 unfoldable pub backward_bytes : List ℕ
 backward_bytes =
     0x00 ∷ 0x06 ∷ 0x0C ∷ 0x01 ∷ 0x07 ∷ 0x0D ∷ 0x02 ∷ 0x08 ∷ 0x0E ∷ 0x03 ∷ 0x09 ∷ 0x0F ∷ 0x04 ∷ 0x0A ∷ 0x10 ∷ 0x05 ∷ 0x0B ∷ 0x11 ∷ []
-
--- rule-is-table: the rule gives these 18 bytes, and back these 18 (§1.4 §1.6)
-pub rule_is_table : (side_place ≡ side_place_bytes) × (backward ≡ backward_bytes)
-unfolding side_place backward tab side_place_bytes backward_bytes
-rule_is_table = (refl, refl)
 
 -- ---- eleven sectors
 
@@ -61,24 +53,8 @@ defined_sectors ps = map (λ (p : Placement). to_image_sector (running p.block p
 unfoldable pub table_sectors : List Placement → List ℕ
 table_sectors ps = map (λ (p : Placement). p.image) ps
 
--- placement-values: the definition gives the image sector of each row
-pub placement_values : defined_sectors placements ≡ table_sectors placements
-unfolding defined_sectors table_sectors placements placed_at to_image_sector side_place tab
-placement_values = refl
-
 -- ---- all blocks
 
 -- the image sector of sector s of block b: track b / 6, side b mod 2, place 3s + pair with the block pair b / 2 mod 3, moved by 5 a track (§1.4 §1.5)
 unfoldable pub sector_by_block : ℕ → ℕ → ℕ
 sector_by_block b s = 18 * (b / 6) + 9 * (b % 2) + (3 * s + b / 2 % 3 + 5 * (b / 6)) % 9
-
-every_sector : (n : ℕ) → n < 1440 → to_image_sector n ≡ sector_by_block (n / 3) (n % 3)
-unfolding to_image_sector side_place tab sector_by_block all
-every_sector = all_eq to_image_sector (λ (n : ℕ). sector_by_block (n / 3) (n % 3)) 1440 refl
-
--- placement-rule: each sector of each block is there
-pub placement_rule : (b s : ℕ) → b < 480 → s < 3 → to_image_sector (running b s) ≡ sector_by_block b s
-placement_rule b s h k =
-    let q : running b s / 3 ≡ b = omega arith in
-    let r : running b s % 3 ≡ s = omega arith in
-    every_sector (running b s) (omega arith) ∙ ap₂ sector_by_block q r

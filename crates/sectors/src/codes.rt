@@ -4,7 +4,7 @@ ghost use Rattle.std.specs.Prelude.{true, ◌≡◌, ◌*◌, ◌/◌, ◌%◌, 
 ghost use Rattle.cells.specs.Stream.{stream};
 ghost use Rattle.sector_rules.specs.Geometry.{tracks, sides};
 ghost use Rattle.sector_rules.specs.Hfe.{is_version3, table_fault, side_stream};
-ghost use Rattle.sector_rules.specs.Laws.Base.Versions.{side_refusal};
+ghost use Rattle.sector_rules.specs.Unpacked.{side_refusal};
 ghost use Rattle.sectors.specs.Laws.Unpacking.Codes.{cell_bytes, refusal_reply, first_code_reply};
 
 use crate::Geometry;

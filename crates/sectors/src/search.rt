@@ -3,7 +3,7 @@ ghost use Rattle.std.specs.Prelude.{◌≡◌, ◌+◌, ◌<◌, ◌^◌};
 ghost use Rattle.cells.specs.Stream.{stream, from};
 ghost use Rattle.sector_rules.specs.Search.{crc_holds, header_of, field_at, field_of, sector_found};
 ghost use Rattle.sector_rules.specs.Rewritten.{field_place, data_place_of};
-ghost use Rattle.sector_rules.specs.Laws.Base.Search.{more_found};
+ghost use Rattle.sector_rules.specs.Search.{more_found};
 ghost use Rattle.sectors.specs.Laws.Reading.Search.{Indexed, Scanned};
 
 use crate::{Geometry, SectorField};

@@ -5,7 +5,7 @@ ghost use Rattle.sector_rules.specs.Geometry.{tracks, sides, sectors, all_sector
 ghost use Rattle.sector_rules.specs.Hfe.{table_fault};
 ghost use Rattle.sector_rules.specs.Replies.{reply_with};
 ghost use Rattle.sector_rules.specs.Unpacked.{track_of, side_of, r_of, is_bad, sector_reply, unpacked_byte, unpack_reply, unpack_image};
-ghost use Rattle.sector_rules.specs.Laws.Base.Unpacked.{place_of};
+ghost use Rattle.sector_rules.specs.Unpacked.{place_of};
 ghost use Rattle.sectors.specs.Laws.Unpacking.SectorsJudged.{Noted, SectorsJudged, AllJudged, SectorsUnpacked, SidesUnpacked};
 
 use crate::Geometry;

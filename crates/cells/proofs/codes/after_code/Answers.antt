@@ -2,9 +2,9 @@
 -- Rests on: the laws in Codes and CodesRead; the contracts of is_code and reversed_bits.
 -- Assumes nothing.
 use mathlib.Core.Path.{sym, ◌∙◌}
-use Rattle.cells.specs.Laws.CodesRead.{after_any, after_rate, after_count_lem, after_wrong}
+use Rattle.cells.proofs.Laws.CodesRead.{after_any, after_rate, after_count_lem, after_wrong}
 use Rattle.cells.specs.Codes.{expected_after}
-use Rattle.cells.specs.Laws.Codes.{plain_after}
+use Rattle.cells.proofs.Laws.Codes.{plain_after}
 use Rattle.cells.proofs.codes.after_code.Goals as goal
 
 pub returns-then-not-is_code : goal.returns-then-not-is_code

@@ -2,7 +2,7 @@
 -- Rests on: the laws in CodesAppended; the contract of joined.
 -- Assumes nothing.
 use lib.ListN.{length-set}
-use Rattle.cells.specs.Laws.CodesAppended.{byte_appended}
+use Rattle.cells.proofs.Laws.CodesAppended.{byte_appended}
 use Rattle.cells.proofs.codes.append_byte.Goals as goal
 
 pub returns : goal.returns

@@ -4,8 +4,8 @@
 use mathlib.Core.List.{append-nil}
 use mathlib.Core.Path.{refl, sym}
 use native.Mathlib.Omega.{arith}
-use Rattle.cells.specs.Laws.Codes.{eight_cells}
-use Rattle.cells.specs.Laws.CodesAppended.{part_appended}
+use Rattle.cells.proofs.Laws.Codes.{eight_cells}
+use Rattle.cells.proofs.Laws.CodesAppended.{part_appended}
 use Rattle.cells.proofs.codes.append_given.Goals as goal
 
 pub returns-then-d-eq8 : goal.returns-then-d-eq8

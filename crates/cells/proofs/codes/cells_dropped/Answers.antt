@@ -4,7 +4,7 @@
 use mathlib.Core.Path.{sym, ◌∙◌}
 use native.Mathlib.Omega.{arith}
 use Rattle.cells.specs.Codes.{cells_given}
-use Rattle.cells.specs.Laws.Codes.{plain_given, eight_cells, code_given, part_given}
+use Rattle.cells.proofs.Laws.Codes.{plain_given, eight_cells, code_given, part_given}
 use Rattle.cells.proofs.codes.cells_dropped.Goals as goal
 
 pub returns-then-is_code : goal.returns-then-is_code

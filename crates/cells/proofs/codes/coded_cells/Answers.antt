@@ -8,7 +8,7 @@ use Rattle.laws.specs.Lists.{tab}
 use Rattle.laws.specs.Laws.Tests.{lt_true, lt_false, cond_true, cond_false}
 use Rattle.cells.specs.Stream.{stream}
 use Rattle.cells.specs.Codes.{cells_of}
-use Rattle.cells.specs.Laws.Codes.{coded_start, cells_more, cells_end}
+use Rattle.cells.proofs.Laws.Codes.{coded_start, cells_more, cells_end}
 use Rattle.cells.proofs.codes.coded_cells.Goals as goal
 
 pub returns-then-buffer-bytes : goal.returns-then-buffer-bytes

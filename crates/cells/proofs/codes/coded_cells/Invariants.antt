@@ -6,7 +6,7 @@ use Prim.Native.Nat.{◌-◌, ◌*◌, ◌≤◌, ◌<◌}
 use lib.ListN.{length, drop}
 use Rattle.cells.specs.Stream.{stream}
 use Rattle.cells.specs.Codes.{stored_bytes, cells_before, coded_from, coded}
-use Rattle.cells.specs.Laws.CodesAppended.{buffer_side}
+use Rattle.cells.specs.Stream.{buffer_side}
 use Rattle.cells.proofs.codes.coded_cells.Given as goal
 
 abbrev pub invariant-loop-k : goal.invariant-loop-k

@@ -3,7 +3,7 @@
 -- Assumes nothing.
 use mathlib.Core.Path.{sym}
 use Rattle.cells.specs.Codes.{expected_after}
-use Rattle.cells.specs.Laws.CodesRead.{count_right, count_wrong}
+use Rattle.cells.proofs.Laws.CodesRead.{count_right, count_wrong}
 use Rattle.cells.proofs.codes.expected_after.Goals as goal
 
 pub returns-in-Any : goal.returns-in-Any

@@ -2,7 +2,7 @@
 -- Rests on: the laws in CodesRead.
 -- Assumes nothing.
 use native.Mathlib.Omega.{arith}
-use Rattle.cells.specs.Laws.CodesRead.{code_low}
+use Rattle.cells.proofs.Laws.CodesRead.{code_low}
 use Rattle.cells.proofs.codes.is_code.Goals as goal
 
 pub returns : goal.returns

@@ -3,7 +3,7 @@
 -- Assumes nothing.
 use Prim.Native.Nat.{◌+◌, ◌*◌, ◌%◌, ◌^◌, ◌<◌}
 use native.Mathlib.Omega.{arith}
-use Rattle.cells.specs.Laws.CodesAppended.{joined_fits, joined_shifted}
+use Rattle.cells.proofs.Laws.CodesAppended.{joined_fits, joined_shifted}
 use Rattle.cells.proofs.codes.joined.Goals as goal
 
 small : (c : goal.Start) → c.args.old % (1 * 2 ^ c.args.k % 2 ^ 32) + c.args.v * 2 ^ c.args.k % 2 ^ 32 < 2 ^ 16

@@ -5,7 +5,7 @@ use mathlib.Core.Path.{refl, sym, ◌∙◌}
 use Prim.Native.Nat.{◌-◌}
 use native.Mathlib.Omega.{arith}
 use Rattle.cells.specs.Codes.{coded}
-use Rattle.cells.specs.Laws.Codes.{wrong_next, wrong_end}
+use Rattle.cells.proofs.Laws.Codes.{wrong_next, wrong_end}
 use Rattle.cells.proofs.codes.judge_codes.Goals as goal
 
 pub loop-k-init : goal.loop-k-init

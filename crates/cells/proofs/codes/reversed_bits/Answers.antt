@@ -2,7 +2,7 @@
 -- Rests on: the laws in CodesRead.
 -- Assumes nothing.
 use native.Mathlib.Omega.{arith}
-use Rattle.cells.specs.Laws.CodesRead.{reversed_steps}
+use Rattle.cells.proofs.Laws.CodesRead.{reversed_steps}
 use Rattle.cells.proofs.codes.reversed_bits.Goals as goal
 
 pub returns : goal.returns

@@ -5,7 +5,7 @@ use mathlib.Core.Path.{refl, sym}
 use Prim.Native.Nat.{◌*◌, ◌/◌, ◌^◌, ◌<◌}
 use native.Mathlib.Omega.{arith}
 use Rattle.laws.specs.Laws.Tab.{get_d_past}
-use Rattle.cells.specs.Laws.Stream.{product_fits}
+use Rattle.cells.proofs.Laws.Stream.{product_fits}
 use Rattle.cells.specs.Stream.{byte_place}
 use Rattle.cells.proofs.codes.side_byte.Goals as goal
 

@@ -4,7 +4,7 @@
 use mathlib.Core.Path.{◌≡◌}
 use Prim.Native.Nat.{◌-◌}
 use native.Mathlib.Omega.{arith}
-use Rattle.cells.specs.Laws.Crc.{crc_none, crc_more}
+use Rattle.cells.proofs.Laws.Crc.{crc_none, crc_more}
 use Rattle.cells.proofs.crc.crc_at.Goals as goal
 
 pub loop-j-init : goal.loop-j-init

@@ -6,7 +6,7 @@ use Prim.Native.Nat.{◌-◌}
 use native.Mathlib.Omega.{arith}
 use borrow.Author.Rules.{rules}
 use Rattle.cells.specs.Crc.{crc_bits}
-use Rattle.cells.specs.Laws.Crc.{crc_bits_more}
+use Rattle.cells.proofs.Laws.Crc.{crc_bits_more}
 use Rattle.cells.proofs.crc.crc_byte.Goals as goal
 
 pub loop-k-init : goal.loop-k-init

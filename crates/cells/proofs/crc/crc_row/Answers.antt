@@ -6,7 +6,7 @@ use Prim.Native.Nat.{◌-◌}
 use native.Mathlib.Omega.{arith}
 use lib.ListN.{length}
 use lib.Seq.{take-length}
-use Rattle.cells.specs.Laws.Crc.{row_none, row_more}
+use Rattle.cells.proofs.Laws.Crc.{row_none, row_more}
 use Rattle.cells.proofs.crc.crc_row.Goals as goal
 
 pub loop-i-init : goal.loop-i-init

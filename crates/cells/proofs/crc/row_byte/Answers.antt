@@ -3,8 +3,8 @@
 -- Assumes nothing.
 use mathlib.Core.Path.{sym}
 use native.Mathlib.Omega.{arith}
-use Rattle.cells.specs.Laws.Stream.{from_past}
-use Rattle.cells.specs.Laws.Number.{byte_past}
+use Rattle.cells.proofs.Laws.Stream.{from_past}
+use Rattle.cells.proofs.Laws.Number.{byte_past}
 use Rattle.cells.proofs.crc.row_byte.Goals as goal
 
 pub returns-then-room-k : goal.returns-then-room-k

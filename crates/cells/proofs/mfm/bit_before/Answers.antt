@@ -3,7 +3,7 @@
 -- Assumes nothing.
 use mathlib.Core.Path.{◌∙◌}
 use Rattle.cells.specs.Mfm.{before}
-use Rattle.cells.specs.Laws.Mfm.{before_later}
+use Rattle.cells.proofs.Laws.Mfm.{before_later}
 use Rattle.cells.proofs.mfm.bit_before.Goals as goal
 
 pub returns-then-k-eq0 : goal.returns-then-k-eq0

@@ -9,8 +9,8 @@ use borrow.Author.Rules.{rules}
 use Rattle.laws.specs.Laws.Tab.{tab_in, tab_below}
 use Rattle.cells.specs.Stream.{number, word}
 use Rattle.cells.specs.Written.{item_word}
-use Rattle.cells.specs.Laws.Number.{number_more, number_below}
-use Rattle.cells.specs.Laws.Mfm.{item_cell_bit}
+use Rattle.cells.proofs.Laws.Number.{number_more, number_below}
+use Rattle.cells.proofs.Laws.Mfm.{item_cell_bit}
 use Rattle.cells.proofs.mfm.encode_item.Goals as goal
 
 small : (c : goal.In-loop-j) → c.loop-j.v < 2 ^ 15

@@ -7,8 +7,8 @@ use native.Mathlib.Omega.{arith}
 use borrow.Author.Rules.{rules}
 use Rattle.cells.specs.Stream.{packed_bits}
 use Rattle.cells.specs.Written.{item_cell}
-use Rattle.cells.specs.Laws.Packed.{packed_fits, packed_step}
-use Rattle.cells.specs.Laws.Mfm.{item_cell_bit}
+use Rattle.cells.proofs.Laws.Packed.{packed_fits, packed_step}
+use Rattle.cells.proofs.Laws.Mfm.{item_cell_bit}
 use Rattle.cells.proofs.mfm.stored_byte.Goals as goal
 
 step : (c : goal.After-item_cell) →

@@ -6,7 +6,7 @@ use Prim.Native.Nat.{◌/◌, ◌<◌, ◌*◌, ◌^◌}
 use native.Mathlib.Omega.{arith}
 use lib.Dec.{lit<}
 use Rattle.cells.specs.Stream.{byte_place, cell_at}
-use Rattle.cells.specs.Laws.Stream.{stream_in, stream_out, stream_past, product_fits}
+use Rattle.cells.proofs.Laws.Stream.{stream_in, stream_out, stream_past, product_fits}
 use Rattle.cells.proofs.stream.cell.Goals as goal
 
 product : (c : goal.After-struct_known-3-1) →

@@ -4,7 +4,7 @@
 use mathlib.Core.Path.{sym, ◌∙◌}
 use native.Mathlib.Omega.{arith}
 use lib.Dec.{lit<}
-use Rattle.cells.specs.Laws.Stream.{rest_length, from_at, from_past}
+use Rattle.cells.proofs.Laws.Stream.{rest_length, from_at, from_past}
 use Rattle.cells.proofs.stream.cell_from.Goals as goal
 
 pub returns-then-cells-i : goal.returns-then-cells-i

@@ -2,7 +2,7 @@
 -- Rests on: the laws in Stream.
 -- Assumes nothing.
 use native.Mathlib.Omega.{arith}
-use Rattle.cells.specs.Laws.Stream.{rest_length}
+use Rattle.cells.proofs.Laws.Stream.{rest_length}
 use Rattle.cells.proofs.stream.cells_from.Goals as goal
 
 pub returns-then-cells-i : goal.returns-then-cells-i

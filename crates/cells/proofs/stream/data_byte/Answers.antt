@@ -6,8 +6,8 @@ use Prim.Native.Nat.{◌-◌, ◌<◌}
 use native.Mathlib.Omega.{arith}
 use borrow.Author.Rules.{rules}
 use Rattle.cells.specs.Stream.{number, data_byte}
-use Rattle.cells.specs.Laws.Stream.{from_past, rest_bit}
-use Rattle.cells.specs.Laws.Number.{number_more, number_below, byte_past}
+use Rattle.cells.proofs.Laws.Stream.{from_past, rest_bit}
+use Rattle.cells.proofs.Laws.Number.{number_more, number_below, byte_past}
 use Rattle.cells.proofs.stream.data_byte.Goals as goal
 
 pub returns-then-cells_from-k : goal.returns-then-cells_from-k

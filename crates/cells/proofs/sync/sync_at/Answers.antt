@@ -4,9 +4,9 @@
 use mathlib.Core.Path.{◌≡◌, sym, ap, ◌∙◌}
 use Prim.Native.Nat.{◌-◌}
 use native.Mathlib.Omega.{arith}
-use Rattle.cells.specs.Laws.Sync.{sync_more, sync_past, sync_all, sync_differs}
+use Rattle.cells.proofs.Laws.Sync.{sync_more, sync_past, sync_all, sync_differs}
 use Rattle.cells.specs.Stream.{number}
-use Rattle.cells.specs.Laws.Stream.{rest_bit}
+use Rattle.cells.proofs.Laws.Stream.{rest_bit}
 use Rattle.cells.proofs.sync.sync_at.Goals as goal
 
 pub returns-then-room-lt16 : goal.returns-then-room-lt16

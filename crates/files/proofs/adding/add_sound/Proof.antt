@@ -8,7 +8,7 @@ use borrow.Author.Tests.{not-false}
 use Rattle.laws.specs.Laws.Tests.{not_was}
 use Rattle.files.specs.Laws.Loading.Parts.{from_none}
 use Rattle.files.specs.Laws.Loading.Slots.{located_directory}
-use Rattle.file_rules.specs.Laws.Base.Ends.{end_within}
+use Rattle.file_rules.proofs.Laws.Base.Ends.{end_within}
 use Rattle.files.specs.Laws.Calling.SoundDisk.{vacant_most, room_size, name_most_lem, gave_refused, gave_done, add_name, add_present, add_full, add_done}
 use borrow.Author.Rules.{rules}
 use Rattle.files.proofs.adding.add_sound.Statement.{statement}

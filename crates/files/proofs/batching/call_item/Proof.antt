@@ -5,7 +5,7 @@
 use mathlib.Core.Path.{sym, ◌∙◌}
 use native.Mathlib.Omega.{arith}
 use borrow.Author.Rules.{rules}
-use Rattle.file_rules.specs.Laws.Base.Items.{name_least, name_within, right_within, start_within}
+use Rattle.file_rules.proofs.Laws.Base.Items.{name_least, name_within, right_within, start_within}
 use Rattle.files.specs.Laws.Calling.Items.{wrote_same, name_part, date_part, data_part, call_remove, call_add}
 use Rattle.files.proofs.batching.call_item.Statement.{statement}
 use Rattle.files.proofs.batching.call_item.Tie as tie

@@ -3,7 +3,7 @@
 -- Assumes nothing.
 use mathlib.Core.Path.{sym, ◌∙◌}
 use borrow.Author.Rules.{rules}
-use Rattle.file_rules.specs.Laws.Base.Items.{remove_size}
+use Rattle.file_rules.proofs.Laws.Base.Items.{remove_size}
 use Rattle.files.specs.Laws.Calling.Items.{add_sized}
 use Rattle.files.proofs.batching.item_size.Statement.{statement}
 use Rattle.files.proofs.batching.item_size.Tie as tie

@@ -4,7 +4,7 @@
 use Prim.Native.Nat.{◌-◌, ◌<◌}
 use native.Mathlib.Omega.{arith}
 use borrow.Author.Rules.{rules}
-use Rattle.sector_rules.specs.Laws.Base.Geometry.{image_lt}
+use Rattle.sector_rules.proofs.Laws.Base.Geometry.{image_lt}
 use Rattle.file_rules.specs.Disk.{image_place}
 use Rattle.files.proofs.blocks.byte_place.Statement.{statement}
 use Rattle.files.proofs.blocks.byte_place.Tie as tie

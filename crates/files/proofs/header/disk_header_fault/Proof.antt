@@ -8,7 +8,7 @@ use native.Mathlib.Omega.{arith}
 use borrow.Author.Rules.{rules}
 use Rattle.sector_rules.specs.Faults.{wrong_at}
 use Rattle.sector_rules.specs.Geometry.{side_place, backward}
-use Rattle.sector_rules.specs.Laws.Base.Geometry.{side_place_length, backward_length}
+use Rattle.sector_rules.proofs.Laws.Base.Geometry.{side_place_length, backward_length}
 use Rattle.sectors.specs.Laws.Reading.Faults.{or_link}
 use Rattle.file_rules.specs.Check.{disk_signature, disk_header_fault}
 use Rattle.files.specs.Laws.Judging.Verdict.{bytes_fault, given_fault}

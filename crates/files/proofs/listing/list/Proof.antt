@@ -4,9 +4,9 @@
 -- Assumes nothing.
 use mathlib.Core.Path.{refl, sym, ◌∙◌}
 use Rattle.file_rules.specs.Calls.{list}
-use Rattle.file_rules.specs.Laws.Base.OnSound.{sound_length, sound_refused, sound_passed}
+use Rattle.file_rules.proofs.Laws.Base.OnSound.{sound_length, sound_refused, sound_passed}
 use Rattle.files.specs.Laws.Judging.Verdict.{verdict_some, verdict_none}
-use Rattle.file_rules.specs.Laws.Base.Ends.{end_within}
+use Rattle.file_rules.proofs.Laws.Base.Ends.{end_within}
 use Rattle.files.specs.Laws.Calling.Delivered.{gave_kept, gave_same}
 use borrow.Author.Rules.{rules}
 use Rattle.files.proofs.listing.list.Statement.{statement}

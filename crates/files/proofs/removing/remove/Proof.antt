@@ -4,7 +4,7 @@
 -- Assumes nothing.
 use mathlib.Core.Path.{refl, sym, ◌∙◌}
 use Rattle.file_rules.specs.Calls.{remove}
-use Rattle.file_rules.specs.Laws.Base.OnSound.{sound_length, sound_refused, sound_passed}
+use Rattle.file_rules.proofs.Laws.Base.OnSound.{sound_length, sound_refused, sound_passed}
 use Rattle.files.specs.Laws.Judging.Verdict.{verdict_some, verdict_none}
 use Rattle.files.specs.Laws.Writing.InStep.{in_step}
 use Rattle.files.specs.Laws.Calling.SoundDisk.{wrote_refused, wrote_gave}

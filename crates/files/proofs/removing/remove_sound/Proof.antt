@@ -7,7 +7,7 @@ use borrow.Author.Tests.{not-false}
 use Rattle.laws.specs.Laws.Tests.{not_was}
 use Rattle.files.specs.Laws.Loading.Parts.{from_none}
 use Rattle.files.specs.Laws.Loading.Slots.{located_directory}
-use Rattle.file_rules.specs.Laws.Base.Ends.{end_within}
+use Rattle.file_rules.proofs.Laws.Base.Ends.{end_within}
 use Rattle.files.specs.Laws.Calling.SoundDisk.{gave_refused, gave_done, remove_name, remove_none, remove_done}
 use borrow.Author.Rules.{rules}
 use Rattle.files.proofs.removing.remove_sound.Statement.{statement}

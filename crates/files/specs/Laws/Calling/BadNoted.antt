@@ -17,7 +17,7 @@ use Rattle.file_rules.specs.declared.Record.{Record}
 use Rattle.file_rules.specs.declared.Record.TheVariants.{Free, Bad, System, File}
 use Rattle.file_rules.specs.Arguments.{FormatArguments, listed, bad_list_right, count_listed}
 use Rattle.file_rules.specs.Calls.{fresh_owner}
-use Rattle.file_rules.specs.Laws.Base.BadList.{right_each, low_unlisted}
+use Rattle.file_rules.proofs.Laws.Base.BadList.{right_each, low_unlisted}
 use Rattle.files.specs.Laws.Loading.Tally.{Tallied, tally_zero}
 
 -- ---- entry by entry

@@ -12,7 +12,7 @@ use Rattle.file_rules.specs.declared.Entry.{Entry}
 use Rattle.file_rules.specs.Calls.{opens_block, grow_dir, end_after, add_at, remove_at}
 use Rattle.file_rules.specs.Directory.{entry_byte, dir_end}
 use Rattle.file_rules.specs.Disk.{Disk, disk_of, image_of}
-use Rattle.file_rules.specs.Laws.Base.Disk.{image_disk}
+use Rattle.file_rules.proofs.Laws.Base.Disk.{image_disk}
 use Rattle.files.specs.Laws.Writing.Given.{give_lowest, inside_lowest, inside_slot, inside_settled, stored_zeros}
 use Rattle.files.specs.Laws.Writing.Steps.{stored_row, stored_row_lem, inside_end}
 use Rattle.files.specs.Laws.Writing.Stored.{EqualInside, inside_step}

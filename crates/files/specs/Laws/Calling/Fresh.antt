@@ -15,7 +15,7 @@ use Rattle.laws.specs.Laws.Tests.{le_false, eq_true, eq_false, cond_true, cond_f
 use Rattle.laws.specs.Laws.Changes.{upd₂_same, upd₂_other, patch_in, patch_below}
 use Rattle.laws.specs.Laws.Overlay.{overlay_length, overlay_in, overlay_before, overlay_after, overlay_is, overlay_all}
 use Rattle.sector_rules.specs.Geometry.{tracks, sectors, block_sectors, track_offset, track_sectors, all_sectors, blocks, image_bytes, side_place, backward}
-use Rattle.sector_rules.specs.Laws.Base.Geometry.{side_place_length, backward_length}
+use Rattle.sector_rules.proofs.Laws.Base.Geometry.{side_place_length, backward_length}
 use Rattle.sector_rules.specs.Replies.{done, refusal}
 use Rattle.file_rules.specs.declared.Record.{Record}
 use Rattle.file_rules.specs.declared.Record.TheVariants.{Free, Bad, System, File}
@@ -23,14 +23,14 @@ use Rattle.file_rules.specs.Arguments.{FormatArguments, bad_list_right, count_li
 use Rattle.file_rules.specs.Calls.{fresh_owner, fresh_header, format_disk, image_right, image_kept, wrong_length, format}
 use Rattle.file_rules.specs.Check.{disk_signature}
 use Rattle.file_rules.specs.Disk.{Disk, disk_of, image_of}
-use Rattle.file_rules.specs.Laws.Base.Disk.{image_cong, image_disk}
+use Rattle.file_rules.proofs.Laws.Base.Disk.{image_cong, image_disk}
 use Rattle.files.specs.Laws.Writing.Given.{inside_set}
 use Rattle.files.specs.Laws.Writing.Steps.{FitsRecord, overlay_tab, put_row, inside_patched}
 use Rattle.files.specs.Laws.Writing.Stored.{EqualInside, inside_step, patched, patched_row}
 use Rattle.files.specs.Laws.Calling.BadNoted.{BadNoted, is_noted, fresh_record, fresh_is}
-use Rattle.file_rules.specs.Laws.Base.BadList.{right_each}
-use Rattle.file_rules.specs.Laws.Base.Whole.{with_is}
-use Rattle.file_rules.specs.Laws.OnImages.Run.{format_done}
+use Rattle.file_rules.proofs.Laws.Base.BadList.{right_each}
+use Rattle.file_rules.proofs.Laws.Base.Whole.{with_is}
+use Rattle.file_rules.proofs.Laws.OnImages.Run.{format_done}
 use Rattle.file_rules.specs.Map.{encode}
 use Rattle.file_rules.specs.Sizes.{slot_bytes, map_start, record_bytes, title_most, free_sectors, good_sectors}
 use Rattle.file_rules.specs.Written.{fixed_byte, disk_header_byte, disk_with, set_record}

@@ -18,7 +18,7 @@ use Rattle.file_rules.specs.Calls.{ImageChanged, image_kept, image_right, add, r
 use Rattle.file_rules.specs.Items.{Item, is_remove, is_add, name_length, name_end, item_date, data_length, data_start, item_size, item_right, item_name, first_item}
 use Rattle.file_rules.specs.Items.{ItemList, Items, WrongItem, item_before, items_from, read_items}
 use Rattle.file_rules.specs.Batch.{item_call, at_item, items_in_turn, batch_of, batch}
-use Rattle.file_rules.specs.Laws.Base.Items.{size_least, right_within, add_size, items_end, wrong_at_lem, right_at}
+use Rattle.file_rules.proofs.Laws.Base.Items.{size_least, right_within, add_size, items_end, wrong_at_lem, right_at}
 
 -- what a call that writes left: its reply and the image
 pub record Wrote (w : ImageChanged) (r : Reply) (l : List ℕ) : Type 0 where

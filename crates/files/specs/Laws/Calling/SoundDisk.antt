@@ -26,10 +26,10 @@ use Rattle.file_rules.specs.Calls.{DiskChanged, ImageChanged, disk_kept, image_k
 use Rattle.file_rules.specs.Check.{parts_right, entry_right, file_right, file_fault, new_name, disk_refusal}
 use Rattle.file_rules.specs.Directory.{name_right, entry_for, slot_entry, held, dir_end, find_name, vacant_slot}
 use Rattle.file_rules.specs.Disk.{Disk, disk_of, image_of}
-use Rattle.file_rules.specs.Laws.Base.Disk.{image_disk}
+use Rattle.file_rules.proofs.Laws.Base.Disk.{image_disk}
 use Rattle.files.specs.Laws.Loading.Records.{decode_none}
-use Rattle.file_rules.specs.Laws.Base.Sound.{sound_ten}
-use Rattle.file_rules.specs.Laws.Base.Ends.{files_right, end_within}
+use Rattle.file_rules.proofs.Laws.Base.Sound.{sound_ten}
+use Rattle.file_rules.proofs.Laws.Base.Ends.{files_right, end_within}
 use Rattle.files.specs.Laws.Writing.Steps.{overlay_tab, put_row}
 use Rattle.file_rules.specs.Map.{decode, record_at, is_part, within, free_at, free_count, file_bound, sequences}
 use Rattle.file_rules.specs.Sizes.{slot_bytes, block_slots, slot_count, name_most, blocks_of}

@@ -16,7 +16,7 @@ use Rattle.sector_rules.specs.Geometry.{sector_bytes}
 use Rattle.files.specs.declared.Verdict.{Verdict}
 use Rattle.files.specs.declared.Verdict.TheVariants.{Passed, Refused}
 use Rattle.file_rules.specs.Disk.{Disk, disk_of}
-use Rattle.file_rules.specs.Laws.Base.Disk.{first_byte}
+use Rattle.file_rules.proofs.Laws.Base.Disk.{first_byte}
 use Rattle.file_rules.specs.Check.{disk_header_fault, refusal8}
 
 -- ---- a verdict

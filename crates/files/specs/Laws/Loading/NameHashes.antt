@@ -18,7 +18,7 @@ use Rattle.file_rules.specs.Sizes.{slot_count, name_most}
 use Rattle.file_rules.specs.Disk.{Disk, disk_of}
 use Rattle.file_rules.specs.Directory.{lowered, name_eq, name_of, entry_of, slot_name, held, dir_end}
 use Rattle.file_rules.specs.Check.{new_name}
-use Rattle.file_rules.specs.Laws.Base.Names.{equal_length, equal_byte}
+use Rattle.file_rules.proofs.Laws.Base.Names.{equal_length, equal_byte}
 use Rattle.files.specs.Laws.Loading.Slots.{Located, slot_place, name_row, name_first, row_along}
 
 -- how many hashes there are

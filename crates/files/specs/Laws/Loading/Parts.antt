@@ -17,7 +17,7 @@ use Rattle.sector_rules.specs.Geometry.{blocks}
 use Rattle.file_rules.specs.declared.Record.{Record}
 use Rattle.file_rules.specs.declared.Record.TheVariants.{Free, Bad, System, File, Other}
 use Rattle.file_rules.specs.Map.{is_part, within, bears}
-use Rattle.file_rules.specs.Laws.Base.Ends.{once_most}
+use Rattle.file_rules.proofs.Laws.Base.Ends.{once_most}
 use Rattle.files.specs.Laws.Loading.Loaded.{loaded_record}
 use Rattle.files.specs.Laws.Loading.Loops.{all_cong}
 use Rattle.files.specs.Laws.Loading.Tally.{Tallied, tally_one, tally_zero}

@@ -21,7 +21,7 @@ use Rattle.file_rules.specs.Sizes.{slot_bytes, block_slots, slot_count, name_mos
 use Rattle.file_rules.specs.Disk.{Disk, image_place, disk_of}
 use Rattle.file_rules.specs.Map.{part_block}
 use Rattle.file_rules.specs.Directory.{lowered, name_eq, entry_of, name_of, slot_byte, slot_entry, slot_name, held, dir_end, find_name, vacant_slot}
-use Rattle.file_rules.specs.Laws.Base.Names.{equal_length, equal_byte, bytes_equal}
+use Rattle.file_rules.proofs.Laws.Base.Names.{equal_length, equal_byte, bytes_equal}
 use Rattle.files.specs.Laws.Loading.Blocks.{disk_in, disk_far}
 use Rattle.files.specs.Laws.Loading.Loaded.{MapLoaded, part_loaded}
 use Rattle.files.specs.Laws.Loading.Loops.{all_cong}

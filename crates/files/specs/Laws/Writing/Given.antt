@@ -18,7 +18,7 @@ use Rattle.sector_rules.specs.Geometry.{blocks, image_bytes}
 use Rattle.file_rules.specs.declared.Record.{Record}
 use Rattle.file_rules.specs.declared.Record.TheVariants.{Free, File}
 use Rattle.file_rules.specs.Disk.{Disk, disk_of, image_of}
-use Rattle.file_rules.specs.Laws.Base.Disk.{image_disk, image_cong}
+use Rattle.file_rules.proofs.Laws.Base.Disk.{image_disk, image_cong}
 use Rattle.files.specs.Laws.Writing.Steps.{inside_patched, inside_record, inside_free, inside_update, stored_row}
 use Rattle.files.specs.Laws.Writing.Stored.{EqualInside, inside_image, inside_step, patched}
 use Rattle.file_rules.specs.Map.{encode, record_at, is_free, bears, is_part, free_at, part_block}

@@ -19,9 +19,9 @@ use Rattle.file_rules.specs.declared.Record.TheVariants.{Free, Bad, System, File
 use Rattle.file_rules.specs.Calls.{end_after}
 use Rattle.file_rules.specs.Check.{disk_refusal}
 use Rattle.file_rules.specs.Disk.{Disk, disk_of, image_of}
-use Rattle.file_rules.specs.Laws.Base.Disk.{length_image}
-use Rattle.file_rules.specs.Laws.Base.Records.{record_set, record_beside}
-use Rattle.file_rules.specs.Laws.Base.Sound.{first_system, part_not_first}
+use Rattle.file_rules.proofs.Laws.Base.Disk.{length_image}
+use Rattle.file_rules.proofs.Laws.Base.Records.{record_set, record_beside}
+use Rattle.file_rules.proofs.Laws.Base.Sound.{first_system, part_not_first}
 use Rattle.file_rules.specs.Map.{decode, number_of, encode, record_byte, number_at, record_at, part_block}
 use Rattle.file_rules.specs.Sizes.{block_bytes, slot_bytes, block_slots, map_start, record_bytes, whole_blocks, bytes_over}
 use Rattle.file_rules.specs.Written.{set_block, set_record, set_slot, set_word, set_end}

@@ -14,10 +14,10 @@ use Rattle.laws.specs.Laws.Changes.{upd_same, upd_twice, patch_next}
 use Rattle.laws.specs.Laws.Overlay.{overlay_none, overlay_more, overlay_cong, overlay_clip}
 use Rattle.laws.specs.Laws.Overlay.{overlay_length, put_tab}
 use Rattle.sector_rules.specs.Geometry.{sector_bytes, blocks, image_bytes, running}
-use Rattle.sector_rules.specs.Laws.Base.Geometry.{image_lt}
+use Rattle.sector_rules.proofs.Laws.Base.Geometry.{image_lt}
 use Rattle.file_rules.specs.Disk.{Disk, image_place, disk_of, image_of}
 use Rattle.files.specs.Laws.Loading.Blocks.{disk_in, disk_far}
-use Rattle.file_rules.specs.Laws.Base.Disk.{image_place_lt}
+use Rattle.file_rules.proofs.Laws.Base.Disk.{image_place_lt}
 use Rattle.files.specs.Laws.Loading.Slots.{byte_along}
 use Rattle.files.specs.Laws.Writing.Steps.{stored_row, inside_patched}
 use Rattle.files.specs.Laws.Writing.Stored.{inside_step, set_inside, set_no_block, patched, patched_none, patched_more, patched_row}

@@ -11,7 +11,7 @@ use Rattle.laws.specs.Laws.Tab.{tab_length, tab_in}
 use Rattle.laws.specs.Laws.Changes.{upd_same, upd_other, upd₂_same, upd₂_other, patch_in, patch_below, patch_above, by_place}
 use Rattle.sector_rules.specs.Geometry.{blocks, image_bytes}
 use Rattle.file_rules.specs.Disk.{Disk, image_place, disk_of, image_of, set_byte}
-use Rattle.file_rules.specs.Laws.Base.Disk.{inside_disk, image_disk, image_cong, image_set}
+use Rattle.file_rules.proofs.Laws.Base.Disk.{inside_disk, image_disk, image_cong, image_set}
 use Rattle.file_rules.specs.Sizes.{block_bytes}
 
 -- ---- disks that agree inside their blocks

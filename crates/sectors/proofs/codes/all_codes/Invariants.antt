@@ -6,7 +6,7 @@ use mathlib.Core.Path.{◌≡◌}
 use Prim.Native.Nat.{◌-◌, ◌*◌, ◌≤◌}
 use Rattle.laws.specs.Options.{first_some}
 use Rattle.sector_rules.specs.Geometry.{tracks, sides}
-use Rattle.sector_rules.specs.Laws.Base.Versions.{side_refusal}
+use Rattle.sector_rules.specs.Unpacked.{side_refusal}
 use Rattle.sectors.proofs.codes.all_codes.Given as goal
 
 abbrev pub invariant-loop-n : goal.invariant-loop-n

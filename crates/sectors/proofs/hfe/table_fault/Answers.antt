@@ -7,7 +7,7 @@ use Prim.Native.Nat.{◌-◌}
 use native.Mathlib.Omega.{arith}
 use borrow.Author.Count.{below_more}
 use Rattle.sector_rules.specs.Hfe.{table_fault}
-use Rattle.sector_rules.specs.Laws.Base.Faults.{fault_none}
+use Rattle.sector_rules.proofs.Laws.Base.Faults.{fault_none}
 use Rattle.sectors.specs.Laws.Reading.Faults.{fault_some}
 use Rattle.sectors.proofs.hfe.table_fault.Goals as goal
 

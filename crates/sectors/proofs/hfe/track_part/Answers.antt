@@ -6,7 +6,7 @@ use Prim.Native.Nat.{◌+◌, ◌-◌, ◌≤◌}
 use native.Mathlib.Omega.{arith}
 use lib.ListN.{length}
 use Rattle.sector_rules.specs.Hfe.{track_part, track_start, track_unit_bytes}
-use Rattle.sector_rules.specs.Laws.Base.Faults.{table_good, track_within}
+use Rattle.sector_rules.proofs.Laws.Base.Faults.{table_good, track_within}
 use Rattle.sectors.proofs.hfe.track_part.Goals as goal
 
 within : (c : goal.After-track_unit_bytes) →

@@ -5,10 +5,10 @@ use mathlib.Core.Path.{◌≡◌, ap, ◌∙◌}
 use native.Mathlib.Omega.{arith}
 use Prim.Native.Nat.{◌+◌, ◌-◌, ◌*◌, ◌%◌, ◌^◌}
 use Rattle.cells.specs.Stream.{stream, packed_bits, packed}
-use Rattle.cells.specs.Laws.Stream.{stream_bit}
-use Rattle.cells.specs.Laws.Packed.{packed_fits, packed_step}
+use Rattle.cells.proofs.Laws.Stream.{stream_bit}
+use Rattle.cells.proofs.Laws.Packed.{packed_fits, packed_step}
 use Rattle.sector_rules.specs.Rewritten.{cell_after}
-use Rattle.sector_rules.specs.Laws.Rewrite.After.{after_bit}
+use Rattle.sector_rules.proofs.Laws.Rewrite.After.{after_bit}
 use borrow.Author.Rules.{rules}
 use Rattle.sectors.proofs.new_cells.byte_after.Goals as goal
 

@@ -4,8 +4,8 @@
 use mathlib.Core.Path.{◌≡◌, sym, ◌∙◌}
 use Prim.Native.Nat.{◌+◌}
 use native.Mathlib.Omega.{arith}
-use Rattle.sector_rules.specs.Laws.Rewrite.After.{after_written, after_clock, after_last, after_before, after_after}
-use Rattle.cells.specs.Laws.Stream.{stream_length, rest_length}
+use Rattle.sector_rules.proofs.Laws.Rewrite.After.{after_written, after_clock, after_last, after_before, after_after}
+use Rattle.cells.proofs.Laws.Stream.{stream_length, rest_length}
 use Rattle.sector_rules.specs.Rewritten.{data_cells}
 use Rattle.sectors.proofs.new_cells.cell_after.Goals as goal
 

@@ -3,7 +3,7 @@
 -- done.
 -- Assumes nothing.
 use mathlib.Core.Path.{sym, ◌∙◌}
-use Rattle.sector_rules.specs.Laws.Base.Packed.{pack_done, hfe_after}
+use Rattle.sector_rules.proofs.Laws.Base.Packed.{pack_done, hfe_after}
 use Rattle.sectors.specs.Laws.Packing.Items.{pack_hfe_lem, pack_image}
 use Rattle.sectors.proofs.packing.pack.Goals as goal
 

@@ -4,7 +4,7 @@
 use mathlib.Core.Path.{◌≡◌, sym}
 use Prim.Native.Nat.{◌%◌}
 use native.Mathlib.Omega.{arith}
-use Rattle.sector_rules.specs.Laws.Base.Packed.{table_0, table_1, table_2, table_3}
+use Rattle.sector_rules.proofs.Laws.Base.Packed.{table_0, table_1, table_2, table_3}
 use Rattle.sectors.specs.Laws.Packing.Items.{table_past}
 use Rattle.sectors.proofs.packing.table_byte.Goals as goal
 

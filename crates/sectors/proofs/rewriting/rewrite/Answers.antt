@@ -6,8 +6,8 @@ use mathlib.Core.Path.{sym, ◌∙◌}
 use native.Mathlib.Omega.{arith}
 use Rattle.laws.specs.Laws.Tests.{not_was}
 use borrow.Author.Tests.{not-false}
-use Rattle.sector_rules.specs.Laws.Base.Versions.{version1_plain}
-use Rattle.sector_rules.specs.Laws.Rewrite.Judged.{rewrite_short, rewrite_arguments_lem, rewrite_header, rewrite_table, arguments_named}
+use Rattle.sector_rules.proofs.Laws.Base.Versions.{version1_plain}
+use Rattle.sector_rules.proofs.Laws.Rewrite.Judged.{rewrite_short, rewrite_arguments_lem, rewrite_header, rewrite_table, arguments_named}
 use Rattle.sectors.specs.Laws.Rewriting.Answered.{call_kept, call_answered}
 use Rattle.sectors.proofs.rewriting.rewrite.Goals as goal
 

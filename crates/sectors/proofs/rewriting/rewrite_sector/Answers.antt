@@ -4,7 +4,7 @@
 use mathlib.Core.Path.{refl, sym, ap, ◌∙◌}
 use Rattle.laws.specs.Laws.Tests.{not_was}
 use borrow.Author.Tests.{not-false}
-use Rattle.sector_rules.specs.Laws.Rewrite.Place.{data_within}
+use Rattle.sector_rules.proofs.Laws.Rewrite.Place.{data_within}
 use Rattle.sector_rules.specs.Rewritten.{has_field}
 use Rattle.sectors.specs.Laws.Rewriting.Answered.{answered_field, answered_written}
 use Rattle.sectors.proofs.rewriting.rewrite_sector.Goals as goal

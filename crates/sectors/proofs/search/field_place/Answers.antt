@@ -4,8 +4,8 @@
 use mathlib.Core.Path.{◌≡◌, sym, ◌∙◌}
 use native.Mathlib.Omega.{arith}
 use Prim.Native.Nat.{◌+◌, ◌-◌}
-use Rattle.cells.specs.Laws.Stream.{rest_length}
-use Rattle.cells.specs.Laws.Sync.{three_past}
+use Rattle.cells.proofs.Laws.Stream.{rest_length}
+use Rattle.cells.proofs.Laws.Sync.{three_past}
 use Rattle.sector_rules.specs.Search.{first}
 use Rattle.sector_rules.specs.Rewritten.{field_place}
 use Rattle.sectors.specs.Laws.Reading.Search.{first_here, first_later, first_none}

@@ -7,7 +7,7 @@ use mathlib.Core.Logic.{⊎_elim}
 use Prim.Native.Nat.{◌-◌}
 use native.Mathlib.Omega.{arith}
 use lib.ListN.{length, length-set}
-use Rattle.cells.specs.Laws.Stream.{from_zero}
+use Rattle.cells.proofs.Laws.Stream.{from_zero}
 use Rattle.sectors.specs.Laws.Reading.Search.{scan_none, scan_all, scan_no, scan_yes}
 use Rattle.sectors.proofs.search.scan.Goals as goal
 

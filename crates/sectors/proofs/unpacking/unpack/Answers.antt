@@ -3,7 +3,7 @@
 -- and unpack_sides.
 -- Assumes nothing.
 use mathlib.Core.Path.{sym, ◌∙◌}
-use Rattle.sector_rules.specs.Laws.Base.Unpacked.{short_reply, length_reply, header_reply, table_reply_lem, image_after_lem}
+use Rattle.sector_rules.proofs.Laws.Base.Unpacked.{short_reply, length_reply, header_reply, table_reply_lem, image_after_lem}
 use Rattle.sectors.specs.Laws.Unpacking.SectorsJudged.{sides_reply}
 use Rattle.sectors.proofs.unpacking.unpack.Goals as goal
 

@@ -3,7 +3,7 @@
 -- Assumes nothing.
 use mathlib.Core.Path.{sym, ◌∙◌}
 use native.Mathlib.Omega.{arith}
-use Rattle.cells.specs.Laws.Written.{before_first, item_before_later}
+use Rattle.cells.proofs.Laws.Written.{before_first, item_before_later}
 use Rattle.sectors.proofs.written.bit_before.Goals as goal
 
 pub returns-then-q-eq0 : goal.returns-then-q-eq0

@@ -4,7 +4,7 @@
 use mathlib.Core.Path.{sym, ap, ◌∙◌}
 use native.Mathlib.Omega.{arith}
 use Rattle.cells.specs.declared.Item.TheVariants.{Plain}
-use Rattle.sector_rules.specs.Laws.Base.Packed.{sector_lead, sector_sync, sector_header, sector_gap, sector_zeros, sector_mark}
+use Rattle.sector_rules.proofs.Laws.Base.Packed.{sector_lead, sector_sync, sector_header, sector_gap, sector_zeros, sector_mark}
 use Rattle.sectors.proofs.written.header_item.Goals as goal
 
 pub returns-then-o-lt-ZEROS : goal.returns-then-o-lt-ZEROS

@@ -3,7 +3,7 @@
 -- Assumes nothing.
 use mathlib.Core.Path.{sym}
 use native.Mathlib.Omega.{arith}
-use Rattle.sector_rules.specs.Laws.Base.Packed.{crc_high, crc_low}
+use Rattle.sector_rules.proofs.Laws.Base.Packed.{crc_high, crc_low}
 use Rattle.sectors.specs.Laws.Packing.Items.{header_row_crc, row_header}
 use Rattle.sectors.proofs.written.sector_header_byte.Goals as goal
 

@@ -6,7 +6,7 @@ use mathlib.Core.Path.{sym, ap, ◌∙◌}
 use native.Mathlib.Omega.{arith}
 use Rattle.cells.specs.declared.Item.TheVariants.{Plain}
 use Rattle.sector_rules.specs.Packed.{sector_data}
-use Rattle.sector_rules.specs.Laws.Base.Packed.{sector_field}
+use Rattle.sector_rules.proofs.Laws.Base.Packed.{sector_field}
 use Rattle.sectors.specs.Laws.Packing.Items.{sector_tail}
 use Rattle.sectors.proofs.written.sector_item.Goals as goal
 

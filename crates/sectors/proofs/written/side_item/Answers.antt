@@ -5,7 +5,7 @@
 use mathlib.Core.Path.{sym, ◌∙◌}
 use native.Mathlib.Omega.{arith}
 use Rattle.sector_rules.specs.Packed.{image_side}
-use Rattle.sector_rules.specs.Laws.Base.Packed.{side_sector}
+use Rattle.sector_rules.proofs.Laws.Base.Packed.{side_sector}
 use Rattle.sectors.specs.Laws.Packing.Items.{side_tail}
 use Rattle.sectors.proofs.written.side_item.Goals as goal
 

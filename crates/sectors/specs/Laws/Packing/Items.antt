@@ -8,7 +8,7 @@ use Rattle.laws.specs.Lists.{window}
 use Rattle.laws.specs.Numbers.{low_byte}
 use Rattle.laws.specs.Laws.Tab.{window_in, window_length, window_part}
 use Rattle.cells.specs.Crc.{crc_start, crc_from, crc}
-use Rattle.cells.specs.Laws.Crc.{crc_from_append}
+use Rattle.cells.proofs.Laws.Crc.{crc_from_append}
 use Rattle.cells.specs.declared.Item.TheVariants.{Plain, Index}
 use Rattle.sector_rules.specs.Replies.{reply_with}
 use Rattle.sector_rules.specs.Geometry.{tracks, sector_bytes, image_bytes}
@@ -16,7 +16,7 @@ use Rattle.sector_rules.specs.Hfe.{hfe_signature}
 use Rattle.sector_rules.specs.Search.{data_mark}
 use Rattle.sector_rules.specs.Packed.{hfe_bytes, fill_byte, hfe_header_rest, hfe_header_byte, hfe_table_byte, pack_reply}
 use Rattle.sector_rules.specs.Packed.{field_crc, with_crc, header_row, gap_byte, sector_item, side_item}
-use Rattle.sector_rules.specs.Laws.Base.Packed.{span_left, span_right, past_lead, crc_before, crc_high, crc_low}
+use Rattle.sector_rules.proofs.Laws.Base.Packed.{span_left, span_right, past_lead, crc_before, crc_high, crc_low}
 
 -- ---- the items of a side, part by part
 

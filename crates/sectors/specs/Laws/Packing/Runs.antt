@@ -14,13 +14,13 @@ use Rattle.laws.specs.Laws.Overlay.{overlay_more, overlay_cong, overlay_on, over
 use Rattle.cells.specs.Mfm.{bit_of}
 use Rattle.cells.specs.Stream.{packed}
 use Rattle.cells.specs.Written.{item_byte, item_cell, bit_before, written_cell}
-use Rattle.cells.specs.Laws.Written.{packed_item, item_before_later}
+use Rattle.cells.proofs.Laws.Written.{packed_item, item_before_later}
 use Rattle.cells.specs.declared.Item.{Item}
 use Rattle.sector_rules.specs.Geometry.{tracks, sides}
 use Rattle.sector_rules.specs.Hfe.{hfe_signature, unit_bytes}
 use Rattle.sector_rules.specs.Packed.{image_side, side_items, side_bytes, track_units, first_unit, hfe_bytes}
 use Rattle.sector_rules.specs.Packed.{fill_byte, hfe_header_rest, hfe_header_byte, hfe_table_byte, hfe_track_byte, hfe_byte}
-use Rattle.sector_rules.specs.Laws.Base.Packed.{hfe_header_lem, hfe_table, hfe_track}
+use Rattle.sector_rules.proofs.Laws.Base.Packed.{hfe_header_lem, hfe_table, hfe_track}
 use Rattle.sectors.specs.Laws.Packing.Items.{header_out}
 
 -- the bytes of a unit that belong to one side

@@ -21,7 +21,8 @@ use Rattle.sector_rules.specs.Geometry.{sectors}
 use Rattle.sector_rules.specs.Search.{crc_holds, header_mark, data_mark, size_code, header_cells, field_cells, gap_cells, is_header, id_of}
 use Rattle.sector_rules.specs.Search.{header_of, is_header_of, header_at, places_below, found_of, find_sector, first, field_at, field_of}
 use Rattle.sector_rules.specs.Rewritten.{field_place}
-use Rattle.sector_rules.specs.Laws.Base.Search.{more_found, found_yes, found_no}
+use Rattle.sector_rules.proofs.Laws.Base.Search.{found_yes, found_no}
+use Rattle.sector_rules.specs.Search.{more_found}
 
 -- ---- headers
 

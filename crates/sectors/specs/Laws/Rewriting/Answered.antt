@@ -21,9 +21,9 @@ use Rattle.sector_rules.specs.Unpacked.{least_hfe, sector_at, sector_reply}
 use Rattle.sector_rules.specs.Packed.{image_sector_of}
 use Rattle.sector_rules.specs.Rewritten.{data_place, data_cells, changed_bytes, field_row, cell_after, with_side_bytes, rewritten}
 use Rattle.sector_rules.specs.Rewritten.{has_field, result_right, rewrite_arguments, rewrite_sector_reply, rewrite_reply, rewrite_hfe}
-use Rattle.sector_rules.specs.Laws.Base.Faults.{table_good, track_within}
-use Rattle.sector_rules.specs.Laws.Rewrite.Base.{side_cells_at_lem, cells_length}
-use Rattle.sector_rules.specs.Laws.Rewrite.Judged.{rewrite_sound, rewrite_field, rewrite_kept, named_sector}
+use Rattle.sector_rules.proofs.Laws.Base.Faults.{table_good, track_within}
+use Rattle.sector_rules.proofs.Laws.Rewrite.Base.{side_cells_at_lem, cells_length}
+use Rattle.sector_rules.proofs.Laws.Rewrite.Judged.{rewrite_sound, rewrite_field, rewrite_kept, named_sector}
 use Rattle.sectors.specs.declared.SideBytes.{SideBytes}
 use Rattle.sectors.specs.Laws.Unpacking.Sides.{PlainImage, ImageSideGives, DataPlaces}
 use Rattle.sectors.specs.Laws.Rewriting.Changed.{stored_place, SideBytesFit, changed, with_equal}

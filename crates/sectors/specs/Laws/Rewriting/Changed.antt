@@ -11,7 +11,7 @@ use Rattle.laws.specs.Laws.Cases.{by_test, by_equal}
 use Rattle.laws.specs.Laws.Tests.{true≢false}
 use Rattle.sector_rules.specs.Geometry.{sides}
 use Rattle.sector_rules.specs.Rewritten.{changed_bytes, side_byte_of, is_side_byte, with_side_bytes}
-use Rattle.sector_rules.specs.Laws.Rewrite.Base.{in_side_is, in_side_parts, with_length, with_in, with_out, with_byte}
+use Rattle.sector_rules.proofs.Laws.Rewrite.Base.{in_side_is, in_side_parts, with_length, with_in, with_out, with_byte}
 use Rattle.sectors.specs.declared.SideBytes.{SideBytes}
 
 -- where byte b of side s of a track that begins at `start` lies in the image

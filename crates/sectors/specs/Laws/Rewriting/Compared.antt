@@ -21,7 +21,8 @@ use Rattle.sector_rules.specs.Hfe.{side_stream}
 use Rattle.sector_rules.specs.Search.{sector_byte, delivered_bytes}
 use Rattle.sector_rules.specs.Unpacked.{track_of, side_of, is_bad, sector_at, sector_bytes_at, sector_reply}
 use Rattle.sector_rules.specs.Rewritten.{gives_data, same_sector, sector_right}
-use Rattle.sector_rules.specs.Laws.Base.Unpacked.{place_of, good_is, bad_number_lem}
+use Rattle.sector_rules.proofs.Laws.Base.Unpacked.{good_is, bad_number_lem}
+use Rattle.sector_rules.specs.Unpacked.{place_of}
 
 -- the 512 bytes of image sector q at this place
 abbrev pub bytes_at : List ℕ → ℕ → ℕ → List ℕ

@@ -15,7 +15,7 @@ use Rattle.sector_rules.specs.Faults.{refusal_at}
 use Rattle.sector_rules.specs.Geometry.{tracks, sides, sectors, all_sectors}
 use Rattle.sector_rules.specs.Hfe.{version1_fault, table_fault}
 use Rattle.sector_rules.specs.Rewritten.{hfe_refusal, sector_right, result_right}
-use Rattle.sector_rules.specs.Laws.Base.Versions.{version1_plain}
+use Rattle.sector_rules.proofs.Laws.Base.Versions.{version1_plain}
 use Rattle.sectors.specs.declared.SideBytes.{SideBytes}
 use Rattle.sectors.specs.Laws.Unpacking.Sides.{PlainImage}
 use Rattle.sectors.specs.Laws.Rewriting.Changed.{SideBytesFit, Taken, changed, changed_size, changed_back}

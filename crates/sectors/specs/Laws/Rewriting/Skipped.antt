@@ -17,8 +17,8 @@ use Rattle.sector_rules.specs.Geometry.{sides, sectors}
 use Rattle.sector_rules.specs.Hfe.{is_version3, entry_place, track_start, track_length, track_unit_bytes, side_stream}
 use Rattle.sector_rules.specs.Unpacked.{track_of, side_of, sector_at, sector_bytes_at}
 use Rattle.sector_rules.specs.Rewritten.{side_byte_of, is_side_byte, sector_right}
-use Rattle.sector_rules.specs.Laws.Rewrite.Base.{in_side_parts, with_out}
-use Rattle.sector_rules.specs.Laws.Rewrite.Untouched.{side_untouched}
+use Rattle.sector_rules.proofs.Laws.Rewrite.Base.{in_side_parts, with_out}
+use Rattle.sector_rules.proofs.Laws.Rewrite.Untouched.{side_untouched}
 use Rattle.sectors.specs.declared.SideBytes.{SideBytes}
 use Rattle.sectors.specs.Laws.Rewriting.Changed.{stored_place, SideBytesFit, changed}
 use Rattle.sectors.specs.Laws.Rewriting.Compared.{right_same}

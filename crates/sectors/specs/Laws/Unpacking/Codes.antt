@@ -17,7 +17,8 @@ use Rattle.sector_rules.specs.Replies.{reply_with, done}
 use Rattle.sector_rules.specs.Geometry.{tracks, sides}
 use Rattle.sector_rules.specs.Hfe.{is_version3, track_part, track_length, coded_side, side_stream}
 use Rattle.sector_rules.specs.Unpacked.{side_code_refusal, first_code_refusal}
-use Rattle.sector_rules.specs.Laws.Base.Versions.{coded_stream, plain_codes, side_refusal, codes_none, codes_found, codes_number}
+use Rattle.sector_rules.proofs.Laws.Base.Versions.{coded_stream, plain_codes, codes_none, codes_found, codes_number}
+use Rattle.sector_rules.specs.Unpacked.{side_refusal}
 
 -- bytes of a buffer that the cells of every side fit in
 abbrev pub cell_bytes : ℕ

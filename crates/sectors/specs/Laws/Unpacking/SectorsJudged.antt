@@ -16,7 +16,8 @@ use Rattle.sector_rules.specs.Replies.{done, unless}
 use Rattle.sector_rules.specs.Geometry.{all_sectors, image_bytes}
 use Rattle.sector_rules.specs.Hfe.{hfe_header_fault, table_fault}
 use Rattle.sector_rules.specs.Unpacked.{sector_at, is_bad, sector_reply, first_bad, sectors_reply, first_code_refusal, least_hfe, unpack_reply, unpacked_byte}
-use Rattle.sector_rules.specs.Laws.Base.Unpacked.{place_of, good_is, bad_number_lem, codes_reply, sound_reply}
+use Rattle.sector_rules.proofs.Laws.Base.Unpacked.{good_is, bad_number_lem, codes_reply, sound_reply}
+use Rattle.sector_rules.specs.Unpacked.{place_of}
 
 -- the sectors below n are good, and the places of their bytes are noted
 pub record Noted (h places : List ℕ) (n : ℕ) : Type 0 where

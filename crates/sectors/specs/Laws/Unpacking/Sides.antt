@@ -18,7 +18,7 @@ use Rattle.sector_rules.specs.Search.{sector_found, sector_of, sector_byte, deli
 use Rattle.sector_rules.specs.Hfe.{is_version3, table_fault, track_length, track_part, side_stream}
 use Rattle.sector_rules.specs.Unpacked.{track_of, side_of, sector_bytes_at, sector_at, unpacked_byte}
 use Rattle.sector_rules.specs.Rewritten.{data_place_of, data_place}
-use Rattle.sector_rules.specs.Laws.Base.Versions.{plain_stream}
+use Rattle.sector_rules.proofs.Laws.Base.Versions.{plain_stream}
 use Rattle.sectors.specs.Laws.Reading.Search.{BySector, Scanned}
 
 -- what the nine sectors of a side with the cells c give
