@@ -9,7 +9,7 @@ use Rattle.sectors.proofs.Geometry.side_place_table.Given as goal
 
 abbrev pub invariant-loop-remainder : goal.invariant-loop-remainder
 invariant-loop-remainder l = (l.remainder ≤ track_sectors) × (length l.table ≡ track_sectors) ×
-    ((l : ℕ) → l < l.remainder → get_or l.table l 0 ≡ side_place_byte (l / block_sectors) (l % block_sectors))
+    ((m : ℕ) → m < l.remainder → get_or l.table m 0 ≡ side_place_byte (m / block_sectors) (m % block_sectors))
 
 abbrev pub decreases-loop-remainder : goal.decreases-loop-remainder
 decreases-loop-remainder l = track_sectors - l.remainder

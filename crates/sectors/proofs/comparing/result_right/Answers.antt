@@ -12,7 +12,7 @@ header_and_table_right-requires c = c.requires.0
 
 pub returns-then-not-header_and_table_right : goal.returns-then-not-header_and_table_right
 returns-then-not-header_and_table_right c = (
-  sym (result_wrong _ _ _ _ (sym c.header_and_table_right.ensures.0 ∙ not_was _ c.if-not-header_and_table_right.true)),
+  sym (result_wrong _ _ _ _ (sym c.header_and_table_right.ensures.0 ∙ c.if-not-header_and_table_right.true)),
   c.header_and_table_right.ensures.1,
 )
 
@@ -21,7 +21,7 @@ sides_right-requires c = rw c.header_and_table_right.ensures.1 (
   record {
     exchange = c.requires.0;
     after = sound_plain _
-        (sym c.header_and_table_right.ensures.0 ∙ not-false _ c.if-not-header_and_table_right.false);
+        (sym c.header_and_table_right.ensures.0 ∙ c.if-not-header_and_table_right.false);
   },
   c.requires.1,
 )
@@ -29,6 +29,6 @@ sides_right-requires c = rw c.header_and_table_right.ensures.1 (
 pub returns : goal.returns
 returns c = (
   rw c.header_and_table_right.ensures.1 at c.sides_right.ensures.0
-      ∙ sym (result_sectors _ _ _ _ (sym c.header_and_table_right.ensures.0 ∙ not-false _ c.if-not-header_and_table_right.false)),
+      ∙ sym (result_sectors _ _ _ _ (sym c.header_and_table_right.ensures.0 ∙ c.if-not-header_and_table_right.false)),
   c.sides_right.ensures.1 ∙ c.header_and_table_right.ensures.1,
 )

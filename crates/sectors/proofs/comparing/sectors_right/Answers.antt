@@ -40,17 +40,17 @@ sector_right-requires c = rw c.loop-k.invariant.2 (
 pub returns-then-not-sector_right : goal.returns-then-not-sector_right
 returns-then-not-sector_right c = (
   sym (all_false _ _ c.loop-k.k (omega arith)
-      (sym (rw c.loop-k.invariant.2 at c.sector_right_lem.ensures.0) ∙ not_was _ c.if-not-sector_right.true)),
-  c.sector_right_lem.ensures.1 ∙ c.loop-k.invariant.2,
+      (sym (rw c.loop-k.invariant.2 at c.sector_right.ensures.0) ∙ c.if-not-sector_right.true)),
+  c.sector_right.ensures.1 ∙ c.loop-k.invariant.2,
 )
 
 pub loop-k-preserved : goal.loop-k-preserved
 loop-k-preserved c = (
   omega arith,
-  ap length c.sector_right_lem.ensures.1 ∙ c.loop-k.invariant.1,
-  c.sector_right_lem.ensures.1 ∙ c.loop-k.invariant.2,
+  ap length c.sector_right.ensures.1 ∙ c.loop-k.invariant.1,
+  c.sector_right.ensures.1 ∙ c.loop-k.invariant.2,
   λ i h. by_equal i c.loop-k.k
-      (λ e. rw e (sym (rw c.loop-k.invariant.2 at c.sector_right_lem.ensures.0) ∙ not-false _ c.if-not-sector_right.false))
+      (λ e. rw e (sym (rw c.loop-k.invariant.2 at c.sector_right.ensures.0) ∙ c.if-not-sector_right.false))
       (λ e. c.loop-k.invariant.3 i (omega arith)),
 )
 

@@ -21,7 +21,7 @@ side_right-requires c = rw c.loop-n.invariant.2 (c.requires.0, c.requires.1, ome
 pub returns-then-not-side_right : goal.returns-then-not-side_right
 returns-then-not-side_right c = (
   sym (sides_fail _ c.loop-n.n (omega arith)
-      (sym (rw c.loop-n.invariant.2 at c.side_right.ensures.0) ∙ not_was _ c.if-not-side_right.true)),
+      (sym (rw c.loop-n.invariant.2 at c.side_right.ensures.0) ∙ c.if-not-side_right.true)),
   c.side_right.ensures.1 ∙ c.loop-n.invariant.2,
 )
 
@@ -31,7 +31,7 @@ loop-n-preserved c = (
   ap length c.side_right.ensures.1 ∙ c.loop-n.invariant.1,
   c.side_right.ensures.1 ∙ c.loop-n.invariant.2,
   sides_more _ c.loop-n.n c.loop-n.invariant.3
-      (sym (rw c.loop-n.invariant.2 at c.side_right.ensures.0) ∙ not-false _ c.if-not-side_right.false),
+      (sym (rw c.loop-n.invariant.2 at c.side_right.ensures.0) ∙ c.if-not-side_right.false),
 )
 
 pub returns : goal.returns

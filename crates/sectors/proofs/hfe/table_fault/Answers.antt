@@ -16,10 +16,10 @@ loop-t-init c = (omega arith, λ k h. absurd (omega arith))
 
 pub returns-then-not-track_good : goal.returns-then-not-track_good
 unfolding table_fault
-returns-then-not-track_good c = sym (fault_some _ _ _ (omega arith) c.loop-t.invariant.1 (ap not (sym c.track_good.ensures) ∙ c.if-not-track_good.true))
+returns-then-not-track_good c = sym (fault_some _ _ _ (omega arith) c.loop-t.invariant.1 (ap not (sym c.track_good.ensures ∙ c.if-not-track_good.true)))
 
 pub loop-t-preserved : goal.loop-t-preserved
-loop-t-preserved c = (omega arith, below_more _ _ c.loop-t.invariant.1 (ap not (sym c.track_good.ensures) ∙ c.if-not-track_good.false))
+loop-t-preserved c = (omega arith, below_more _ _ c.loop-t.invariant.1 (ap not (sym c.track_good.ensures ∙ c.if-not-track_good.false)))
 
 pub returns : goal.returns
 unfolding table_fault

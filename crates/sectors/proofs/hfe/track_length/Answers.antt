@@ -6,4 +6,4 @@ use Rattle.sectors.proofs.hfe.track_length.Goals as goal
 
 pub returns : goal.returns
 unfolding track_length
-returns c = rw (← c.entry_IsPlace.ensures.0) c.low2.ensures
+returns c = rw (← c.entry_place.ensures.0) c.low2.ensures

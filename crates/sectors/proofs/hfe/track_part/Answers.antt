@@ -9,9 +9,11 @@ use Rattle.sector_rules.specs.Hfe.{track_part, track_start, track_unit_bytes}
 use Rattle.sector_rules.proofs.Laws.Base.Faults.{table_good, track_within}
 use Rattle.sectors.proofs.hfe.track_part.Goals as goal
 
-within : (c : goal.After-track_unit_bytes) →
-    track_start c.args.hfe.now c.args.t + track_unit_bytes c.args.hfe.now c.args.t ≤ length c.args.hfe.now
-within c = track_within _ _ (table_good _ c.requires.1 _ c.requires.0)
+pub slice_bounds-result-end : goal.slice_bounds-result-end
+slice_bounds-result-end c =
+    let w : track_start c.args.hfe.now c.args.t + track_unit_bytes c.args.hfe.now c.args.t ≤ length c.args.hfe.now =
+        track_within _ _ (table_good _ c.requires.1 _ c.requires.0) in
+    omega arith
 
 pub returns : goal.returns
 unfolding track_part

@@ -5,4 +5,4 @@ use mathlib.Core.Path.{◌∙◌}
 use Rattle.sectors.proofs.hfe.track_side.Goals as goal
 
 pub returns : goal.returns
-returns c = c.hfe_side.ensures ∙ rw c.track_length_lem.ensures
+returns c = c.hfe_side.ensures ∙ rw c.track_length.ensures

@@ -8,4 +8,4 @@ use Rattle.sectors.proofs.hfe.track_unit_bytes.Goals as goal
 
 pub returns : goal.returns
 unfolding track_unit_bytes quotient_up
-returns c = (rw (← c.track_length_lem.ensures), omega arith)
+returns c = (rw (← c.track_length.ensures), omega arith)

@@ -18,7 +18,7 @@ pub returns-in-2 : goal.returns-in-2
 returns-in-2 c = sym (table_2 _ c.if-j.true c.in-2.is)
 
 pub returns-in_default : goal.returns-in_default
-returns-in_default c = let e : c.args.j % 4 ≡ 3 = omega (arith, c.in_default.rest.1, c.in_default.rest.0.1, c.in_default.rest.0.0.1) in
+returns-in_default c = let e : c.args.j % 4 ≡ 3 = omega arith in
     sym (table_3 _ c.if-j.true e)
 
 pub returns : goal.returns

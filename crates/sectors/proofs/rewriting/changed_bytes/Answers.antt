@@ -11,21 +11,21 @@ use Rattle.sectors.proofs.rewriting.changed_bytes.Goals as goal
 pub overflow_sub-left : goal.overflow_sub-left
 overflow_sub-left c = let long = side_cells_length c.args.hfe.now c.args.track c.args.head 0
     c.requires.0 in
-    omega (arith, long, c.track_length_lem.ensures, c.requires.3)
+    omega (arith, long, c.track_length.ensures, c.requires.3)
 
 pub returns-then-left-lt-CHANGED : goal.returns-then-left-lt-CHANGED
 returns-then-left-lt-CHANGED c = let e = window_is c.args.hfe.now c.args.track c.args.head c.args.p c.track_start.result
-    (c.track_length_lem.result / 2 - c.args.p / 8) c.track_start.ensures.0
-    (omega (arith, c.track_length_lem.ensures)) in (
+    (c.track_length.result / 2 - c.args.p / 8) c.track_start.ensures.0
+    (omega (arith, c.track_length.ensures)) in (
       e,
       rw e (window_fits _ _ _ _ c.requires.0 c.requires.1 c.requires.2 c.requires.3
-          (rw (sym c.track_start.ensures.0) (omega arith)) (rw (sym c.track_length_lem.ensures) (omega arith))),
+          (rw (sym c.track_start.ensures.0) (omega arith)) (rw (sym c.track_length.ensures) (omega arith))),
     )
 
 pub returns-else-left-lt-CHANGED : goal.returns-else-left-lt-CHANGED
 returns-else-left-lt-CHANGED c = let e = window_is c.args.hfe.now c.args.track c.args.head c.args.p c.track_start.result changed_bytes
-    c.track_start.ensures.0 (omega (arith, c.track_length_lem.ensures)) in (
+    c.track_start.ensures.0 (omega (arith, c.track_length.ensures)) in (
       e,
       rw e (window_fits _ _ _ _ c.requires.0 c.requires.1 c.requires.2 c.requires.3
-          (rw (sym c.track_start.ensures.0) (omega arith)) (rw (sym c.track_length_lem.ensures) (omega arith))),
+          (rw (sym c.track_start.ensures.0) (omega arith)) (rw (sym c.track_length.ensures) (omega arith))),
     )

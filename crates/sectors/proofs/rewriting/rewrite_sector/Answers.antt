@@ -26,7 +26,7 @@ sector_reply-requires c = c.image_sector.ensures.1
 
 pub returns-then-not-has_field : goal.returns-then-not-has_field
 returns-then-not-has_field c = answered_field _ _ _ _ _ c.requires.1 c.requires.2 c.requires.3 c.requires.4 _ c.sector_field-field.ensures.0
-    (sym c.has_field.ensures ∙ not_was _ c.if-not-has_field.true) _ _
+    (sym c.has_field.ensures ∙ c.if-not-has_field.true) _ _
     (rw c.image_sector.ensures.0 at c.sector_reply.ensures) refl
 
 pub write_data-requires : goal.write_data-requires
@@ -41,9 +41,9 @@ write_data-requires c = (
   rw
       c.sector_field-field.ensures.1
       (data_within _ _ _ _ (ap has_field (sym c.sector_field-field.ensures.0) ∙ sym c.has_field.ensures
-      ∙ not-false _ c.if-not-has_field.false)),
+      ∙ c.if-not-has_field.false)),
 )
 
 pub returns : goal.returns
 returns c = answered_written _ _ _ _ _ c.requires.1 c.requires.2 c.requires.3 c.requires.4 _ c.sector_field-field.ensures.0
-    (sym c.has_field.ensures ∙ not-false _ c.if-not-has_field.false) _ _ c.write_data.ensures
+    (sym c.has_field.ensures ∙ c.if-not-has_field.false) _ _ c.write_data.ensures

@@ -39,7 +39,7 @@ result_right-requires c = (record { fits = c.changed_bytes-w.ensures.1; taken = 
 pub returns-then-not-result_right : goal.returns-then-not-result_right
 returns-then-not-result_right c = written_wrong _ _ _ _ _ _ _ _ (window_new_by _ _ _ _ _ _ _ _ c.changed_bytes-w.ensures.0 c.requires.6
     c.new_bytes-new.ensures) (sym (rw c.image_sector-m.ensures.0 at c.result_right.ensures.0)
-    ∙ not_was _ c.if-not-result_right.true) c.refused.ensures c.result_right.ensures.1
+    ∙ c.if-not-result_right.true) c.refused.ensures c.result_right.ensures.1
 
 pub put_bytes-requires : goal.put_bytes-requires
 put_bytes-requires c = rw c.result_right.ensures.1 c.changed_bytes-w.ensures.1
@@ -47,4 +47,4 @@ put_bytes-requires c = rw c.result_right.ensures.1 c.changed_bytes-w.ensures.1
 pub returns : goal.returns
 returns c = written_done _ _ _ _ _ _ _ _ (window_new_by _ _ _ _ _ _ _ _ c.changed_bytes-w.ensures.0 c.requires.6
     c.new_bytes-new.ensures) (sym (rw c.image_sector-m.ensures.0 at c.result_right.ensures.0)
-    ∙ not-false _ c.if-not-result_right.false) c.done.ensures (rw c.result_right.ensures.1 at c.put_bytes.ensures)
+    ∙ c.if-not-result_right.false) c.done.ensures (rw c.result_right.ensures.1 at c.put_bytes.ensures)

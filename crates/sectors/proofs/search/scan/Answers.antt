@@ -10,6 +10,7 @@ use lib.ListN.{length, length-set}
 use Rattle.cells.proofs.Laws.Stream.{from_zero}
 use Rattle.sectors.specs.Laws.Reading.Search.{scan_none, scan_all, scan_no, scan_yes}
 use Rattle.sectors.proofs.search.scan.Goals as goal
+use Rattle.sectors.proofs.search.scan.Goals.{then-k-lt-SECTORS, else-k-lt-SECTORS}
 
 pub loop-i-init : goal.loop-i-init
 loop-i-init c = (omega arith, c.cells_from-places.ensures.0 _ ∙ ap length (from_zero _), refl, scan_none _ _ _)
@@ -18,14 +19,18 @@ pub loop-i-preserved : goal.loop-i-preserved
 loop-i-preserved c = (
   omega arith,
   c.loop-i.invariant.1,
-  ⊎_elim (λ w. rw w.3 (simp length-set c.loop-i.invariant.2)) (λ w. rw w.1 c.loop-i.invariant.2)
-      c.if-k-lt-SECTORS.branch,
-  ⊎_elim (λ w. rw w.3
-      (scan_yes _ _ _ _ _ _ c.header_at.ensures c.sector_index-k.ensures c.loop-i.found c.loop-i.invariant.3 _
-      c.loop-i.invariant.2 w.0.taken w.2.ensures))
-      (λ w. rw w.1
-      (scan_no _ _ _ _ _ _ c.header_at.ensures c.sector_index-k.ensures c.loop-i.found c.loop-i.invariant.3 w.0.left))
-      c.if-k-lt-SECTORS.branch,
+  elim c.if-k-lt-SECTORS.branch [
+    then-k-lt-SECTORS w ↦ rw w.found-is (simp length-set c.loop-i.invariant.2)
+  | else-k-lt-SECTORS w ↦ rw w.found-is c.loop-i.invariant.2
+  ],
+  elim c.if-k-lt-SECTORS.branch [
+    then-k-lt-SECTORS w ↦ rw w.found-is
+        (scan_yes _ _ _ _ _ _ c.header_at.ensures c.sector_index-k.ensures c.loop-i.found c.loop-i.invariant.3 _
+        c.loop-i.invariant.2 w.if-k-lt-SECTORS.true w.more.ensures)
+  | else-k-lt-SECTORS w ↦ rw w.found-is
+        (scan_no _ _ _ _ _ _ c.header_at.ensures c.sector_index-k.ensures c.loop-i.found c.loop-i.invariant.3
+        w.if-k-lt-SECTORS.false)
+  ],
 )
 
 pub returns : goal.returns

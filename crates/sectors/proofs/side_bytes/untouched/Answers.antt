@@ -25,6 +25,6 @@ pub returns : goal.returns
 returns c = λ e.
     record {
       table = c.row_changed.ensures c.if-row_changed.false;
-      entry = rw c.entry_IsPlace.ensures.0 at (c.row_changed-2.ensures c.if-row_changed-2.false);
+      entry = rw c.entry_place.ensures.0 at (c.row_changed-2.ensures c.if-row_changed-2.false);
       apart = rw (c.track_start-start.ensures.0, c.track_unit_bytes.ensures.0) at (c.is_apart.ensures e);
     }
