@@ -1,0 +1,9 @@
+-- `block_word4` meets its contract.
+-- Rests on: the laws in laws::Numbers; the contract of wide.
+-- Assumes nothing.
+use borrow.Author.Rules.{rules}
+use Rattle.laws.specs.Laws.Numbers.{at32_is}
+use Rattle.files.proofs.blocks.block_word4.Goals as goal
+
+pub returns : goal.returns
+returns c = rw at32_is (search rules)

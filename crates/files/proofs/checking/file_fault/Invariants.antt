@@ -1,0 +1,18 @@
+-- `file_fault` meets its contract: the files below f are sound.
+-- Rests on: the laws in Loading/NameHashes, Loading/Parts, Loading/Chains, Loading/Slots and Judging/Sound; the
+-- contracts of file_blocks, load_chains, dir_end and file_right.
+-- Assumes nothing.
+use Rattle.files.specs.Laws.Loading.NameHashes.{HashesNoted}
+use mathlib.Core.Path.{◌≡◌}
+use mathlib.Core.Bool.{false, not}
+use Prim.Native.Nat.{ℕ, ◌-◌, ◌≤◌, ◌<◌}
+use Rattle.file_rules.specs.Sizes.{slot_count}
+use Rattle.file_rules.specs.Disk.{disk_of}
+use Rattle.file_rules.specs.Check.{file_right}
+use Rattle.files.proofs.checking.file_fault.Given as goal
+
+abbrev pub invariant-loop-f : goal.invariant-loop-f
+invariant-loop-f l = (l.f ≤ slot_count) × ((j : ℕ) → j < l.f → not (file_right (disk_of l.image) j) ≡ false) × HashesNoted l.noted (disk_of l.image) l.f
+
+abbrev pub decreases-loop-f : goal.decreases-loop-f
+decreases-loop-f l = slot_count - l.f

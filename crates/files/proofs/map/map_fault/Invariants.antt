@@ -1,0 +1,16 @@
+-- `map_fault` meets its contract: no record below b passes.
+-- Rests on: the laws in Loading/Loaded and laws::Lowest; the contracts of map_record and record_fault.
+-- Assumes nothing.
+use mathlib.Core.Path.{◌≡◌}
+use mathlib.Core.Bool.{false}
+use Prim.Native.Nat.{ℕ, ◌-◌, ◌≤◌, ◌<◌}
+use Rattle.sector_rules.specs.Geometry.{blocks}
+use Rattle.file_rules.specs.Check.{record_fault}
+use Rattle.files.specs.Laws.Loading.Loaded.{loaded_record}
+use Rattle.files.proofs.map.map_fault.Given as goal
+
+abbrev pub invariant-loop-b : goal.invariant-loop-b
+invariant-loop-b l = (l.b ≤ blocks) × ((j : ℕ) → j < l.b → record_fault j (loaded_record l.map j) ≡ false)
+
+abbrev pub decreases-loop-b : goal.decreases-loop-b
+decreases-loop-b l = blocks - l.b

@@ -1,0 +1,8 @@
+-- `encoded_record` meets its contract.
+-- Rests on: the laws in Loading/Records; the contract of number_of.
+-- Assumes nothing.
+use Rattle.files.specs.Laws.Loading.Records.{record_row}
+use Rattle.files.proofs.records.encoded_record.Goals as goal
+
+pub returns : goal.returns
+returns c = record_row _ _ c.number_of-n.ensures

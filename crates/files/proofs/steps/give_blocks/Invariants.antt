@@ -1,0 +1,21 @@
+-- `give_blocks` meets its contract: the walk has given the free blocks below b, as long as there are not enough; the records from b on are as they were.
+-- Rests on: the laws in Loading/Loaded, Writing/Steps, Writing/Given, Writing/InStep and laws::Tests; the
+-- contracts of map_record, is_free and give_block.
+-- Assumes nothing.
+use mathlib.Core.Path.{◌≡◌}
+use Prim.Native.Nat.{ℕ, ◌-◌, ◌≤◌, ◌<◌}
+use Rattle.sector_rules.specs.Geometry.{blocks}
+use Rattle.file_rules.specs.Disk.{disk_of}
+use Rattle.file_rules.specs.Map.{record_at}
+use Rattle.files.specs.Laws.Loading.Loaded.{loaded_record}
+use Rattle.files.specs.Laws.Writing.Steps.{stored_row}
+use Rattle.files.specs.Laws.Writing.Given.{Walked}
+use Rattle.files.specs.Laws.Writing.InStep.{InStep}
+use Rattle.files.proofs.steps.give_blocks.Given as goal
+
+abbrev pub invariant-loop-b : goal.invariant-loop-b
+invariant-loop-b l = (l.b ≤ blocks) × InStep l.map l.image × ((j : ℕ) → l.b ≤ j → j < blocks → loaded_record l.map j ≡ record_at (disk_of l.initial.image) j) ×
+    Walked (disk_of l.initial.image) l.f (stored_row l.head l.content) l.s l.n l.b l.given l.image
+
+abbrev pub decreases-loop-b : goal.decreases-loop-b
+decreases-loop-b l = blocks - l.b

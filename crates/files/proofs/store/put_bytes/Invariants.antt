@@ -1,0 +1,17 @@
+-- `put_bytes` meets its contract: the first i bytes are written.
+-- Rests on: the laws in Writing/Stored and Writing/Rows; the contracts of run_length and put_run.
+-- Assumes nothing.
+use mathlib.Core.Path.{◌≡◌}
+use Prim.Native.Nat.{ℕ, ◌-◌, ◌≤◌}
+use lib.ListN.{length, get_or}
+use Rattle.sector_rules.specs.Geometry.{image_bytes}
+use Rattle.files.specs.Laws.Writing.Stored.{patched}
+use Rattle.file_rules.specs.Disk.{disk_of, image_of}
+use Rattle.files.proofs.store.put_bytes.Given as goal
+
+abbrev pub invariant-loop-i : goal.invariant-loop-i
+invariant-loop-i l = (l.i ≤ length l.src) × (length l.image ≡ image_bytes) ×
+    (l.image ≡ image_of (patched (disk_of l.initial.image) l.b l.o l.i (λ (k : ℕ). get_or l.src k 0)))
+
+abbrev pub decreases-loop-i : goal.decreases-loop-i
+decreases-loop-i l = length l.src - l.i
