@@ -13,7 +13,7 @@ use Rattle.cells.proofs.Laws.Bits.{follows_zero, zero_follows, row_bit_lem, row_
 use Rattle.cells.proofs.Laws.Chance.{fillings}
 use Rattle.cells.proofs.Laws.Caught.{bytes_caught, wrong_none}
 
--- detectable-caught: two lists of bytes that each end with their CRC and whose bits differ detectably are the same list
+-- detectable_caught: two lists of bytes that each end with their CRC and whose bits differ detectably are the same list
 pub detectable_caught : (xs ys : List ℕ) (n : ℕ) → EndsWithCrc xs n → EndsWithCrc ys n → Detectable (row_bit xs) (row_bit ys) (8 * (n + 2)) → xs ≡ ys
 detectable_caught xs ys n s t d =
     ext_get_or 0 xs ys (s.long ∙ sym t.long)
@@ -24,16 +24,16 @@ detectable_caught xs ys n s t d =
 
 -- its three cases
 module _ (xs ys : List ℕ) (n : ℕ) (s : EndsWithCrc xs n) (t : EndsWithCrc ys n) where
-  -- burst-caught: their bits differ among 16 neighbouring ones alone
+  -- burst_caught: their bits differ among 16 neighbouring ones alone
   pub burst_caught : (a : ℕ) → ((i : ℕ) → i < 8 * (n + 2) → i < a → row_bit xs i ≡ row_bit ys i)
       → ((i : ℕ) → i < 8 * (n + 2) → a + burst_bits ≤ i → row_bit xs i ≡ row_bit ys i) → xs ≡ ys
   burst_caught a before after = detectable_caught xs ys n s t (burst a before after)
 
-  -- three-caught: their bits, 4,144 at most, differ at three places at most
+  -- three_caught: their bits, 4,144 at most, differ at three places at most
   pub three_caught : 8 * (n + 2) ≤ longest_row → wrong_bits (row_bit xs) (row_bit ys) (8 * (n + 2)) ≤ few_bits → xs ≡ ys
   three_caught l d = detectable_caught xs ys n s t (few l d)
 
-  -- odd-caught: their bits never differ at an odd number of places
+  -- odd_caught: their bits never differ at an odd number of places
   pub odd_caught : wrong_bits (row_bit xs) (row_bit ys) (8 * (n + 2)) % 2 ≡ 1 → ⊥
   odd_caught d =
       let e : xs ≡ ys = detectable_caught xs ys n s t (odd d) in
@@ -41,7 +41,7 @@ module _ (xs ys : List ℕ) (n : ℕ) (s : EndsWithCrc xs n) (t : EndsWithCrc ys
       wrong_none (row_bit xs) (row_bit ys) (8 * (n + 2)) (λ i h. ap (λ (l : List ℕ). row_bit l i) e) in
       omega arith
 
--- crc-zero: bytes are followed by their CRC exactly if the register is 0 after all bits, the CRC's 16 among them
+-- crc_zero: bytes are followed by their CRC exactly if the register is 0 after all bits, the CRC's 16 among them
 pub crc_zero : (xs : List ℕ) (n : ℕ) → ((q : ℕ) → get_or xs q 0 < 256)
     → crc_follows (λ (q : ℕ). get_or xs q 0) n ≡ true ↔ register crc_start (row_bit xs) (8 * n + 16) ≡ 0
 crc_zero xs n b = (
@@ -49,13 +49,13 @@ crc_zero xs n b = (
   zero_follows (row_bit xs) (λ (q : ℕ). get_or xs q 0) (row_bit_lem xs) n (λ q h. row_spelled xs q (b q)),
 )
 
--- one-in-65536: 16 neighbouring bits and some more are replaced in each of the 2 ^ more * 65,536 ways that there are, and no other bit. Of all these rows at
+-- one_in_65536: 16 neighbouring bits and some more are replaced in each of the 2 ^ more * 65,536 ways that there are, and no other bit. Of all these rows at
 -- most 2 ^ more are followed by their CRC
 pub one_in_65536 : (g : ℕ → ℕ) → ((i : ℕ) → g i < 2) → (n a more : ℕ) → a + (more + 16) ≤ 8 * (n + 2)
     → count (2 ^ more * 65536) (λ (x : ℕ). crc_follows (bits_byte (filled g a (more + 16) x)) n) ≤ 2 ^ more
 one_in_65536 g bit n a more h = fillings g bit n a more h
 
--- seventeen-pass: 16 neighbouring bits and three wrong bits are the limits. These two lists end with their CRC, and one bit more than three, all among one
+-- seventeen_pass: 16 neighbouring bits and three wrong bits are the limits. These two lists end with their CRC, and one bit more than three, all among one
 -- more than 16, is wrong: from bit 7 on, at the places of the polynomial's four terms
 pub seventeen_pass : EndsWithCrc (0x00 ∷ 0xE1 ∷ 0xF0 ∷ []) 1 × EndsWithCrc (0x01 ∷ 0xF1 ∷ 0xD1 ∷ []) 1
     × (wrong_bits (row_bit (0x00 ∷ 0xE1 ∷ 0xF0 ∷ [])) (row_bit (0x01 ∷ 0xF1 ∷ 0xD1 ∷ [])) 7 ≡ 0)

@@ -4,20 +4,20 @@
 
 -- ---- wrong bits: two lists of bytes that each end with their CRC
 
--- detectable-caught: they are the same where their bits differ detectably; by its three cases, among 16 neighbouring bits alone, at three places at most of up
+-- detectable_caught: they are the same where their bits differ detectably; by its three cases, among 16 neighbouring bits alone, at three places at most of up
 -- to 4,144, at an odd number of places
 pub use Rattle.cells.proofs.Caught.{detectable_caught, burst_caught, three_caught, odd_caught}
--- crc-zero: bytes are followed by their CRC exactly if the register is 0 after all bits, the CRC's own among them
+-- crc_zero: bytes are followed by their CRC exactly if the register is 0 after all bits, the CRC's own among them
 pub use Rattle.cells.proofs.Caught.{crc_zero}
--- one-in-65536: where 16 or more neighbouring bits are replaced in all ways, at most one way in 65,536 is followed by its CRC
+-- one_in_65536: where 16 or more neighbouring bits are replaced in all ways, at most one way in 65,536 is followed by its CRC
 pub use Rattle.cells.proofs.Caught.{one_in_65536}
--- seventeen-pass: four wrong bits among 17 can pass
+-- seventeen_pass: four wrong bits among 17 can pass
 pub use Rattle.cells.proofs.Caught.{seventeen_pass}
 -- ---- codes among the bytes of a side (CodeValues.antt)
 
--- code-values: codes and counts as they are stored, what bytes with codes give, and wrong codes with their places, by value
+-- code_values: codes and counts as they are stored, what bytes with codes give, and wrong codes with their places, by value
 pub use Rattle.cells.proofs.Laws.CodeValues.{code_values}
--- code-steps: what each code, with the bytes that belong to it, and each byte of data gives, whatever follows
+-- code_steps: what each code, with the bytes that belong to it, and each byte of data gives, whatever follows
 pub use Rattle.cells.proofs.Laws.CodeSteps.{code_steps}
 -- what the statements here cite
 use Rattle.std.specs.Prelude.{[], ◌∷◌, ◌≡◌, refl, true, ℕ, ◌*◌, ◌/◌, ◌<◌}
@@ -39,15 +39,15 @@ use Rattle.cells.proofs.Laws.Triple.{triple_at}
 
 -- any row of n items
 module _ (items : ℕ → Item) (n : ℕ) where
-  -- byte-back: the byte that was written at item q is read there
+  -- byte_back: the byte that was written at item q is read there
   pub byte_back : (q : ℕ) → q < n → item_byte (items q) < 256 → data_byte (from (written items n) (16 * q)) 0 ≡ item_byte (items q)
   byte_back q h hx = byte_from (written items n) (16 * q) 0 ∙ ap (data_byte (written items n)) (add-zero (16 * q)) ∙ byte_at items n q h hx
 
-  -- sync-back: a sync mark that was written is found there
+  -- sync_back: a sync mark that was written is found there
   pub sync_back : (q : ℕ) → q < n → items q ≡ Sync → sync_at (from (written items n) (16 * q)) 0 ≡ true
   sync_back q h e = sync_from (written items n) (16 * q) 0 ∙ ap (sync_at (written items n)) (add-zero (16 * q)) ∙ sync_here items n q h e
 
-  -- triple-only: where three sync bytes are found, at any cell place of either parity, three sync marks were written
+  -- triple_only: where three sync bytes are found, at any cell place of either parity, three sync marks were written
   pub triple_only : (i : ℕ) → three_sync (from (written items n) i) ≡ true → (i ≡ 16 * (i / 16)) × Triple items (i / 16)
   triple_only i t =
       triple_at items n i

@@ -1,5 +1,5 @@
--- code-values: codes and counts as they are stored, the cells that bytes with codes give, and wrong codes, by value (§2.7, §2.8, §2.9).
--- code-steps: the same code by code, whatever the bytes are. Together they leave no other reading of a side's bytes: how codes and counts are read is computed
+-- code_values: codes and counts as they are stored, the cells that bytes with codes give, and wrong codes, by value (§2.7, §2.8, §2.9).
+-- code_steps: the same code by code, whatever the bytes are. Together they leave no other reading of a side's bytes: how codes and counts are read is computed
 -- for all 256 bytes, and the cells of a byte are those that a version 1 side has of it.
 -- Assumes nothing: these are definitions. The proofs are `code_values` in Laws/CodeValues.antt and `code_steps` in Laws/CodeSteps.antt.
 use Rattle.std.specs.Prelude.{false, List, [], ◌∷◌, ◌++◌, map, ◌≡◌, ℕ, ◌+◌, ◌*◌, ◌/◌, ◌%◌, ◌≤◌, ◌<◌, eqb, drop}

@@ -1,6 +1,6 @@
 -- The cells of a side, and the bytes and words that are read from them (docs/RULES.md, sections 2 and 3).
 -- Assumes nothing: these are definitions.
-use Rattle.std.specs.Prelude.{List, ℕ, zero, suc, ◌+◌, ◌-◌, ◌*◌, ◌/◌, ◌%◌, ◌^◌, get_or, drop}
+use Rattle.std.specs.Prelude.{List, ℕ, zero, suc, ◌+◌, ◌*◌, ◌/◌, ◌%◌, ◌^◌, get_or, drop}
 use Rattle.laws.specs.Lists.{tab}
 use Rattle.cells.specs.declared.Side.{Side}
 

@@ -13,7 +13,7 @@ item_byte (Plain x) = x
 item_byte Sync = 0xA1
 item_byte Index = 0xC2
 
--- which of the 16 cells of an item is a clock cell that is left out, so that the marks have the cells 4489 and 5224 (sync-cells, index-cells in
+-- which of the 16 cells of an item is a clock cell that is left out, so that the marks have the cells 4489 and 5224 (sync_cells, index_cells in
 -- Theorems); 16, so none, for a plain byte (§3.5)
 abbrev pub left_out : Item → ℕ
 left_out (Plain x) = 16

@@ -13,12 +13,12 @@ use Rattle.file_rules.specs.Map.{decode, number_of, encode}
 use Rattle.file_rules.specs.Sizes.{slot_bytes, record_bytes}
 use Rattle.file_rules.specs.Values.{entry_row}
 
--- values-to-check: the definition gives the image sector of each row, and the record is that of file 2A5, sequence 013 (hex)
+-- values_to_check: the definition gives the image sector of each row, and the record is that of file 2A5, sequence 013 (hex)
 pub values_to_check : (defined_sectors placements ≡ table_sectors placements) × (decode (high_first (0x2A ∷ 0x50 ∷ 0x13 ∷ []) 0 record_bytes) ≡ File 0x2A5 0x013)
 unfolding decode high_first big_endian element_at
 values_to_check = (placement_values, refl)
 
--- record-values: a record of each kind by its three bytes, as it is read, free with three tails, bad, and of no kind beside them, and as it is written
+-- record_values: a record of each kind by its three bytes, as it is read, free with three tails, bad, and of no kind beside them, and as it is written
 pub record_values :
     (decode (high_first (0xFD ∷ 0xFF ∷ 0xFF ∷ []) 0 record_bytes) ≡ Free)
     × (decode (high_first (0xF8 ∷ 0x00 ∷ 0x00 ∷ []) 0 record_bytes) ≡ System)
@@ -40,7 +40,7 @@ pub record_values :
 unfolding decode encode number_of high_first high_byte big_endian element_at tab
 record_values = (refl, refl, refl, refl, refl, refl, refl, refl, refl, refl, refl, refl, refl, refl, refl, refl, refl)
 
--- entry-values: as it is written, and as it is read
+-- entry_values: as it is written, and as it is read
 pub entry_values :
     (tab (entry_byte (entry_for (0x61 ∷ 0x62 ∷ []) 0x01020304 256)) slot_bytes ≡ entry_row)
     × (entry_of (λ (i : ℕ). get_or entry_row i 0) ≡ entry_for (0x61 ∷ 0x62 ∷ []) 0x01020304 256)

@@ -1,4 +1,4 @@
--- bad-blocks (§6.9 §6.18 §7.9 §7.26 §8.4): which records are bad, what 8, 9 and 19 say of them and of the good word, what a format makes of its list, and what
+-- bad_blocks (§6.9 §6.18 §7.9 §7.26 §8.4): which records are bad, what 8, 9 and 19 say of them and of the good word, what a format makes of its list, and what
 -- the calls leave of bad blocks. Of every image, and not only of those that histories leave, where it does not say otherwise.
 -- Assumes nothing: these are definitions. The proof is `bad_blocks` in Laws/Theorem/BadBlocks.antt.
 use Rattle.std.specs.Prelude.{◌≡◌, ◌≢◌, Bool, true, false, cond, not, ◌&&◌, List, [], ◌∷◌, ◌++◌, ℕ, ◌+◌, ◌*◌, ◌/◌, ◌≤◌, ◌<◌, leb, eqb, length, take}
@@ -54,7 +54,7 @@ pub record AnswersAs (image : List ℕ) (r : Reply) : Type 0 where
   pub add_answers : (name : List ℕ) (date : ℕ) (content : List ℕ) → (add image name date content).answer ≡ r
   pub remove_answers : (name : List ℕ) → (remove image name).answer ≡ r
 
--- bad-blocks (§6.9 §6.18 §7.8 §7.9 §7.26 §8.4 §8.12 §8.13)
+-- bad_blocks (§6.9 §6.18 §7.8 §7.9 §7.26 §8.4 §8.12 §8.13)
 pub record BadBlocks : Type 0 where
   -- ---- records and the good word
   -- a record is bad if and only if it is FE FF FF

@@ -1,5 +1,5 @@
--- batch-is-calls (docs/PROMISES.md; §8.19): a batch gives the reply and the image of the single calls of its items, made in turn until one is refused, for
--- every image, every list and any disk. Beside it stands what is judged before any item is tried. What the single calls are says calls-made (History.antt).
+-- batch_is_calls (docs/PROMISES.md; §8.19): a batch gives the reply and the image of the single calls of its items, made in turn until one is refused, for
+-- every image, every list and any disk. Beside it stands what is judged before any item is tried. What the single calls are says calls_made (History.antt).
 -- Assumes nothing: these are definitions. The proof is `batch_is_calls` in Laws/Theorem/BatchIsCalls.antt.
 use Rattle.std.specs.Prelude.{◌≡◌, ◌≢◌, ◌⊎◌, List, [], ◌∷◌, ◌++◌, ℕ, suc, length}
 use Rattle.sector_rules.specs.Geometry.{image_bytes}
@@ -43,7 +43,7 @@ pub record FirstRefused (image : List ℕ) (xs : List Item) : Type 0 where
   pub before_done : AllDoneOn image before
   pub refused : Refuses (reply_after image before item)
 
--- batch-is-calls: the reply and every byte of the image (§8.19)
+-- batch_is_calls: the reply and every byte of the image (§8.19)
 pub record BatchIsCalls : Type 0 where
   -- 1 comes first, whatever the list is; nothing changes (§7.1)
   pub other_length : (image list : List ℕ) → length image ≢ image_bytes → batch image list ≡ record { answer = reply_with 1 2 0 0; image = image }

@@ -1,9 +1,8 @@
--- check-values: the places that 9 and 10 name (§7.9, §7.10), and when 19 is given (§7.26), by value: what the check says of a formatted disk of which one
+-- check_values: the places that 9 and 10 name (§7.9, §7.10), and when 19 is given (§7.26), by value: what the check says of a formatted disk of which one
 -- record of the map, or the good word, is another, and of a disk with two spellings of one name.
 -- Assumes nothing: these are definitions. The proof is `check_values` in Laws/Values/CheckValues.antt.
-use Rattle.std.specs.Prelude.{true, List, [], ◌∷◌, ◌≡◌, ℕ, ◌≤◌, ◌<◌, length, set}
+use Rattle.std.specs.Prelude.{true, List, [], ◌∷◌, ◌≡◌, ℕ, ◌≤◌, length, set}
 use Rattle.std.proofs.Math.Option.{none, some}
-use Rattle.std.proofs.Common.{◌∙◌}
 use Rattle.laws.specs.Changes.{upd}
 use Rattle.sector_rules.specs.Geometry.{image_bytes}
 use Rattle.sector_rules.specs.Replies.{reply_with}
@@ -48,7 +47,7 @@ unfoldable pub two_files : FormatArguments → List ℕ → List ℕ → Model
 two_files args a b =
     record { arguments = args; updates = 2; peak = 2; slots = upd (upd (λ (k : ℕ). none) 1 (some (empty_file a 2))) 2 (some (empty_file b 3)); dir = 1 ∷ [] }
 
--- check-values (§7.9 §7.10 §7.21 §7.26)
+-- check_values (§7.9 §7.10 §7.21 §7.26)
 pub record CheckValues : Type 0 where
   -- records are judged so on every disk that is formatted without bad blocks
   pub records_judged : (old title : List ℕ) (number : ℕ) → length old ≡ image_bytes → length title ≤ title_most

@@ -1,7 +1,6 @@
 -- The judgement of track 0 alone: 1, 8, 9, 19 and 11, and three counts (docs/RULES.md, section 8).
 -- Assumes nothing: these are definitions.
 use Rattle.std.specs.Prelude.{cond, not, List, ℕ, eqb, length}
-use Rattle.std.proofs.Math.Option.{Option, none, some}
 use Rattle.laws.specs.Below.{count}
 use Rattle.laws.specs.Numbers.{at16}
 use Rattle.laws.specs.Options.{or_else}

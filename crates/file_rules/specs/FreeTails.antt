@@ -1,7 +1,7 @@
--- free-tails and tails-unread (§6.9): a record is free by its first byte, FD; the two bytes after it, its tail, may be anything.
--- free-tails: what is counted as free, what 9 and 15 say of it, what add and remove write into records and free word, which records and free blocks they leave
+-- free_tails and tails_unread (§6.9): a record is free by its first byte, FD; the two bytes after it, its tail, may be anything.
+-- free_tails: what is counted as free, what 9 and 15 say of it, what add and remove write into records and free word, which records and free blocks they leave
 -- byte for byte, tails among them; and that no history makes another tail than FF FF.
--- tails-unread: no answer depends on a tail. Disks that differ at most in tails of free records get the same answers, and differ at most in tails afterwards.
+-- tails_unread: no answer depends on a tail. Disks that differ at most in tails of free records get the same answers, and differ at most in tails afterwards.
 -- Assumes nothing: these are definitions. The proofs are `free_tails` in Laws/Theorem/FreeTails.antt and `tails_unread` in TailsUnread.antt there.
 use Rattle.std.specs.Prelude.{◌≡◌, ◌≢◌, Bool, true, false, cond, ◌&&◌, List, ℕ, suc, ◌-◌, ◌*◌, ◌/◌, ◌%◌, ◌≤◌, ◌<◌, leb, eqb, length, take}
 use Rattle.std.proofs.Math.Option.{none}
@@ -61,7 +61,7 @@ taken_record d k r = cond (takes_block d k) (cond (eqb r 0) (File 0 (k / 24)) (F
 
 -- ---- what is promised: free by the first byte, and records that stay
 
--- free-tails (§6.4 §6.9 §7.9 §7.11 §7.15 §8.10 §8.11 §8.12 §8.13 §8.14)
+-- free_tails (§6.4 §6.9 §7.9 §7.11 §7.15 §8.10 §8.11 §8.12 §8.13 §8.14)
 pub record FreeTails : Type 0 where
   -- a record is free if and only if its first byte is FD
   pub first_byte : (d : Disk) (b : ℕ) → InBytes d b → free_at d b ≡ eqb (record_byte d b 0) 0xFD
@@ -141,7 +141,7 @@ pub record ChangedAlike (x y : ImageChanged) : Type 0 where
   pub answers : x.answer ≡ y.answer
   pub images : ImagesSameButTails x.image y.image
 
--- tails-unread: what each call gives of two such images, and leaves of them (§6.9)
+-- tails_unread: what each call gives of two such images, and leaves of them (§6.9)
 pub record TailsUnread : Type 0 where
   pub check_alike : (x y : List ℕ) → ImagesSameButTails x y → check x ≡ check y
   pub list_alike : (x y buffer : List ℕ) → ImagesSameButTails x y → list x buffer ≡ list y buffer

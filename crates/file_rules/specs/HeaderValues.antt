@@ -1,12 +1,10 @@
--- disk-header-values: the 96 header bytes of a formatted disk (§6.1 to §6.7, §6.18),
+-- disk_header_values: the 96 header bytes of a formatted disk (§6.1 to §6.7, §6.18),
 -- and what the check says of an image in whose header one byte is one more or one less (§7.8).
 -- Computed, so that each number of the header and each offset that 8 names is stated twice: in the definitions by rule, here by value.
 -- Assumes nothing: these are definitions. The proof is `disk_header_values` in Laws/Values/HeaderValues.antt.
-use Rattle.std.specs.Prelude.{true, List, [], ◌∷◌, ◌++◌, ◌≡◌, ◌≢◌, ℕ, ◌+◌, ◌-◌, ◌*◌, ◌/◌, ◌%◌, ◌≤◌, ◌<◌, length, set, take, drop, replicate}
-use Rattle.std.proofs.Common.{◌∙◌}
+use Rattle.std.specs.Prelude.{true, List, [], ◌∷◌, ◌++◌, ◌≡◌, ◌≢◌, ℕ, ◌+◌, ◌≤◌, length, set, take, drop, replicate}
 use Rattle.laws.specs.Lists.{tab}
-use Rattle.sector_rules.specs.declared.Fault.{Fault}
-use Rattle.sector_rules.specs.Geometry.{blocks, image_bytes}
+use Rattle.sector_rules.specs.Geometry.{image_bytes}
 use Rattle.sector_rules.specs.HeaderValues.{place_named, one_more, one_less, changed_at, changed_from}
 use Rattle.sector_rules.specs.Replies.{reply_with, done, refusal}
 use Rattle.file_rules.specs.Arguments.{FormatArguments, arguments_of, listed, EachCanBeBad}

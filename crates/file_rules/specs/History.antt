@@ -1,5 +1,5 @@
 -- history (docs/PROMISES.md; docs/RULES.md, section 9): one statement, for every format that is accepted, whatever the image held, and every list of calls.
--- Beside it history-check: the check passes after every history; calls-made: what the calls of a history are; and every-byte: blocks and offsets reach every
+-- Beside it history_check: the check passes after every history; calls_made: what the calls of a history are; and every_byte: blocks and offsets reach every
 -- byte of an image.
 -- Assumes nothing: these are definitions. The proofs are `history`, `history_check`, `calls_made` and `every_byte` in Laws/Theorem/History.antt.
 use Rattle.std.specs.Prelude.{◌≡◌, true, cond, List, [], ℕ, suc, ◌+◌, ◌*◌, ◌/◌, ◌%◌, ◌≤◌, ◌<◌, max, leb, length, get_or}
@@ -65,7 +65,7 @@ pub record Holds (args : FormatArguments) (calls : List Call)
       (leb (different_blocks args.bad + (dir_blocks (max most (suc (length files))) + (blocks_of_files files + blocks_for (length x.content)))) usable)
       done (refusal 15)
   -- every byte outside header, map, directory slots of present files and those files is zero (§9.8). Blocks and offsets reach every byte of the image: its byte
-  -- i is the disk's byte at block `block_of i`, offset `offset_of i` (EveryByte, below; the law image-disk says it of whole images)
+  -- i is the disk's byte at block `block_of i`, offset `offset_of i` (EveryByte, below; the law image_disk says it of whole images)
   pub zero_else : (b o : ℕ) → (Belongs (disk_of image) files b o → ⊥) → disk_of image b o ≡ 0
 
 -- the image after the format, with which a history begins (§9.1)
@@ -83,13 +83,13 @@ EveryHistory =
     (files_left [] calls (image_outs (formatted old args) calls))
     (most_present [] calls (image_outs (formatted old args) calls))
 
--- history-check: after every history check accepts the image, so that nothing is found that it judges (§9.5)
+-- history_check: after every history check accepts the image, so that nothing is found that it judges (§9.5)
 abbrev pub HistoryCheck : Type 0
 HistoryCheck =
     (old : List ℕ) (args : FormatArguments) (calls : List Call) → length old ≡ image_bytes → length args.title ≤ title_most → EachCanBeBad args.bad
     → check (image_end (formatted old args) calls) ≡ done
 
--- calls-made: each call of a history is the call of its name in Calls.antt and Batch.antt, for any image: reply, buffer and the image after it (§9.1)
+-- calls_made: each call of a history is the call of its name in Calls.antt and Batch.antt, for any image: reply, buffer and the image after it (§9.1)
 pub record CallsMade : Type 0 where
   pub made_add : (image : List ℕ) (x : NamedFile)
       → (image_out image (to_add x) ≡ record { answer = (add image x.name x.date x.content).answer; buffer = [] })
@@ -101,7 +101,7 @@ pub record CallsMade : Type 0 where
   pub made_batch : (image items : List ℕ) → (image_out image (to_batch items) ≡ record { answer = (batch image items).answer; buffer = [] })
       × (image_step image (to_batch items) ≡ (batch image items).image)
 
--- every-byte: byte i of an image is the byte of its disk at the block and offset that i belongs to (§1.3 §1.6)
+-- every_byte: byte i of an image is the byte of its disk at the block and offset that i belongs to (§1.3 §1.6)
 abbrev pub EveryByte : Type 0
 EveryByte =
     (image : List ℕ) (i : ℕ) → i < image_bytes

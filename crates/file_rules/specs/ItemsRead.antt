@@ -1,6 +1,6 @@
--- items-read (§7.27, §8.18): what the bytes of a batch's list are read as. They are read as items exactly where they are the bytes of these items one after the
+-- items_read (§7.27, §8.18): what the bytes of a batch's list are read as. They are read as items exactly where they are the bytes of these items one after the
 -- other. Any other list begins with the bytes of some items, or of none, and then come bytes that no item begins: there stands the wrong item.
--- item-values: lists by their bytes, and what they are read as.
+-- item_values: lists by their bytes, and what they are read as.
 -- Assumes nothing: these are definitions. The proofs are `items_read` in Laws/Theorem/ItemsRead.antt and `item_values` in Laws/Base/ItemValues.antt.
 use Rattle.std.specs.Prelude.{◌≡◌, ◌≢◌, List, [], ◌∷◌, ◌++◌, ℕ, suc, ◌^◌, ◌≤◌, ◌<◌, length, get_or, take, replicate}
 use Rattle.laws.specs.Lists.{tab}
@@ -42,7 +42,7 @@ NoItemFirst rest = (x : Item) (more : List ℕ) → CanBeListed x → rest ≡ i
 
 -- ---- what is promised
 
--- items-read, for any number of items and bytes (§7.27 §8.18)
+-- items_read, for any number of items and bytes (§7.27 §8.18)
 pub record ItemsRead : Type 0 where
   -- the bytes of items are read as these items
   pub read_back : (xs : List Item) → EachCanBeListed xs → read_items (list_bytes xs) ≡ Items xs
@@ -73,7 +73,7 @@ add_front = 0x02 ∷ 0x01 ∷ 0x63 ∷ 0x00 ∷ 0x00 ∷ 0x00 ∷ 0x00 ∷ []
 unfoldable pub file_c : ℕ → List ℕ → NamedFile
 file_c date content = record { name = 0x63 ∷ []; date = date; content = content }
 
--- item-values (§7.27 §8.18)
+-- item_values (§7.27 §8.18)
 pub record ItemValues : Type 0 where
   -- a remove and an add, and the other way round, as they are read and as they are written
   pub remove_add : read_items (remove_ab ++ add_c) ≡ Items (removing (0x61 ∷ 0x62 ∷ []) ∷ adding (file_c 0x01020304 (0xD1 ∷ 0xD2 ∷ 0xD3 ∷ [])) ∷ [])

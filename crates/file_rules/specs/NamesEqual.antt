@@ -1,4 +1,4 @@
--- names-equal (§6.14): when two names are equal, that this is an equivalence, and which bytes are read as others.
+-- names_equal (§6.14): when two names are equal, that this is an equivalence, and which bytes are read as others.
 -- Calls, model and history share the equality; this says what it is.
 -- Assumes nothing: these are definitions. The proof is `names_equal` in Laws/Base/Names.antt.
 use Rattle.std.specs.Prelude.{◌≡◌, true, false, List, [], ◌∷◌, ◌++◌, ℕ, ◌+◌, ◌<◌, length, get_or}
@@ -31,7 +31,7 @@ reel_other = 0x52 ∷ 0x65 ∷ 0x65 ∷ 0x6C ∷ 0x7F ∷ 0x6F ∷ 0x6E ∷ 0x65
 abbrev pub AgreeLowered : List ℕ → List ℕ → Type 0
 AgreeLowered a b = (length a ≡ length b) × ((i : ℕ) → i < length a → lowered (get_or a i 0) ≡ lowered (get_or b i 0))
 
--- names-equal, for lists of any length and any numbers (§6.14)
+-- names_equal, for lists of any length and any numbers (§6.14)
 pub record NamesEqual : Type 0 where
   -- names are equal exactly where they agree
   pub equal_agree : (a b : List ℕ) → name_eq a b ≡ true → AgreeLowered a b

@@ -1,7 +1,6 @@
--- first-track-values: judging the first track (§8.14) is judging the image that it begins by 8, 9, 19 and 11; and what it gives of a formatted disk, by value.
+-- first_track_values: judging the first track (§8.14) is judging the image that it begins by 8, 9, 19 and 11; and what it gives of a formatted disk, by value.
 -- Assumes nothing: these are definitions. The proof is `first_track_values` in Laws/Values/TrackValues.antt.
-use Rattle.std.specs.Prelude.{◌&&◌, List, [], ◌∷◌, ◌≢◌, ◌≡◌, ℕ, ◌/◌, ◌≤◌, ◌<◌, length, set, take}
-use Rattle.std.proofs.Common.{◌∙◌}
+use Rattle.std.specs.Prelude.{List, [], ◌∷◌, ◌≢◌, ◌≡◌, ℕ, ◌≤◌, length, set, take}
 use Rattle.laws.specs.Options.{or_else}
 use Rattle.sector_rules.specs.Geometry.{image_bytes}
 use Rattle.sector_rules.specs.Replies.{reply_with}

@@ -1,6 +1,6 @@
 -- What is written: the header, whole disks, files, and the single steps of add and remove (docs/RULES.md, sections 6 and 8).
 -- Assumes nothing: these are definitions.
-use Rattle.std.specs.Prelude.{cond, ◌&&◌, List, [], ◌∷◌, ℕ, zero, suc, ◌+◌, ◌-◌, ◌*◌, ◌/◌, ◌%◌, ltb, eqb, length, get_or}
+use Rattle.std.specs.Prelude.{cond, ◌&&◌, List, [], ◌∷◌, ℕ, zero, suc, ◌+◌, ◌-◌, ◌*◌, ◌/◌, ◌%◌, ltb, eqb, get_or}
 use Rattle.laws.specs.Changes.{upd, patch}
 use Rattle.laws.specs.Numbers.{high_byte, at32}
 use Rattle.sector_rules.specs.Geometry.{tracks, sectors, block_sectors, track_offset, track_sectors, all_sectors, blocks, side_place, backward}

@@ -1,13 +1,10 @@
--- hfe-header-values: the bytes of a packed HFE header (§5.4),
+-- hfe_header_values: the bytes of a packed HFE header (§5.4),
 -- and what unpacking says of an image of either version in whose header one byte is one more or one less (§2.2, §2.3, §7.2).
 -- Computed, so that each number of the header and each offset that 2 names is stated twice: in the definitions by rule, here by value.
 -- Assumes nothing: these are definitions. The proof is `hfe_header_values` in Laws/Values/HeaderValues.antt.
-use Rattle.std.specs.Prelude.{cond, List, [], ◌∷◌, ◌++◌, map, ◌≡◌, ℕ, ◌+◌, ◌-◌, ◌%◌, ◌≤◌, ◌<◌, eqb, length, get_or, set, take, drop, replicate}
-use Rattle.std.proofs.Common.{◌∙◌}
+use Rattle.std.specs.Prelude.{cond, List, [], ◌∷◌, ◌++◌, map, ◌≡◌, ℕ, ◌+◌, ◌%◌, ◌≤◌, eqb, length, get_or, set, take, drop, replicate}
 use Rattle.laws.specs.Lists.{tab}
-use Rattle.sector_rules.specs.declared.Fault.{Fault}
 use Rattle.sector_rules.specs.declared.Reply.{Reply}
-use Rattle.sector_rules.specs.declared.Sector.{Sector}
 use Rattle.sector_rules.specs.Geometry.{image_bytes}
 use Rattle.sector_rules.specs.Packed.{hfe_bytes, pack_hfe}
 use Rattle.sector_rules.specs.Unpacked.{unpack_reply}

@@ -5,7 +5,7 @@ use Rattle.laws.specs.Lists.{tab, window}
 use Rattle.laws.specs.Numbers.{high_byte, low_byte}
 use Rattle.cells.specs.Stream.{packed}
 use Rattle.cells.specs.Crc.{crc}
-use Rattle.cells.specs.Written.{written_cell, written}
+use Rattle.cells.specs.Written.{written_cell}
 use Rattle.cells.specs.declared.Item.{Item}
 use Rattle.cells.specs.declared.Item.TheVariants.{Plain, Sync, Index}
 use Rattle.sector_rules.specs.declared.Reply.{Reply}

@@ -1,4 +1,4 @@
--- What is promised of rewriting (docs/PROMISES.md): rewrite-reads, rewrite-packs, side-untouched and rewrite-replies.
+-- What is promised of rewriting (docs/PROMISES.md): rewrite_reads, rewrite_packs, side_untouched and rewrite_replies.
 -- Assumes nothing: these are definitions. The proofs stand in Laws/Rewrite.
 use Rattle.std.specs.Prelude.{true, false, List, ◌≡◌, ◌≢◌, ℕ, ◌+◌, ◌*◌, ◌/◌, ◌%◌, ◌≤◌, ◌<◌, length, get_or, take, drop}
 use Rattle.std.proofs.Math.Option.{none}
@@ -59,14 +59,14 @@ pub record Rewrites (h g : List ℕ) (t s r : ℕ) (d : List ℕ) (p : ℕ) : Ty
       → get_or (side_cells_at g (track_start h t) (track_length h t) s) (p + data_cells) 0
       ≡ clock (bit_before (plain_items (field_row d)) field_items) (get_or (side_stream h t s) (p + data_cells + 1) 0)
 
--- rewrite-reads: where rewrite answers 0, the result reads the data at this sector and at every other sector what was read before, and no cell but those of
+-- rewrite_reads: where rewrite answers 0, the result reads the data at this sector and at every other sector what was read before, and no cell but those of
 -- the data, their CRC and the clock cell after it is changed (§8.16 §8.17)
 abbrev pub RewriteReads : Type 0
 RewriteReads =
     (h : List ℕ) (t s r : ℕ) (d : List ℕ) → (rewrite_reply h t s r d).number ≡ 0
     → Rewrites h (rewrite_hfe h t s r d) t s r d (data_place (side_stream h t s) t s r)
 
--- rewrite-packs: on a packed image every rewrite with right arguments is done, and the result is what pack writes for the block image with that
+-- rewrite_packs: on a packed image every rewrite with right arguments is done, and the result is what pack writes for the block image with that
 -- sector replaced (§8.16 §8.2)
 abbrev pub RewritePacks : Type 0
 RewritePacks =
@@ -75,7 +75,7 @@ RewritePacks =
     → (rewrite_reply (pack_hfe image hfe) t s r d ≡ done)
     × (rewrite_hfe (pack_hfe image hfe) t s r d ≡ pack_hfe (put image (sector_bytes * image_sector_of t s r) d) hfe)
 
--- side-untouched: a side whose table entry says the same in two images of one version, and none of whose bytes differ, has the same cells; what a sector
+-- side_untouched: a side whose table entry says the same in two images of one version, and none of whose bytes differ, has the same cells; what a sector
 -- gives is a function of its side's cells (§2.6 §4.6)
 abbrev pub SideUntouched : Type 0
 SideUntouched =
@@ -102,7 +102,7 @@ pub record FieldPresent : Type 0 where
   pub repeated : has_field Repeated ≡ false
   pub absent : has_field NoField ≡ false
 
--- rewrite-replies: the replies of rewrite in their order, with number and places; 17 exactly where the result does not read as is asked (§8.15 §7.24)
+-- rewrite_replies: the replies of rewrite in their order, with number and places; 17 exactly where the result does not read as is asked (§8.15 §7.24)
 pub record RewriteReplies : Type 0 where
   pub limits : ArgumentLimits
   pub fields : FieldPresent

@@ -1,4 +1,4 @@
--- round-trip (docs/PROMISES.md): for every block image, what packing gives is accepted by unpacking, and gives the image back.
+-- round_trip (docs/PROMISES.md): for every block image, what packing gives is accepted by unpacking, and gives the image back.
 -- Assumes nothing: these are definitions. The proof is `round_trip` in Laws/Trip/RoundTrip.antt.
 use Rattle.std.specs.Prelude.{List, ◌≡◌, ℕ, ◌<◌, length, get_or}
 use Rattle.sector_rules.specs.Replies.{done}

@@ -2,7 +2,6 @@
 -- The statements on them stand in proofs/Values.antt.
 -- Assumes nothing.
 use Rattle.std.specs.Prelude.{List, [], ◌∷◌, map, ℕ, ◌+◌, ◌*◌, ◌/◌, ◌%◌}
-use Rattle.laws.specs.Below.{all}
 use Rattle.sector_rules.specs.Geometry.{running, to_image_sector}
 
 -- ---- the two tables

@@ -1,5 +1,5 @@
--- What is promised of the two versions of HFE images (docs/PROMISES.md): version-letters, version-3-plain, version-1-cells, version-3-cells, sectors-read and
--- code-replies.
+-- What is promised of the two versions of HFE images (docs/PROMISES.md): version_letters, version_3_plain, version_1_cells, version_3_cells, sectors_read and
+-- code_replies.
 -- Assumes nothing: these are definitions. The proofs stand in Laws/Versions.
 use Rattle.std.specs.Prelude.{true, false, List, [], ◌∷◌, ◌≡◌, ◌≢◌, ℕ, ◌+◌, ◌*◌, ◌/◌, ◌≤◌, ◌<◌, length, get_or}
 use Rattle.std.proofs.Math.Option.{none}
@@ -24,7 +24,7 @@ use Rattle.sector_rules.specs.Rewritten.{rewrite_arguments, rewrite_reply}
 abbrev pub letters_of : List ℕ → List ℕ
 letters_of h = tab (byte_at h) 8
 
--- version-letters: eight letters decide of which version an image is; others are refused with 2 at 0, by unpack and by rewrite, which takes version 1 alone
+-- version_letters: eight letters decide of which version an image is; others are refused with 2 at 0, by unpack and by rewrite, which takes version 1 alone
 -- and judges its other fields as unpack does (§2.2 §7.2 §8.15)
 pub record VersionLetters : Type 0 where
   -- HXCPICFE
@@ -57,7 +57,7 @@ SideWithoutCodes h t s = (b : ℕ) → b < track_length h t / 2 → is_code (sid
 pub record WithoutCodes (h : List ℕ) : Type 0 where
   pub each : (t s : ℕ) → t < tracks → s < sides → SideWithoutCodes h t s
 
--- version-3-plain: where no byte of a version 3 image's sides reads as a code, its reply and its block image are those of the image in which the letters
+-- version_3_plain: where no byte of a version 3 image's sides reads as a code, its reply and its block image are those of the image in which the letters
 -- of version 1 replace its own; tracks may lie anywhere, over the letters too (§2.2 §2.8)
 abbrev pub Version3Plain : Type 0
 Version3Plain =
@@ -65,13 +65,13 @@ Version3Plain =
     → ((n : ℕ) → unpack_reply h n ≡ unpack_reply (put h 0 hfe_signature) n)
     × ((image : List ℕ) → unpack_image h image ≡ unpack_image (put h 0 hfe_signature) image)
 
--- version-1-cells: in a version 1 image the cells of a side are all that its bytes store, and no code is wrong (§2.6 §2.7)
+-- version_1_cells: in a version 1 image the cells of a side are all that its bytes store, and no code is wrong (§2.6 §2.7)
 abbrev pub Version1Cells : Type 0
 Version1Cells =
     (h : List ℕ) → is_version1 h ≡ true
     → ((t s : ℕ) → side_stream h t s ≡ stream (track_part h t) (hfe_side s (track_length h t))) × (first_code_refusal h ≡ none)
 
--- version-3-cells: in a version 3 image the cells of a side are what its bytes give (§2.6 §2.8)
+-- version_3_cells: in a version 3 image the cells of a side are what its bytes give (§2.6 §2.8)
 pub record Version3Cells : Type 0 where
   -- of a side half the track's length of bytes is read, as codes and data
   pub bytes : (h : List ℕ) (t s : ℕ) → coded_side h t s ≡ coded (tab (side_byte_at h t s) (track_length h t / 2))
@@ -91,7 +91,7 @@ side_cells_of h m = side_stream h (track_of m) (side_of m)
 abbrev pub sector_read : List ℕ → ℕ → Sector
 sector_read h m = sector_of (side_cells_of h m) (track_of m) (side_of m) (r_of m)
 
--- sectors-read: in an image of either version the cells of its sides decide what its sectors give, the first bad one decides the reply for the sectors, and
+-- sectors_read: in an image of either version the cells of its sides decide what its sectors give, the first bad one decides the reply for the sectors, and
 -- where unpack is done the block image has the bytes of all (§4.6 §7.18 §8.1)
 pub record SectorsRead : Type 0 where
   -- the first bad sector gives its reply
@@ -114,7 +114,7 @@ pub record Version3Sound (h : List ℕ) : Type 0 where
   pub header : hfe_header_fault h ≡ Sound
   pub table : table_fault h ≡ Sound
 
--- code-replies: 18 after 3 and before 4 to 7, whatever the sectors give, and in version 3 alone (§7.25)
+-- code_replies: 18 after 3 and before 4 to 7, whatever the sectors give, and in version 3 alone (§7.25)
 pub record CodeReplies : Type 0 where
   -- a wrong header and then a wrong table come first, in either version
   pub header : (h : List ℕ) (o : ℕ) → 1024 ≤ length h → hfe_header_fault h ≡ At o → unpack_reply h image_bytes ≡ reply_with 2 o 0 0

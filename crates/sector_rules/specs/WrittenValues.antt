@@ -1,8 +1,7 @@
--- written-values: by value, the items of a written side beside headers and data (§5.1, §5.2): its beginning and end, the parts of a sector; and, of a packed
+-- written_values: by value, the items of a written side beside headers and data (§5.1, §5.2): its beginning and end, the parts of a sector; and, of a packed
 -- image, the track table (§5.3) and the bytes that no track uses (§5.5).
 -- Assumes nothing: these are definitions. The proof is `written_values` in Laws/Values/WrittenValues.antt.
-use Rattle.std.specs.Prelude.{List, [], ◌∷◌, ◌++◌, ◌≡◌, ℕ, ◌+◌, ◌-◌, ◌≤◌, length, replicate}
-use Rattle.std.proofs.Common.{◌∙◌}
+use Rattle.std.specs.Prelude.{List, [], ◌∷◌, ◌++◌, ◌≡◌, ℕ, ◌+◌, ◌-◌, length, replicate}
 use Rattle.laws.specs.Lists.{tab, window}
 use Rattle.cells.specs.declared.Item.{Item}
 use Rattle.cells.specs.declared.Item.TheVariants.{Plain, Sync, Index}

@@ -88,7 +88,7 @@ dropped_cut_step k n =
     (λ h. over_step k n [] h)
     (λ h. counted k n [] (Partial k (reversed_bits n)) (count_right k (k + 1) n (reversed_bits n) refl h))
 
--- code-steps: all of these hold
+-- code_steps: all of these hold
 pub code_steps : CodeSteps
 unfolding tab byte_place cell_at stream byte_cells cells_before coded_from at_end coded
 code_steps =

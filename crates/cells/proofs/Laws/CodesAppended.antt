@@ -12,7 +12,6 @@ use Rattle.std.proofs.Math.Pow.{high, low, field, mod-mod-pow}
 use Rattle.laws.specs.Lists.{tab}
 use Rattle.laws.specs.Laws.Cases.{by_order}
 use Rattle.laws.specs.Laws.Tab.{tab_length, tab_in, tab_ext, take_tab, eq_tab}
-use Rattle.cells.specs.declared.Side.{Side}
 use Rattle.cells.specs.Stream.{byte_place, cell_at, stream}
 use Rattle.cells.specs.Codes.{byte_cells}
 use Rattle.cells.proofs.Laws.Stream.{stream_length}

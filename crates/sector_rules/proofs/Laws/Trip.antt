@@ -1,4 +1,4 @@
--- Stage 2: round-trip. A written side is read back, then whole images.
+-- Stage 2: round_trip. A written side is read back, then whole images.
 pub mod SideTrip
 pub mod FieldTrip
 pub mod RoundTrip

@@ -2,7 +2,6 @@
 -- Rests on: the laws in Codes; the contracts of side_byte, append_given, expected_after, cells_at_end and buffer_side.
 -- Assumes nothing.
 use mathlib.Core.Path.{refl, sym, ap, ◌∙◌}
-use Prim.Native.Nat.{◌-◌}
 use native.Mathlib.Omega.{arith}
 use Rattle.laws.specs.Lists.{tab}
 use Rattle.laws.specs.Laws.Tests.{lt_true, lt_false, cond_true, cond_false}

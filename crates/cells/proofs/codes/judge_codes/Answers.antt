@@ -2,7 +2,6 @@
 -- Rests on: the laws in Codes; the contracts of side_byte, expected_after and wrong_at_end.
 -- Assumes nothing.
 use mathlib.Core.Path.{refl, sym, ◌∙◌}
-use Prim.Native.Nat.{◌-◌}
 use native.Mathlib.Omega.{arith}
 use Rattle.cells.specs.Codes.{coded}
 use Rattle.cells.proofs.Laws.Codes.{wrong_next, wrong_end}

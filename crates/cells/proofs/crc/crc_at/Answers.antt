@@ -2,7 +2,6 @@
 -- Rests on: the laws in Crc; the contracts of row_byte and crc_byte.
 -- Assumes nothing.
 use mathlib.Core.Path.{◌≡◌}
-use Prim.Native.Nat.{◌-◌}
 use native.Mathlib.Omega.{arith}
 use Rattle.cells.proofs.Laws.Crc.{crc_none, crc_more}
 use Rattle.cells.proofs.crc.crc_at.Goals as goal

@@ -2,7 +2,6 @@
 -- Rests on: the laws in Crc; the contract of crc_bit.
 -- Assumes nothing.
 use mathlib.Core.Path.{ap, ◌∙◌}
-use Prim.Native.Nat.{◌-◌}
 use native.Mathlib.Omega.{arith}
 use borrow.Author.Rules.{rules}
 use Rattle.cells.specs.Crc.{crc_bits}

@@ -2,7 +2,7 @@
 -- Rests on: the laws in Number, Mfm and laws::Tab; the contract of item_cell.
 -- Assumes nothing.
 use mathlib.Core.Path.{ap, ◌∙◌}
-use Prim.Native.Nat.{◌-◌, ◌^◌, ◌<◌}
+use Prim.Native.Nat.{◌^◌, ◌<◌}
 use native.Mathlib.Omega.{arith}
 use native.Mathlib.Nat.{one-mul, zero-add}
 use borrow.Author.Rules.{rules}

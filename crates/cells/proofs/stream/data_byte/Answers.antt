@@ -2,7 +2,7 @@
 -- Rests on: the laws in Stream and Number; the contracts of cells_from and cell_from.
 -- Assumes nothing.
 use mathlib.Core.Path.{sym, ap, ◌∙◌}
-use Prim.Native.Nat.{◌-◌, ◌<◌}
+use Prim.Native.Nat.{◌<◌}
 use native.Mathlib.Omega.{arith}
 use borrow.Author.Rules.{rules}
 use Rattle.cells.specs.Stream.{number, data_byte}

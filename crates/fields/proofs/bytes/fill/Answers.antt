@@ -2,7 +2,6 @@
 -- Rests on: the laws in laws::Overlay; the contract of room.
 -- Assumes nothing.
 use mathlib.Core.Path.{refl}
-use Prim.Native.Nat.{◌-◌}
 use native.Mathlib.Omega.{arith}
 use lib.ListN.{length-set}
 use Rattle.laws.specs.Laws.Overlay.{overlay_done, overlay_none, overlay_more}

@@ -2,7 +2,6 @@
 -- Rests on: the laws in laws::Same.
 -- Assumes nothing.
 use mathlib.Core.Path.{sym}
-use Prim.Native.Nat.{◌-◌}
 use native.Mathlib.Omega.{arith}
 use borrow.Author.Count.{below_more}
 use Rattle.laws.specs.Laws.Same.{stands_past, stands_all, stands_not}

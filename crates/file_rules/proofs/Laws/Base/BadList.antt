@@ -3,8 +3,8 @@
 use Rattle.std.specs.Prelude.{◌≡◌, refl, Bool, true, false, ◌&&◌, ◌||◌, List, [], ◌∷◌, ℕ, suc, ◌+◌, ◌≤◌, ◌<◌, leb, ltb, eqb}
 use Rattle.std.proofs.Common.{sym, ap, ◌∙◌, arith}
 use Rattle.laws.specs.Below.{count}
-use Rattle.laws.specs.Laws.Cases.{by_order, by_equal, by_test}
-use Rattle.laws.specs.Laws.Tests.{lt_true, lt_false, le_true, le_false, eq_true, eq_false, true_lt, true_le, true_eq, true≢false, cond_true, cond_false}
+use Rattle.laws.specs.Laws.Cases.{by_test}
+use Rattle.laws.specs.Laws.Tests.{lt_true, le_true, eq_true, true_lt, true_le, true_eq, true≢false, cond_true, cond_false}
 use Rattle.laws.specs.Laws.Tests.{and_true, and_false_left, and_false_right, and_left, and_right, or_left, or_right, or_other}
 use Rattle.laws.specs.Laws.Count.{count_cong, count_none, count_one, count_or, count_le}
 use Rattle.sector_rules.specs.Geometry.{blocks}

@@ -8,7 +8,6 @@ use Prim.Native.Nat.{ℕ, zero, suc, ◌+◌, ◌≤◌}
 use Rattle.std.proofs.lemmas.Bool.{not-false}
 use Rattle.laws.specs.Below.{all, count, sum}
 use Rattle.laws.specs.Numbers.{quotient_up}
-use Rattle.laws.specs.Options.{or_else}
 use Rattle.laws.specs.Laws.Cases.{by_order, by_test}
 use Rattle.laws.specs.Laws.Tests.{lt_true, eq_false, true_eq, cond_true, and_right, and_false_right}
 use Rattle.laws.specs.Laws.All.{all_at}
@@ -20,7 +19,7 @@ use Rattle.sector_rules.specs.Faults.{fault_below, refusal_at}
 use Rattle.sector_rules.specs.Geometry.{blocks}
 use Rattle.file_rules.specs.declared.Record.{Record}
 use Rattle.file_rules.specs.declared.Record.TheVariants.{Free, Bad, System, File, Other}
-use Rattle.file_rules.specs.Check.{parts_right, file_right, file_fault, refusal8, refusal9, refusal10, refusal11, disk_refusal}
+use Rattle.file_rules.specs.Check.{parts_right, file_right, file_fault, refusal10, disk_refusal}
 use Rattle.file_rules.specs.Directory.{dir_bytes, dir_end}
 use Rattle.file_rules.specs.Disk.{Disk}
 use Rattle.file_rules.proofs.Laws.Base.Sound.{sound_ten}

@@ -1,4 +1,4 @@
--- How the bytes of a batch's list are read, by value (§7.27, §8.18): the proof of item-values (ItemsRead.antt).
+-- How the bytes of a batch's list are read, by value (§7.27, §8.18): the proof of item_values (ItemsRead.antt).
 -- Rests on computation alone. It stands before the laws that open the definitions, so that a wrong one is refused by a value first.
 use Rattle.std.specs.Prelude.{refl}
 use Rattle.laws.specs.Lists.{tab, element_at}
@@ -8,7 +8,7 @@ use Rattle.file_rules.specs.Items.{item_before, items_from, read_items}
 use Rattle.file_rules.specs.ItemsRead.{item_bytes, list_bytes}
 use Rattle.file_rules.specs.ItemsRead.{remove_ab, add_c, add_front, file_c, ItemValues}
 
--- item-values: lists written out in bytes, and what they are read as
+-- item_values: lists written out in bytes, and what they are read as
 pub item_values : ItemValues
 unfolding read_items items_from item_before item_right item_size first_item item_name is_remove is_add name_length name_end item_date data_length data_start
     high_first big_endian element_at tab high_byte item_bytes list_bytes remove_ab add_c add_front file_c

@@ -1,4 +1,4 @@
--- Names (§6.14, §6.15): the proof of names-equal (NamesEqual.antt), and the model accepts those that the calls accept.
+-- Names (§6.14, §6.15): the proof of names_equal (NamesEqual.antt), and the model accepts those that the calls accept.
 -- No other law unfolds the equality, but for values that are computed (Values/CheckValues); and only what reads names byte by byte (files, Loading) uses
 -- more than that it is an equivalence.
 -- Rests on the equality of lists (laws, Same).
@@ -65,7 +65,7 @@ name_sym a b e = compared_equal b a (sym (as_compared a b e))
 pub name_trans : (a b c : List ℕ) → name_eq a b ≡ true → name_eq b c ≡ true → name_eq a c ≡ true
 name_trans a b c e f = compared_equal a c (as_compared a b e ∙ as_compared b c f)
 
--- names-equal: when names are equal, that this is an equivalence, and which bytes are read as others
+-- names_equal: when names are equal, that this is an equivalence, and which bytes are read as others
 pub names_equal : NamesEqual
 names_equal =
     record {

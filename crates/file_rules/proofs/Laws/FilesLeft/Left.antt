@@ -9,7 +9,6 @@ use mathlib.Core.List.{List, [], ◌∷◌, ◌++◌}
 use Rattle.std.proofs.Math.Option.{some}
 use Prim.Native.Nat.{ℕ, zero, suc, ◌+◌, ◌-◌, ◌≤◌, ◌<◌, max}
 use Rattle.std.proofs.Math.ListN.{length}
-use Rattle.laws.specs.Lists.{same}
 use Rattle.laws.specs.Laws.Cases.{by_order, by_test, by_cond}
 use Rattle.laws.specs.Laws.Tests.{lt_true, lt_false, true≢false, cond_true, cond_false}
 use Rattle.sector_rules.specs.Replies.{reply_with, done, refusal}

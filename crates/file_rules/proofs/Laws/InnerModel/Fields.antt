@@ -1,6 +1,6 @@
 -- What stands in a map record and in an entry, and how many blocks a file has.
 -- Rests on the laws of numbers in bytes (laws, Numbers).
-use Rattle.std.specs.Prelude.{◌≡◌, refl, ◌≢◌, true, false, eqb, length}
+use Rattle.std.specs.Prelude.{◌≡◌, refl, true, false, eqb, length}
 use Rattle.std.proofs.Math.Path.{ap}
 use Rattle.std.proofs.Common.{ap₂, ◌∙◌}
 use mathlib.Core.List.{List}
@@ -21,7 +21,7 @@ use Rattle.file_rules.specs.Directory.{entry_byte, entry_for}
 use Rattle.file_rules.proofs.Laws.InnerModel.Inner.{Inner}
 use Rattle.file_rules.proofs.Laws.InnerModel.Invariant.{parts_of}
 use Rattle.file_rules.specs.Map.{is_part}
-use Rattle.file_rules.specs.Model.{NamedFile, held_blocks, dir_blocks, content}
+use Rattle.file_rules.specs.Model.{NamedFile, held_blocks, dir_blocks}
 use Rattle.file_rules.specs.Sizes.{slot_bytes, name_most, blocks_of}
 use Rattle.file_rules.specs.Written.{blocks_for}
 

@@ -1,6 +1,6 @@
 -- The inner model's disk passes every judgement: 8 (header), 9 (map), 19 (good word), 10 (files), 11 (free word).
 -- Rests on what is read of the disk (Reads).
-use Rattle.std.specs.Prelude.{◌≡◌, ◌≢◌, true, false, cond, ◌&&◌, ℕ, suc, ◌+◌, ◌-◌, ◌≤◌, ◌<◌, ltb}
+use Rattle.std.specs.Prelude.{◌≡◌, true, false, cond, ◌&&◌, ℕ, suc, ◌+◌, ◌≤◌, ◌<◌, ltb}
 use Rattle.std.proofs.Math.Path.{refl, sym, ap, ap₂}
 use Rattle.std.proofs.Common.{◌∙◌, subst, arith}
 use Rattle.std.proofs.Math.Bool.{not}
@@ -32,7 +32,7 @@ use Rattle.file_rules.proofs.Laws.InnerModel.Invariant.{parts_of, Inv}
 use Rattle.file_rules.proofs.Laws.Base.Header.{header_none, header_passes}
 use Rattle.file_rules.proofs.Laws.Base.Records.{Valid}
 use Rattle.file_rules.specs.Map.{record_at, is_system, is_other, bears, is_part, within, free_count, bad_count}
-use Rattle.file_rules.specs.Model.{NamedFile, HeldFile, free_word, content}
+use Rattle.file_rules.specs.Model.{NamedFile, HeldFile, free_word}
 use Rattle.file_rules.specs.Sizes.{slot_bytes, slot_count, name_most, free_sectors, good_sectors, blocks_of}
 use Rattle.file_rules.proofs.Laws.InnerModel.Fields.{is_part_true, true_is_part, parts_some, parts_none, parts_dir}
 use Rattle.file_rules.proofs.Laws.InnerModel.Reads.{rec, head_byte, dir_bytes_is, dir_end_is, word20, word22, free_count_at, bad_count_at, not_zero}

@@ -1,11 +1,11 @@
 -- Disks that differ in tails of free records alone: all that is read of them is the same.
 -- Rests on records in their bytes (Base.Records, OnAnyDisk.Kept), on the header by its bytes (Base.Header) and on block 0 (Base.Sound).
-use Rattle.std.specs.Prelude.{◌≡◌, Bool, ◌&&◌, List, length}
+use Rattle.std.specs.Prelude.{◌≡◌, Bool, ◌&&◌, List}
 use Rattle.std.proofs.Math.Path.{refl, ap, ap₂, fun_ext}
 use Rattle.std.proofs.Common.{sym, ◌∙◌, arith}
 use Rattle.std.proofs.Math.Bool.{not, cond}
 use Rattle.std.proofs.Math.Option.{Option, none, some}
-use Prim.Native.Nat.{ℕ, zero, suc, ◌+◌, ◌-◌, ◌*◌, ◌/◌, ◌%◌, ◌≤◌}
+use Prim.Native.Nat.{ℕ, zero, suc, ◌+◌, ◌*◌, ◌/◌, ◌%◌, ◌≤◌}
 use Rattle.std.proofs.Math.Dec.{ltb, eqb}
 use Rattle.laws.specs.Below.{all, lowest, count}
 use Rattle.laws.specs.Numbers.{at16, at32}

@@ -28,7 +28,7 @@ use Rattle.file_rules.proofs.Laws.InnerModel.Invariant.{parts_of, Owned, Inv}
 use Rattle.file_rules.proofs.Laws.Base.Names.{name_sym}
 use Rattle.file_rules.proofs.Laws.InnerModel.Owners.{owned_cong, give_bad, give_owned, give_count}
 use Rattle.file_rules.specs.Map.{is_bad_record}
-use Rattle.file_rules.specs.Model.{NamedFile, HeldFile, held_blocks, dir_blocks, usable, content, has_name, wrap}
+use Rattle.file_rules.specs.Model.{NamedFile, HeldFile, held_blocks, dir_blocks, usable, has_name, wrap}
 use Rattle.file_rules.specs.Sizes.{name_most}
 use Rattle.file_rules.specs.Written.{blocks_for}
 use Rattle.file_rules.proofs.Laws.OnImages.Slot.{none_blocks, k_le, k_pos, k_none, peak_same, peak_more, filled_blocks, by_growth}

@@ -4,8 +4,8 @@ use Rattle.std.specs.Prelude.{◌≡◌, refl, List, [], ◌∷◌, ℕ, suc, eq
 use Rattle.std.proofs.Common.{sym, ap, ◌∙◌}
 use Rattle.laws.specs.Laws.Cases.{by_test, by_cond}
 use Rattle.laws.specs.Laws.Tests.{eq_true, cond_true, cond_false}
-use Rattle.file_rules.specs.Batch.{item_call, at_item, items_in_turn, batch_of, batch}
-use Rattle.file_rules.specs.Calls.{ImageChanged, image_kept, image_right}
+use Rattle.file_rules.specs.Batch.{items_in_turn, batch_of, batch}
+use Rattle.file_rules.specs.Calls.{image_kept, image_right}
 use Rattle.file_rules.specs.Disk.{image_of}
 use Rattle.file_rules.specs.Items.{Item, ItemList, Items, WrongItem, read_items}
 use Rattle.file_rules.proofs.Laws.Base.Disk.{length_image}

@@ -1,6 +1,6 @@
 -- Blocks given on the disk are given in the inner model; which slot a new file gets, whether the directory takes a block for it, whether there is room.
 -- Rests on what is read of the inner model's disk (InnerModel.Reads) and on a block given on a whole disk (Base.Whole).
-use Rattle.std.specs.Prelude.{◌≡◌, ◌≢◌, Bool, ◌&&◌, List, [], ◌∷◌, leb, ltb, length}
+use Rattle.std.specs.Prelude.{◌≡◌, Bool, ◌&&◌, List, [], ◌∷◌, leb, ltb, length}
 use Rattle.std.proofs.Math.Path.{refl, sym, ap}
 use Rattle.std.proofs.Common.{◌∙◌}
 use Rattle.std.proofs.Math.Bool.{true, false, not, cond}
@@ -29,7 +29,7 @@ use Rattle.file_rules.proofs.Laws.InnerModel.Inner.{Inner, present_count, file_b
 use Rattle.file_rules.proofs.Laws.InnerModel.Invariant.{Inv}
 use Rattle.file_rules.proofs.Laws.Base.Whole.{With, give_block, part_out}
 use Rattle.file_rules.specs.Map.{free_count}
-use Rattle.file_rules.specs.Model.{NamedFile, HeldFile, held_blocks, dir_blocks, usable, content}
+use Rattle.file_rules.specs.Model.{NamedFile, HeldFile, held_blocks, dir_blocks, usable}
 use Rattle.file_rules.specs.Sizes.{block_bytes, block_slots}
 use Rattle.file_rules.specs.Written.{part, blocks_for, set_block, set_record, give_blocks}
 

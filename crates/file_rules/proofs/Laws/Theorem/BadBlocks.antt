@@ -1,12 +1,11 @@
--- bad-blocks (BadBlocks.antt). What 19 says is read off the judgement (Base.Judged); that bad blocks and the header stay is what the steps of the calls leave
+-- bad_blocks (BadBlocks.antt). What 19 says is read off the judgement (Base.Judged); that bad blocks and the header stay is what the steps of the calls leave
 -- (OnAnyDisk: Kept, BlockBytes, HeaderKept, Stays); which records are bad after a history is read off the inner model's disk.
-use Rattle.std.specs.Prelude.{◌≡◌, refl, ◌≢◌, Bool, true, ◌&&◌, ◌||◌, List, [], ◌∷◌, ◌++◌, ℕ, zero, suc, ◌+◌, ◌-◌, ◌*◌, ◌/◌, ◌%◌, ◌≤◌, ◌<◌, leb, ltb, length, take}
+use Rattle.std.specs.Prelude.{◌≡◌, refl, ◌≢◌, Bool, true, ◌&&◌, ◌||◌, List, [], ◌∷◌, ◌++◌, ℕ, zero, suc, ◌+◌, ◌*◌, ◌/◌, ◌%◌, ◌≤◌, ◌<◌, leb, ltb, length, take}
 use Rattle.std.proofs.Math.Path.{sym, ap}
 use Rattle.std.proofs.Common.{◌∙◌, subst, arith}
 use Rattle.std.proofs.Math.Bool.{false, not}
 use Rattle.std.proofs.Math.Option.{Option, none, some}
 use Rattle.std.proofs.Math.Dec.{eqb}
-use Rattle.laws.specs.Below.{count}
 use Rattle.laws.specs.Lists.{bytes_are}
 use Rattle.laws.specs.Numbers.{at16, big_endian, high_byte}
 use Rattle.laws.specs.Options.{or_else}
@@ -17,7 +16,7 @@ use Rattle.laws.specs.Laws.Tests.{eq_true, eq_false, true_eq, false_eq, true≢f
 use Rattle.laws.specs.Laws.Tests.{le_true, le_false, true_lt, false_lt, and_true, and_false_left, and_false_right}
 use Rattle.sector_rules.specs.Faults.{refusal_at}
 use Rattle.sector_rules.specs.Geometry.{blocks, image_bytes}
-use Rattle.sector_rules.specs.Replies.{reply_with, done, refusal}
+use Rattle.sector_rules.specs.Replies.{reply_with, refusal}
 use Rattle.sector_rules.specs.declared.Reply.{Reply}
 use Rattle.file_rules.specs.declared.FirstTrack.{FirstTrack}
 use Rattle.file_rules.specs.declared.Record.{Record}
@@ -58,7 +57,7 @@ use Rattle.file_rules.specs.Map.{file_bound, free_byte, tail_count, system_numbe
 use Rattle.file_rules.specs.Map.{encode, number_at, record_at, bears, is_part, within}
 use Rattle.file_rules.specs.Map.{is_free, is_bad_record, is_system, is_other, free_at, bad_at, bad_count}
 use Rattle.file_rules.specs.Model.{different_blocks, content}
-use Rattle.file_rules.specs.Sizes.{block_bytes, map_start, title_most, good_sectors}
+use Rattle.file_rules.specs.Sizes.{block_bytes, title_most, good_sectors}
 
 -- ---- records and the good word
 
@@ -327,7 +326,7 @@ module _ (image : List ℕ) (o : ℕ) (u : Unwritten o) where
       by_remove image (λ (e : Disk). disk_of image 0 o ≡ e 0 o) on_image refl name
       (λ first. remove_header_kept o u (disk_of image) first (find_name (disk_of image) name))
 
--- bad-blocks: all of this holds
+-- bad_blocks: all of this holds
 pub bad_blocks : BadBlocks
 unfolding refusal8 bears is_part within map_fault
 bad_blocks =

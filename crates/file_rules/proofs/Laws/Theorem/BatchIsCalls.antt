@@ -1,5 +1,5 @@
--- batch-is-calls: by induction on the items, each of which is its single call; a refused one leaves the image (Refusals).
-use Rattle.std.specs.Prelude.{◌≡◌, ◌≢◌, ◌⊎◌, List, [], ◌∷◌, ◌++◌, ℕ, suc, ◌+◌, eqb, length}
+-- batch_is_calls: by induction on the items, each of which is its single call; a refused one leaves the image (Refusals).
+use Rattle.std.specs.Prelude.{◌≡◌, ◌≢◌, ◌⊎◌, List, [], ◌∷◌, ◌++◌, ℕ, suc, ◌+◌, length}
 use Rattle.std.proofs.Math.Path.{refl}
 use Rattle.std.proofs.Common.{sym, ap, ◌∙◌, subst, inl, inr, ⊎_elim, arith}
 use Rattle.laws.specs.Laws.Cases.{by_equal}
@@ -8,8 +8,8 @@ use Rattle.sector_rules.specs.Geometry.{image_bytes}
 use Rattle.sector_rules.specs.Replies.{reply_with, done}
 use Rattle.sector_rules.specs.declared.Reply.{Reply}
 use Rattle.file_rules.specs.Batch.{item_call, at_item, items_in_turn, batch_of, batch}
-use Rattle.file_rules.specs.BatchIsCalls.{call_of, calls_of, AllDone, AllDoneOn, reply_after, FirstRefused, BatchIsCalls}
-use Rattle.file_rules.specs.Calls.{Outcome, ImageChanged, buffer_kept, image_kept, image_right}
+use Rattle.file_rules.specs.BatchIsCalls.{call_of, calls_of, AllDoneOn, reply_after, FirstRefused, BatchIsCalls}
+use Rattle.file_rules.specs.Calls.{ImageChanged, buffer_kept, image_kept, image_right}
 use Rattle.file_rules.specs.Histories.{image_out, image_step, image_outs, image_end}
 use Rattle.file_rules.specs.Items.{Item, removing, adding, ItemList, Items, WrongItem, items_from, read_items}
 use Rattle.file_rules.proofs.Laws.Theorem.Refusals.{add_unchanged, remove_unchanged}

@@ -1,4 +1,4 @@
--- free-tails (FreeTails.antt). What the calls leave of a record is what their steps leave (OnAnyDisk.Kept, Stays). That no history makes another tail is read
+-- free_tails (FreeTails.antt). What the calls leave of a record is what their steps leave (OnAnyDisk.Kept, Stays). That no history makes another tail is read
 -- off the inner model's disk, whose free records are written ones.
 use Rattle.std.specs.Prelude.{◌≡◌, refl, true, cond, ◌&&◌}
 use Rattle.std.proofs.Math.Path.{sym, ap, ap₂, subst}
@@ -29,14 +29,14 @@ use Rattle.file_rules.specs.Check.{record_fault, free_right, disk_refusal}
 use Rattle.file_rules.specs.Directory.{name_right, entry_for, held, dir_end, find_name, vacant_slot}
 use Rattle.file_rules.specs.Disk.{Disk, disk_of, image_of}
 use Rattle.file_rules.specs.FirstTrack.{counted}
-use Rattle.file_rules.specs.FreeTails.{SameRecord, MapInBytes, IsWrittenFree, free_by_first, blocks_taken, taken_record, FreeTails}
+use Rattle.file_rules.specs.FreeTails.{MapInBytes, IsWrittenFree, free_by_first, blocks_taken, taken_record, FreeTails}
 use Rattle.file_rules.specs.Histories.{Call, image_end}
 use Rattle.file_rules.specs.History.{formatted}
 use Rattle.file_rules.proofs.Laws.Base.Disk.{inside_disk, outside_disk}
 use Rattle.file_rules.proofs.Laws.Base.Ends.{end_within}
 use Rattle.file_rules.proofs.Laws.Base.Judged.{check_long, check_passed, nine_wrong, nine_at_zero, word_right, eleven_wrong, track_accepted}
 use Rattle.file_rules.proofs.Laws.Base.Names.{bounds_name}
-use Rattle.file_rules.proofs.Laws.Base.OnSound.{sound_length, sound_refused, sound_passed, by_sound}
+use Rattle.file_rules.proofs.Laws.Base.OnSound.{sound_length, sound_refused, sound_passed}
 use Rattle.file_rules.proofs.Laws.Base.Records.{free_only, free_by_byte, begins_free}
 use Rattle.file_rules.proofs.Laws.Base.Sound.{first_system, NotDone, refused_number}
 use Rattle.file_rules.proofs.Laws.Base.Whole.{with_is, free_is}
@@ -50,7 +50,7 @@ use Rattle.file_rules.proofs.Laws.OnAnyDisk.Stays.{record_image, add_kept, remov
 use Rattle.file_rules.proofs.Laws.OnAnyDisk.Taken.{HasRecord, taken_is, add_gives_record}
 use Rattle.file_rules.proofs.Laws.Theorem.History.{end_is}
 use Rattle.file_rules.specs.Map.{sequences, number_of, encode, record_byte, record_at, is_system, is_other, bears, free_at, free_count}
-use Rattle.file_rules.specs.Sizes.{block_bytes, block_slots, map_start, record_bytes, name_most, title_most, free_sectors}
+use Rattle.file_rules.specs.Sizes.{block_bytes, block_slots, name_most, title_most, free_sectors}
 use Rattle.file_rules.specs.Written.{set_free, step_update}
 
 -- as many free blocks as it takes, said as add asks for them
@@ -243,7 +243,7 @@ module _ (image : List ℕ) where
       (λ t. ap (λ (c : DiskChanged). c.answer) (cond_true _ _ t) ∙ sym (cond_true _ _ (sym room ∙ t)))
       (λ t. ap (λ (c : DiskChanged). c.answer) (cond_false _ _ t) ∙ sym (cond_false _ _ (sym room ∙ t)))
 
--- free-tails: all of this holds
+-- free_tails: all of this holds
 pub free_tails : FreeTails
 free_tails =
     record {

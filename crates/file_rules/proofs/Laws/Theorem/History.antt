@@ -1,4 +1,4 @@
--- history, history-check, calls-made and every_byte. On an image each call does what it does in the inner model (OnImages: runs), which agrees with the model
+-- history, history_check, calls_made and every_byte. On an image each call does what it does in the inner model (OnImages: runs), which agrees with the model
 -- (InModel: agree) and whose slots have the files that the accepted calls leave (FilesLeft: left_is); its invariant (InnerModel: Inv) gives the rest.
 use Rattle.std.specs.Prelude.{◌≡◌, refl, Bool, false, cond, List, [], ◌∷◌, ℕ, suc, ◌+◌, ◌≤◌, ◌<◌, max, ◌%◌, ltb, eqb, get_or}
 use Rattle.std.proofs.Math.Path.{sym, ap, ap₂}

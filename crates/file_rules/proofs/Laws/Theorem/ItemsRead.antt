@@ -1,4 +1,4 @@
--- How the bytes of a batch's list are read (§7.27, §8.18): the proof of items-read (ItemsRead.antt).
+-- How the bytes of a batch's list are read (§7.27, §8.18): the proof of items_read (ItemsRead.antt).
 -- Rests on every list of bytes being cut after its right items (Base/ListedItems).
 use Rattle.std.specs.Prelude.{◌≡◌, refl, ◌≢◌, Bool, true, false, ℕ, suc, length}
 use Rattle.std.proofs.Common.{sym, subst, ◌∙◌, arith}
@@ -85,6 +85,6 @@ only list n b e =
       none_first c.rest c.ends,
     ))
 
--- items-read: which items, or which wrong item, a list's bytes are read as
+-- items_read: which items, or which wrong item, a list's bytes are read as
 pub items_read : ItemsRead
 items_read = record { read_back = back; written_back = written; wrong_read = wrong; wrong_only = only }

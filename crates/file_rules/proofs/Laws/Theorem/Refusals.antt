@@ -1,5 +1,5 @@
--- refusals-keep: a call that is refused changes no lent byte. An add or a remove that is refused on a sound disk leaves the disk, and so the image of it
--- (image-disk); each other refusal gives back what was lent.
+-- refusals_keep: a call that is refused changes no lent byte. An add or a remove that is refused on a sound disk leaves the disk, and so the image of it
+-- (image_disk); each other refusal gives back what was lent.
 -- Rests on calls that judge a disk first (Base.OnSound) and on the disk and its image (Base.Disk).
 use Rattle.std.specs.Prelude.{◌≡◌, refl, Bool, true, false, cond, ◌&&◌, List, [], ◌∷◌, ◌≢◌, ◌⊎◌, ℕ, suc, leb, ltb, eqb, length}
 use Rattle.std.proofs.Common.{sym, ap, ◌∙◌, subst, ⊎_elim, arith}

@@ -1,4 +1,4 @@
--- tails-unread (FreeTails.antt): two block images that differ at most in tails get the same answers. All that is read of their disks is the same
+-- tails_unread (FreeTails.antt): two block images that differ at most in tails get the same answers. All that is read of their disks is the same
 -- (OnAnyDisk.Alike), and adds and removes leave disks that differ at most in tails (OnAnyDisk.Unread).
 use Rattle.std.specs.Prelude.{◌≡◌, ℕ, suc, ◌+◌, ◌*◌, ◌<◌, eqb, take}
 use Rattle.std.proofs.Math.Path.{refl, ap}
@@ -153,7 +153,7 @@ batch_same x y items p =
     by_both ChangedAlike (image_right x) (image_right y) _ _ _ _ (eq_true p.0 ∙ sym (eq_true p.1))
     (λ t. list_alike (read_items items) x y p) (λ t. kept x y p wrong_length)
 
--- tails-unread: all of this holds
+-- tails_unread: all of this holds
 pub tails_unread : TailsUnread
 tails_unread =
     record {

@@ -1,4 +1,4 @@
--- 9 and 10 by value: the proof of check-values (CheckValues.antt).
+-- 9 and 10 by value: the proof of check_values (CheckValues.antt).
 -- Rests on: the laws of the disk in block order (Base/Disk), that a written header passes 8 (Base/Header), and that a format is accepted (OnImages/Run);
 -- all else is computed.
 use Rattle.std.specs.Prelude.{true, ◌≢◌, List, [], ◌≡◌, refl, ℕ, suc, ◌-◌, ◌≤◌, ◌<◌, ltb, set}
@@ -226,7 +226,7 @@ two_files_header : (args : FormatArguments) → disk_header_fault (model_disk (t
 unfolding two_files
 two_files_header args = model_header_lem (two_files args reel_one reel_capitals) (lit< tt)
 
--- check-values: these hold
+-- check_values: these hold
 pub check_values : CheckValues
 check_values =
     record {

@@ -1,6 +1,6 @@
--- The disk header by value: the proof of disk-header-values (HeaderValues.antt).
+-- The disk header by value: the proof of disk_header_values (HeaderValues.antt).
 -- Rests on: that a format is accepted (OnImages/Run), the beginning of block 0 (Base/Disk), disks that are judged alike (Base/Header); all else is computed.
-use Rattle.std.specs.Prelude.{Bool, true, false, cond, ◌&&◌, List, [], ◌∷◌, ◌++◌, ◌≢◌, ◌≡◌, ℕ, ◌+◌, ◌-◌, ◌≤◌, ◌<◌, leb, length, get_or, set, take, drop}
+use Rattle.std.specs.Prelude.{Bool, true, false, cond, ◌&&◌, List, [], ◌∷◌, ◌++◌, ◌≢◌, ◌≡◌, ℕ, ◌+◌, ◌≤◌, ◌<◌, leb, length, get_or, set, take, drop}
 use Rattle.std.proofs.Math.Option.{none, some}
 use Rattle.std.proofs.Math.Path.{refl, ap}
 use Rattle.std.proofs.Common.{sym, ap₂, ◌∙◌, arith, lit≤, length-append}
@@ -150,7 +150,7 @@ short_is : (old : List ℕ) (args : FormatArguments) → length old ≢ image_by
 unfolding format image_right image_kept
 short_is old args n = ap (λ (w : ImageChanged). w.answer) (cond_false _ _ (eq_false {a = length old} {b = image_bytes} n))
 
--- disk-header-values: all of these hold
+-- disk_header_values: all of these hold
 pub disk_header_values : DiskHeaderValues
 unfolding tab disk_header_fault dimensions_fault length_right dir_bytes at16 big_endian bytes_are same disk_signature side_place backward disk_header
     changed_at changed_from one_more one_less

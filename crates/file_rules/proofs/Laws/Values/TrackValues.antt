@@ -1,6 +1,6 @@
--- The first track by value: the proof of first-track-values (TrackValues.antt).
+-- The first track by value: the proof of first_track_values (TrackValues.antt).
 -- Rests on: what the first track is enough for (Base/Track); CheckValues beside it; the laws of the disk in block order (Base/Disk).
-use Rattle.std.specs.Prelude.{List, [], ◌∷◌, ◌≢◌, ◌≡◌, refl, ℕ, ◌-◌, ◌≤◌, ◌<◌, length, set, take}
+use Rattle.std.specs.Prelude.{List, [], ◌∷◌, ◌≢◌, ◌≡◌, refl, ℕ, ◌≤◌, length, set, take}
 use Rattle.std.proofs.Common.{ap, ◌∙◌, arith, lit<, lit≤}
 use Rattle.laws.specs.Below.{lowest, count}
 use Rattle.laws.specs.Changes.{upd, patch}
@@ -87,7 +87,7 @@ made : (old : List ℕ) (args : FormatArguments) → length old ≡ image_bytes 
     → (format old args).image ≡ image_of (format_disk args)
 made old args long short each = ap (λ (w : ImageChanged). w.image) (format_done old args long short each)
 
--- first-track-values: all of these hold
+-- first_track_values: all of these hold
 pub first_track_values : FirstTrackValues
 first_track_values =
     record {

@@ -1,7 +1,6 @@
 -- `end_after` meets its contract.
 -- Rests on: the laws in Calling/Changed; the contract of set_end.
 -- Assumes nothing.
-use Prim.Native.Nat.{◌-◌}
 use Rattle.files.specs.Laws.Calling.Changed.{end_kept, end_grown}
 use Rattle.files.proofs.adding.end_after.Goals as goal
 

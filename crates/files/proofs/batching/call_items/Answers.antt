@@ -2,7 +2,7 @@
 -- Rests on: the laws in Calling/Items; the contracts of call_item, at_item, item_size and sectors::done.
 -- Assumes nothing.
 use mathlib.Core.Path.{refl, sym, ◌∙◌}
-use Prim.Native.Nat.{◌+◌, ◌-◌, ◌≤◌}
+use Prim.Native.Nat.{◌+◌, ◌≤◌}
 use native.Mathlib.Omega.{arith}
 use lib.ListN.{length}
 use Rattle.files.specs.Laws.Calling.Items.{fault_start, right_here, next_within, fault_next}

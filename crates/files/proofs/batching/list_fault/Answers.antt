@@ -2,10 +2,9 @@
 -- Rests on: the laws in Calling/Items; the contracts of item_right and item_size.
 -- Assumes nothing.
 use mathlib.Core.Path.{sym, ◌∙◌}
-use Prim.Native.Nat.{◌+◌, ◌-◌, ◌≤◌}
+use Prim.Native.Nat.{◌+◌, ◌≤◌}
 use native.Mathlib.Omega.{arith}
 use lib.ListN.{length}
-use borrow.Author.Tests.{not-false}
 use Rattle.files.specs.Laws.Calling.Items.{fault_start, fault_end, fault_at, fault_next, next_within}
 use Rattle.files.proofs.batching.list_fault.Goals as goal
 

@@ -1,7 +1,7 @@
 -- `byte_place` meets its contract.
 -- Rests on: the laws in sector_rules::Base/Geometry.
 -- Assumes nothing.
-use Prim.Native.Nat.{◌-◌, ◌<◌}
+use Prim.Native.Nat.{◌<◌}
 use native.Mathlib.Omega.{arith}
 use Rattle.sector_rules.proofs.Laws.Base.Geometry.{image_lt}
 use Rattle.file_rules.specs.Disk.{image_place}

@@ -2,7 +2,6 @@
 -- Rests on: the laws in Writing/Rows and laws::Tests; the contract of byte_place.
 -- Assumes nothing.
 use mathlib.Core.Path.{sym, ◌∙◌}
-use Prim.Native.Nat.{◌-◌}
 use Rattle.laws.specs.Laws.Tests.{lt_true, lt_false, cond_true, cond_false}
 use Rattle.files.specs.Laws.Writing.Rows.{run_place}
 use Rattle.files.proofs.blocks.run_place.Goals as goal

@@ -13,7 +13,7 @@ use Rattle.files.specs.Laws.Judging.Sound.{fault_here, file_fault_none}
 use native.Mathlib.Omega.{arith}
 use mathlib.Core.Path.{refl, sym, ap, ◌∙◌}
 use mathlib.Core.Bool.{not}
-use Prim.Native.Nat.{◌-◌, suc}
+use Prim.Native.Nat.{suc}
 use Rattle.files.proofs.checking.file_fault.Goals as goal
 
 pub file_blocks-requires : goal.file_blocks-requires

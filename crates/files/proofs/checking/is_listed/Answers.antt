@@ -3,7 +3,6 @@
 -- Assumes nothing.
 use mathlib.Core.Path.{sym, ap, ◌∙◌}
 use mathlib.Core.Bool.{Bool, ◌&&◌}
-use Prim.Native.Nat.{◌-◌}
 use Rattle.laws.specs.Laws.Tests.{lt_true, lt_false}
 use Rattle.file_rules.specs.Disk.{disk_of}
 use Rattle.file_rules.specs.Directory.{held}

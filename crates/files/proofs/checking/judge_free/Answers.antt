@@ -5,7 +5,6 @@
 use mathlib.Core.Path.{◌∙◌}
 use Rattle.files.specs.Laws.Loading.Loaded.{free_loaded}
 use Rattle.files.specs.Laws.Judging.Sound.{refused_free, passed_free}
-use Rattle.sectors.proofs.refused.Reads as refused-reads
 use Rattle.files.proofs.checking.judge_free.Goals as goal
 
 pub returns-then-head_word-count_free : goal.returns-then-head_word-count_free

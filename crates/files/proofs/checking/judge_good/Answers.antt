@@ -5,7 +5,6 @@
 use mathlib.Core.Path.{◌∙◌}
 use Rattle.files.specs.Laws.Loading.Loaded.{bad_loaded}
 use Rattle.files.specs.Laws.Judging.Sound.{refused_good, passed_good}
-use Rattle.sectors.proofs.refused.Reads as refused-reads
 use Rattle.files.proofs.checking.judge_good.Goals as goal
 
 pub returns-then-head_word-count_bad : goal.returns-then-head_word-count_bad

@@ -2,7 +2,6 @@
 -- Rests on: the laws in Judging/Sound; the contracts of map_fault and sectors::refused.
 -- Assumes nothing.
 use Rattle.files.specs.Laws.Judging.Sound.{refused_map, passed_map}
-use Rattle.sectors.proofs.refused.Reads as refused-reads
 use Rattle.files.proofs.checking.judge_map.Goals as goal
 
 pub returns-then-b-lt-BLOCKS : goal.returns-then-b-lt-BLOCKS

@@ -2,10 +2,8 @@
 -- Rests on: the laws in Loading/Slots; the contracts of name_length, fields::byte and bytes_agree.
 -- Assumes nothing.
 use mathlib.Core.Path.{sym, ap, ◌∙◌}
-use Prim.Native.Nat.{◌-◌}
 use native.Mathlib.Omega.{arith}
 use borrow.Author.Count.{below_none, below_more}
-use borrow.Author.Tests.{not-true}
 use Rattle.laws.specs.Lists.{element_at}
 use Rattle.laws.specs.Laws.Tests.{eq_true, true_eq, true≢false}
 use Rattle.file_rules.specs.Directory.{lowered}

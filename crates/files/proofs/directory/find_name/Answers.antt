@@ -2,7 +2,6 @@
 -- Rests on: the laws in Loading/Slots; the contracts of dir_end and slot_has_name.
 -- Assumes nothing.
 use mathlib.Core.Path.{sym, ◌∙◌}
-use Prim.Native.Nat.{◌-◌}
 use borrow.Author.Count.{below_none, below_more}
 use Rattle.files.specs.Laws.Loading.Slots.{found_at, found_none}
 use native.Mathlib.Omega.{arith}

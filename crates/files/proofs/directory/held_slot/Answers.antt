@@ -1,7 +1,6 @@
 -- `held_slot` meets its contract.
 -- Rests on: the laws in Loading/Slots; the contracts of slot_place and vacant_at.
 -- Assumes nothing.
-use Prim.Native.Nat.{◌-◌}
 use native.Mathlib.Omega.{arith}
 use Rattle.files.specs.Laws.Loading.Slots.{held_row, held_zero}
 use Rattle.files.proofs.directory.held_slot.Goals as goal

@@ -2,7 +2,6 @@
 -- Rests on: the laws in Loading/Slots and laws::Tab; the contract of fields::byte.
 -- Assumes nothing.
 use mathlib.Core.Path.{refl}
-use Prim.Native.Nat.{◌-◌}
 use native.Mathlib.Omega.{arith}
 use lib.ListN.{length-set}
 use borrow.Author.Count.{below_none}

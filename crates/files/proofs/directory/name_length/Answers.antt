@@ -2,7 +2,6 @@
 -- Rests on: the laws in Loading/Slots; the contract of fields::high2.
 -- Assumes nothing.
 use mathlib.Core.Path.{◌≡◌, ◌∙◌}
-use Prim.Native.Nat.{◌-◌}
 use native.Mathlib.Omega.{arith}
 use Rattle.laws.specs.Lists.{element_at}
 use Rattle.laws.specs.Numbers.{at16}

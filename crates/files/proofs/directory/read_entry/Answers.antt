@@ -1,7 +1,6 @@
 -- `read_entry` meets its contract.
 -- Rests on: the laws in Loading/Slots; the contracts of name_at, fields::high4 and fields::high2.
 -- Assumes nothing.
-use Prim.Native.Nat.{◌-◌}
 use Rattle.files.specs.Laws.Loading.Slots.{entry_read}
 use Rattle.files.proofs.directory.read_entry.Goals as goal
 

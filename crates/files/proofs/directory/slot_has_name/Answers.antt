@@ -1,7 +1,6 @@
 -- `slot_has_name` meets its contract.
 -- Rests on: the laws in Loading/Slots; the contracts of slot_place, entry_has_name and held_slot.
 -- Assumes nothing.
-use Prim.Native.Nat.{◌-◌}
 use Rattle.files.specs.Laws.Loading.Slots.{held_named, not_named}
 use Rattle.files.proofs.directory.slot_has_name.Goals as goal
 

@@ -2,7 +2,6 @@
 -- Rests on: the laws in Loading/Slots; the contracts of dir_end and held_slot.
 -- Assumes nothing.
 use mathlib.Core.Path.{sym, ap, ◌∙◌}
-use Prim.Native.Nat.{◌-◌}
 use lib.Dec.{ltb}
 use borrow.Author.Count.{below_none, below_more}
 use Rattle.files.specs.Laws.Loading.Slots.{vacant_here, vacant_none}

@@ -3,7 +3,6 @@
 -- write_fresh and sectors::done.
 -- Assumes nothing.
 use mathlib.Core.Path.{sym, ◌∙◌}
-use Prim.Native.Nat.{◌-◌}
 use Rattle.files.specs.Laws.Calling.Fresh.{format_length, format_name, format_list, format_accepted}
 use Rattle.files.specs.Laws.Calling.SoundDisk.{wrote_refused, wrote_done}
 use Rattle.files.proofs.formatting.format_bad.Goals as goal

@@ -1,7 +1,6 @@
 -- `fresh_record` meets its contract.
 -- Rests on: the laws in Calling/Fresh.
 -- Assumes nothing.
-use Prim.Native.Nat.{◌-◌}
 use Rattle.files.specs.Laws.Calling.Fresh.{fresh_zero, fresh_one, fresh_bad, fresh_free}
 use Rattle.files.proofs.formatting.fresh_record.Goals as goal
 

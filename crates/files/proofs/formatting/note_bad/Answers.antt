@@ -2,7 +2,6 @@
 -- Rests on: the laws in Loading/Tally and Calling/BadNoted; the contracts of block_number and more.
 -- Assumes nothing.
 use mathlib.Core.Path.{◌≡◌}
-use Prim.Native.Nat.{◌-◌}
 use native.Mathlib.Omega.{arith}
 use lib.ListN.{length}
 use Rattle.files.specs.Laws.Loading.Tally.{tally_more}

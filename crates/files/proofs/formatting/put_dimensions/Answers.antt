@@ -1,7 +1,6 @@
 -- `put_dimensions` meets its contract.
 -- Rests on: the laws in Calling/Fresh; the contract of fields::put_high2.
 -- Assumes nothing.
-use Prim.Native.Nat.{◌-◌}
 use Rattle.files.specs.Laws.Calling.Fresh.{sized_is}
 use Rattle.files.proofs.formatting.put_dimensions.Goals as goal
 

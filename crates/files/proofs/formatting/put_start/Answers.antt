@@ -2,7 +2,6 @@
 -- Rests on: the laws in Calling/Fresh; the contracts of sectors::Geometry::side_place_table and backward_table,
 -- fields::copy_into, fields::put_high4 and fields::put_high2.
 -- Assumes nothing.
-use Prim.Native.Nat.{◌-◌}
 use Rattle.files.specs.Laws.Calling.Fresh.{started_is}
 use Rattle.files.proofs.formatting.put_start.Goals as goal
 

@@ -1,7 +1,6 @@
 -- `put_title` meets its contract.
 -- Rests on: the laws in Calling/Fresh; the contracts of fields::copy_into, fields::fill and fields::put_high2.
 -- Assumes nothing.
-use Prim.Native.Nat.{◌-◌}
 use Rattle.files.specs.Laws.Calling.Fresh.{titled_is}
 use Rattle.file_rules.specs.Check.{disk_signature}
 use Rattle.files.proofs.formatting.put_title.Goals as goal

@@ -3,7 +3,6 @@
 -- header_bytes, fields::fill, put_bytes and write_map.
 -- Assumes nothing.
 use mathlib.Core.Path.{◌∙◌}
-use Prim.Native.Nat.{◌-◌}
 use native.Mathlib.Omega.{arith}
 use Rattle.sector_rules.specs.Geometry.{blocks}
 use Rattle.files.specs.Laws.Loading.Tally.{tally_none}

@@ -2,7 +2,6 @@
 -- Rests on: the laws in Writing/Steps and Calling/Fresh; the contracts of fresh_record and set_record.
 -- Assumes nothing.
 use mathlib.Core.Path.{◌≡◌, sym, ◌∙◌, subst}
-use Prim.Native.Nat.{◌-◌}
 use native.Mathlib.Omega.{arith}
 use Rattle.sector_rules.specs.Geometry.{blocks}
 use Rattle.files.specs.Laws.Writing.Steps.{FitsRecord}

@@ -2,7 +2,6 @@
 -- Rests on: the laws in Loading/Loops; the contract of held_slot.
 -- Assumes nothing.
 use mathlib.Core.Path.{◌≡◌, refl, sym, ◌∙◌}
-use Prim.Native.Nat.{◌-◌}
 use native.Mathlib.Omega.{arith}
 use Rattle.laws.specs.Below.{count}
 use Rattle.file_rules.specs.Disk.{disk_of}

@@ -2,7 +2,7 @@
 -- Rests on: the laws in Calling/Delivered; the contracts of held_slot, slot_place and copy_slot.
 -- Assumes nothing.
 use mathlib.Core.Path.{sym, ap, ◌∙◌}
-use Prim.Native.Nat.{ℕ, ◌+◌, ◌-◌}
+use Prim.Native.Nat.{ℕ, ◌+◌}
 use native.Mathlib.Omega.{arith}
 use Rattle.files.specs.Laws.Calling.Delivered.{put_none, part_vacant, part_held, part_put}
 use Rattle.files.proofs.listing.list_slot.Goals as goal

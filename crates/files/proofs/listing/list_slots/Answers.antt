@@ -2,7 +2,6 @@
 -- Rests on: the laws in Calling/Delivered; the contract of list_slot.
 -- Assumes nothing.
 use mathlib.Core.Path.{◌≡◌, refl, ap, ◌∙◌}
-use Prim.Native.Nat.{◌-◌}
 use native.Mathlib.Omega.{arith}
 use lib.ListN.{length}
 use Rattle.file_rules.specs.Disk.{disk_of}

@@ -2,7 +2,7 @@
 -- Rests on: the laws in Loading/Loaded and Loading/Loops; the contracts of map_record and is_counted.
 -- Assumes nothing.
 use mathlib.Core.Path.{◌≡◌, refl, sym, ap, ◌∙◌}
-use Prim.Native.Nat.{ℕ, ◌-◌}
+use Prim.Native.Nat.{ℕ}
 use native.Mathlib.Omega.{arith}
 use Rattle.laws.specs.Below.{count}
 use Rattle.sector_rules.specs.Geometry.{blocks}

@@ -1,7 +1,6 @@
 -- `load_map` meets its contract: the records below b are loaded.
 -- Rests on: the laws in Loading/Loaded; the contract of load_record.
 -- Assumes nothing.
-use Prim.Native.Nat.{◌-◌}
 use lib.ListN.{length-set}
 use borrow.Author.Count.{below_none}
 use Rattle.file_rules.specs.Disk.{disk_of}

@@ -2,7 +2,6 @@
 -- Rests on: the laws in Loading/Loaded and laws::Lowest; the contracts of map_record and record_fault.
 -- Assumes nothing.
 use mathlib.Core.Path.{sym, ap, ◌∙◌}
-use Prim.Native.Nat.{◌-◌}
 use native.Mathlib.Omega.{arith}
 use borrow.Author.Count.{below_none, below_more}
 use Rattle.laws.specs.Laws.Lowest.{lowest_some, lowest_none}

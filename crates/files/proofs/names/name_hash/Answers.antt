@@ -2,7 +2,6 @@
 -- Rests on: the laws in Loading/NameHashes; the contracts of name_length, fields::byte, lowered_byte and wide.
 -- Assumes nothing.
 use mathlib.Core.Path.{◌≡◌, refl, ap, ◌∙◌}
-use Prim.Native.Nat.{◌-◌}
 use native.Mathlib.Omega.{arith}
 use Rattle.file_rules.specs.Directory.{lowered}
 use Rattle.files.specs.Laws.Loading.NameHashes.{row_hash, hash_more, hash_row}

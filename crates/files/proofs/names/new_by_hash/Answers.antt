@@ -1,7 +1,6 @@
 -- `new_by_hash` meets its contract.
 -- Rests on: the laws in Loading/NameHashes; the contract of new_name.
 -- Assumes nothing.
-use Prim.Native.Nat.{◌-◌}
 use native.Mathlib.Nat.{sub-zero}
 use Rattle.files.specs.Laws.Loading.NameHashes.{new_so}
 use Rattle.files.proofs.names.new_by_hash.Goals as goal

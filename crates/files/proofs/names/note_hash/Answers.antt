@@ -2,11 +2,8 @@
 -- Rests on: the laws in laws::Tests and Loading/NameHashes; the contracts of slot_place and name_hash.
 -- Assumes nothing.
 -- The hash that `name_hash` returned is that of slot k.
-use mathlib.Core.Path.{◌≡◌}
 use Rattle.laws.specs.Laws.Tests.{true_eq}
-use Rattle.file_rules.specs.Disk.{disk_of}
-use Rattle.file_rules.specs.Directory.{slot_name}
-use Rattle.files.specs.Laws.Loading.NameHashes.{name_hash, hash_place, unnoted_new, hashes_more}
+use Rattle.files.specs.Laws.Loading.NameHashes.{hash_place, unnoted_new, hashes_more}
 use Rattle.files.proofs.names.note_hash.Goals as goal
 
 pub returns : goal.returns

@@ -2,7 +2,6 @@
 -- Rests on: the laws in laws::Tests and laws::All.
 -- Assumes nothing.
 use mathlib.Core.Path.{sym}
-use Prim.Native.Nat.{◌-◌}
 use native.Mathlib.Omega.{arith}
 use borrow.Author.Count.{below_none, below_more}
 use Rattle.laws.specs.Laws.Tests.{eq_true, eq_false}

@@ -1,7 +1,6 @@
 -- `more` meets its contract.
 -- Rests on: the laws in Loading/Tally.
 -- Assumes nothing.
-use Prim.Native.Nat.{◌-◌}
 use Rattle.files.specs.Laws.Loading.Tally.{more_none, more_some}
 use Rattle.files.proofs.parts.more.Goals as goal
 

@@ -4,7 +4,7 @@
 -- Assumes nothing.
 use Rattle.files.specs.Laws.Loading.Parts.{from_none}
 use mathlib.Core.Path.{◌≡◌, refl, ap, ◌∙◌}
-use Prim.Native.Nat.{ℕ, ◌-◌, ◌+◌}
+use Prim.Native.Nat.{ℕ, ◌+◌}
 use native.Mathlib.Omega.{arith}
 use lib.ListN.{length}
 use Rattle.laws.specs.Laws.Overlay.{overlay_none, overlay_next, overlay_length}

@@ -3,7 +3,6 @@
 -- sectors::refused, file_blocks, find_name, dir_end and read_slot.
 -- Assumes nothing.
 use mathlib.Core.Path.{sym, ◌∙◌}
-use borrow.Author.Tests.{not-true}
 use Rattle.files.specs.Laws.Loading.Parts.{from_none}
 use Rattle.files.specs.Laws.Loading.Slots.{located_directory}
 use Rattle.files.specs.Laws.Calling.Delivered.{read_misnamed, read_absent, read_present, gave_kept, gave_same}

@@ -1,7 +1,6 @@
 -- `bears_file` meets its contract.
 -- Rests on: the code alone.
 -- Assumes nothing.
-use Prim.Native.Nat.{◌-◌}
 use Rattle.file_rules.specs.Map.{bears}
 use Rattle.files.proofs.records.bears_file.Goals as goal
 

@@ -2,7 +2,6 @@
 -- Rests on: the laws in Writing/Given and Writing/InStep; the contract of free_block.
 -- Assumes nothing.
 use mathlib.Core.Path.{◌≡◌, sym, ◌∙◌}
-use Prim.Native.Nat.{◌-◌}
 use Rattle.sector_rules.specs.Geometry.{blocks}
 use Rattle.files.specs.Laws.Writing.Given.{freed_none, freed_more}
 use native.Mathlib.Omega.{arith}

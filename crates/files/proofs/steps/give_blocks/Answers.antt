@@ -3,7 +3,7 @@
 -- contracts of map_record, is_free and give_block.
 -- Assumes nothing.
 use mathlib.Core.Path.{◌≡◌, refl, sym, ap, ◌∙◌}
-use Prim.Native.Nat.{◌-◌, ◌<◌}
+use Prim.Native.Nat.{◌<◌}
 use lib.Dec.{ltb}
 use Rattle.laws.specs.Laws.Tests.{and_right}
 use Rattle.sector_rules.specs.Geometry.{blocks}

@@ -2,7 +2,6 @@
 -- Rests on: the laws in Writing/Stored, Writing/Steps and Writing/Rows; the contract of put_sector.
 -- Assumes nothing.
 use mathlib.Core.Path.{◌≡◌, ◌∙◌}
-use Prim.Native.Nat.{◌-◌}
 use native.Mathlib.Omega.{arith}
 use Rattle.sector_rules.specs.Geometry.{block_sectors}
 use Rattle.files.specs.Laws.Writing.Stored.{patched_none}

@@ -2,11 +2,7 @@
 -- Rests on: the laws in Writing/Stored and Writing/Rows; the contracts of put_run and stored_sector.
 -- Assumes nothing.
 use mathlib.Core.Path.{◌∙◌}
-use Prim.Native.Nat.{◌+◌, ◌-◌, ◌≤◌}
 use native.Mathlib.Omega.{arith}
-use lib.ListN.{length}
-use Rattle.sector_rules.specs.Geometry.{sector_bytes}
-use Rattle.file_rules.specs.Sizes.{slot_bytes}
 use Rattle.files.specs.Laws.Writing.Stored.{patched_row}
 use Rattle.files.specs.Laws.Writing.Rows.{content_row, content_past, content_within}
 use Rattle.files.proofs.steps.put_sector.Goals as goal

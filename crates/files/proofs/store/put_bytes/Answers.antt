@@ -2,7 +2,6 @@
 -- Rests on: the laws in Writing/Stored and Writing/Rows; the contracts of run_length and put_run.
 -- Assumes nothing.
 use mathlib.Core.Path.{◌≡◌, ◌∙◌}
-use Prim.Native.Nat.{◌-◌}
 use native.Mathlib.Omega.{arith}
 use lib.ListN.{length}
 use Rattle.files.specs.Laws.Writing.Stored.{patched_none}

@@ -2,7 +2,6 @@
 -- Rests on: the laws in Writing/Stored and Writing/Rows; the contracts of run_length and zero_run.
 -- Assumes nothing.
 use mathlib.Core.Path.{◌≡◌, refl, ◌∙◌}
-use Prim.Native.Nat.{◌-◌}
 use native.Mathlib.Omega.{arith}
 use Rattle.files.specs.Laws.Writing.Stored.{patched_none}
 use Rattle.files.specs.Laws.Writing.Rows.{rows_next}

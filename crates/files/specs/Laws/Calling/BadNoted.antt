@@ -9,9 +9,8 @@ use Prim.Native.Nat.{ℕ, zero, suc, ◌+◌, ◌≤◌, ◌<◌}
 use Rattle.std.proofs.Math.ListN.{get_or}
 use Rattle.laws.specs.Below.{all, count}
 use Rattle.laws.specs.Laws.All.{all_at, all_front}
-use Rattle.laws.specs.Laws.Cases.{by_test}
 use Rattle.laws.specs.Laws.Count.{count_cong, count_two_out}
-use Rattle.laws.specs.Laws.Tests.{le_true, le_false, lt_true, lt_false, true_lt, and_true, and_false_left, and_false_right, and_right, cond_true, cond_false}
+use Rattle.laws.specs.Laws.Tests.{le_true, le_false, lt_true, lt_false, true_lt, and_true, and_false_left, and_false_right, and_right}
 use Rattle.sector_rules.specs.Geometry.{blocks}
 use Rattle.file_rules.specs.declared.Record.{Record}
 use Rattle.file_rules.specs.declared.Record.TheVariants.{Free, Bad, System, File}

@@ -3,7 +3,7 @@
 use Rattle.std.specs.Prelude.{◌≡◌, ◌≢◌, List, [], eqb, length}
 use Rattle.std.proofs.Math.Path.{refl, sym, ap}
 use Rattle.std.proofs.Common.{ap₂, ◌∙◌, add-one}
-use Prim.Native.Nat.{ℕ, suc, ◌+◌, ◌-◌, ◌/◌, ◌%◌}
+use Prim.Native.Nat.{ℕ, suc, ◌+◌, ◌/◌, ◌%◌}
 use Rattle.laws.specs.Lists.{tab}
 use Rattle.laws.specs.Laws.Cases.{by_equal}
 use Rattle.laws.specs.Laws.Tests.{eq_true, eq_false, cond_true, cond_false, and_true, and_false_left, and_false_right}

@@ -21,7 +21,6 @@ use Rattle.sector_rules.specs.Replies.{reply_with, refusal}
 use Rattle.sector_rules.specs.declared.Reply.{Reply}
 use Rattle.file_rules.specs.declared.Record.{Record}
 use Rattle.file_rules.specs.declared.Entry.{Entry}
-use Rattle.files.specs.declared.Verdict.{Verdict}
 use Rattle.files.specs.declared.Verdict.TheVariants.{Passed, Refused}
 use Rattle.file_rules.specs.Sizes.{slot_bytes, slot_count, name_most, blocks_of, free_sectors, good_sectors}
 use Rattle.file_rules.specs.Disk.{Disk, disk_of}

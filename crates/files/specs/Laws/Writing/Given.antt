@@ -1,11 +1,11 @@
 -- Blocks given and freed one by one: the lowest free blocks in one walk of the map, and the steps on disks that agree inside their blocks.
 -- Rests on rows and steps (Stored, Steps) and on the lowest numbers that pass (laws, Firsts).
-use Rattle.std.specs.Prelude.{◌≡◌, Bool, not, cond, ◌&&◌, ltb}
+use Rattle.std.specs.Prelude.{◌≡◌, Bool, cond, ◌&&◌, ltb}
 use Rattle.std.proofs.Math.Path.{refl, sym, ap, fun_ext}
 use Rattle.std.proofs.Common.{ap₂, ◌∙◌, add-zero, add-suc, suc-add, zero-add, arith}
 use Rattle.std.proofs.Math.Bool.{true, false}
 use mathlib.Core.List.{List, [], ◌∷◌, ◌++◌}
-use Prim.Native.Nat.{ℕ, zero, suc, ◌+◌, ◌-◌, ◌*◌, ◌/◌, ◌%◌, ◌≤◌, ◌<◌}
+use Prim.Native.Nat.{ℕ, zero, suc, ◌+◌, ◌*◌, ◌/◌, ◌%◌, ◌≤◌, ◌<◌}
 use Rattle.std.proofs.Math.Numerals.{add-one}
 use Rattle.std.proofs.Math.ListN.{length}
 use Rattle.laws.specs.Below.{firsts_from, firsts}

@@ -5,7 +5,6 @@ use Rattle.std.proofs.Common.{sym, ◌∙◌, zero-add, add-zero, arith}
 use Rattle.std.proofs.Math.Path.{ap, fun_ext}
 use Rattle.laws.specs.Lists.{tab, element_at}
 use Rattle.laws.specs.Changes.{upd, patch, overlay, put}
-use Rattle.laws.specs.Below.{count}
 use Rattle.laws.specs.Numbers.{at32, big_endian, high_byte}
 use Rattle.laws.specs.Laws.Cases.{by_order, by_equal}
 use Rattle.laws.specs.Laws.Tests.{lt_true, lt_false, cond_true, cond_false}

@@ -7,8 +7,6 @@ use Rattle.laws.specs.Laws.Tab.{tab_ext}
 use Rattle.cells.specs.Crc.{crc}
 use Rattle.cells.specs.Stream.{data_byte, data_bytes}
 use Rattle.cells.proofs.Laws.Crc.{follows_two}
-use Rattle.sector_rules.specs.declared.Found.{Found}
-use Rattle.sector_rules.specs.declared.Found.TheVariants.{One, Nothing, Several}
 use Rattle.sector_rules.specs.Search.{crc_holds, places_below, found_of, first}
 
 -- ---- headers

@@ -23,7 +23,7 @@ use Rattle.sector_rules.specs.declared.Sector.TheVariants.{Delivered, NoField, D
 use Rattle.sector_rules.specs.declared.Fault.{Fault}
 use Rattle.sector_rules.specs.declared.Fault.TheVariants.{At, Sound}
 use Rattle.sector_rules.specs.declared.Reply.{Reply}
-use Rattle.sector_rules.specs.Replies.{reply_with, done}
+use Rattle.sector_rules.specs.Replies.{reply_with}
 use Rattle.sector_rules.specs.Geometry.{all_sectors, image_bytes}
 use Rattle.sector_rules.specs.Hfe.{hfe_header_fault, table_fault, side_stream}
 use Rattle.sector_rules.specs.Unpacked.{track_of, side_of, r_of, sector_at, sector_reply, is_bad, first_bad, sectors_reply, least_hfe, unpack_reply}

@@ -2,7 +2,7 @@
 -- Rests on the laws of a list that stands at a place and of the first value that is there.
 use Rattle.sector_rules.specs.Unpacked.{side_refusal}
 use Rattle.std.specs.Prelude.{true, false, List, ℕ, ◌*◌, ◌/◌, ◌%◌, ◌<◌, get_or}
-use Rattle.std.proofs.Math.Option.{Option, none, some}
+use Rattle.std.proofs.Math.Option.{none, some}
 use Rattle.std.proofs.Math.Path.{◌≡◌}
 use Rattle.std.proofs.Common.{sym, ap, ◌∙◌, arith}
 use Rattle.laws.specs.Options.{first_some}

@@ -1,5 +1,5 @@
 -- A written side whose changed cells lie among 32 neighbouring ones, wherever these are: what is delivered is what was written. The search finds the header at
--- its own place or not once (header-place), and its field at its own place or none that is delivered (field-same).
+-- its own place or not once (header_place), and its field at its own place or none that is delivered (field_same).
 -- Rests on the known cells that differ at another place (Clash, SideCells), on the cells that are read (Read) and on damage of sides (Damage).
 use Rattle.std.specs.Prelude.{true, false, List, ◌≡◌, length}
 use Rattle.std.proofs.Math.Logic.{⊎_elim}

@@ -1,5 +1,5 @@
 -- Damage anywhere on a side: what is delivered is what was delivered before; and a written side is one of which this can be said.
--- Rests on damage of data fields (FieldDamage), on what an answer says (Base.Told) and on round-trip (Trip).
+-- Rests on damage of data fields (FieldDamage), on what an answer says (Base.Told) and on round_trip (Trip).
 use Rattle.std.specs.Prelude.{true, false, ◌≡◌, ℕ, ◌+◌, ◌*◌, ◌/◌, ◌≤◌, ◌<◌, length}
 use mathlib.Core.List.{List}
 use Rattle.std.proofs.Common.{⊎_elim, sym, ◌∙◌, arith}

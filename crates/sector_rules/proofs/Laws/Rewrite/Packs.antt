@@ -1,4 +1,4 @@
--- rewrite-packs: a rewrite of a packed image is done, and gives the packed image of the block image with that sector replaced.
+-- rewrite_packs: a rewrite of a packed image is done, and gives the packed image of the block image with that sector replaced.
 -- Rests on what is written to a packed image (PackedImage) and on round-trip's facts of a packed image (Trip.RoundTrip).
 use Rattle.std.proofs.Math.Bool.{true}
 use Rattle.std.specs.Prelude.{not, List, ◌≡◌, ℕ, ◌+◌, ◌-◌, ◌*◌, ◌≤◌, ◌<◌, get_or}

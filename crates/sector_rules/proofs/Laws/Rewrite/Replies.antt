@@ -1,4 +1,4 @@
--- rewrite-replies: the replies of rewrite in their order.
+-- rewrite_replies: the replies of rewrite in their order.
 -- Rests on one law for each reply (Judged).
 use Rattle.std.specs.Prelude.{true, ◌&&◌, List, ◌≡◌, refl, ℕ, ◌≤◌, ◌<◌, leb, ltb, length}
 use Rattle.std.proofs.Common.{◌∙◌}

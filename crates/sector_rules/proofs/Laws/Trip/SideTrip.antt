@@ -23,7 +23,7 @@ use Rattle.cells.proofs.Laws.Stream.{from_length}
 use Rattle.cells.proofs.Laws.Number.{byte_from, bytes_list}
 use Rattle.cells.proofs.Laws.Sync.{sync_from}
 use Rattle.cells.proofs.Laws.Written.{byte_at, sync_here, written_length_lem}
-use Rattle.sector_rules.specs.Search.{crc_holds, header_mark, data_mark, size_code, is_header, id_of, header_of, header_at, first}
+use Rattle.sector_rules.specs.Search.{crc_holds, header_mark, data_mark, size_code, is_header, id_of, header_of, header_at}
 use Rattle.sector_rules.specs.Packed.{span, field_crc, with_crc, header_row, sector_item, side_item, side_items}
 use Rattle.sector_rules.proofs.Laws.Base.Search.{crc_two}
 use Rattle.sector_rules.proofs.Laws.Base.Packed.{sector_sync, side_sector, field_crc_lt}

@@ -1,7 +1,7 @@
--- The HFE header by value: the proof of hfe-header-values (HeaderValues.antt).
+-- The HFE header by value: the proof of hfe_header_values (HeaderValues.antt).
 -- Rests on: the laws of the packed image (Base/Packed) and of wrong codes (Base/Versions); all else is computed.
 use Rattle.std.proofs.Math.Bool.{true}
-use Rattle.std.specs.Prelude.{List, ◌∷◌, ◌++◌, map, ◌≡◌, ℕ, ◌+◌, ◌-◌, ◌%◌, ◌≤◌, ◌<◌, ltb, set, take, drop, replicate}
+use Rattle.std.specs.Prelude.{List, ◌++◌, map, ◌≡◌, ℕ, ◌+◌, ◌≤◌, ◌<◌, ltb, set, take, drop, replicate}
 use Rattle.std.proofs.Math.Option.{Option, none, some}
 use Rattle.std.proofs.Math.Path.{refl, ap}
 use Rattle.std.proofs.Common.{◌∙◌, arith, lit<, length-append, length-set, length-take, length-drop}
@@ -165,7 +165,7 @@ version_3_judged =
       in_order = (refl, refl, refl);
     }
 
--- hfe-header-values: all of these hold
+-- hfe_header_values: all of these hold
 pub hfe_header_values : HfeHeaderValues
 unfolding hfe_header version3_header
 hfe_header_values =

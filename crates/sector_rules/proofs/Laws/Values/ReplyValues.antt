@@ -1,6 +1,6 @@
--- Replies by value: the proof of reply-values (ReplyValues.antt).
+-- Replies by value: the proof of reply_values (ReplyValues.antt).
 -- Rests on: the tests of laws; all else is computed.
-use Rattle.std.specs.Prelude.{List, ◌∷◌, ◌++◌, ◌≢◌, ◌≡◌, refl, ℕ, ◌+◌, ◌-◌, ◌*◌, ◌%◌, ◌≤◌, ◌<◌, length, replicate}
+use Rattle.std.specs.Prelude.{List, ◌∷◌, ◌++◌, ◌≢◌, ◌≡◌, refl, ℕ, ◌≤◌, ◌<◌, length, replicate}
 use Rattle.std.proofs.Common.{◌∙◌}
 use Rattle.laws.specs.Below.{lowest}
 use Rattle.laws.specs.Laws.Tests.{eq_false, lt_true, lt_false, cond_true, cond_false}
@@ -43,7 +43,7 @@ unfolding hfe_header version3_header unpack_reply unless or_else hfe_header_faul
     quotient_up
 table_first = refl
 
--- reply-values: all of these hold
+-- reply_values: all of these hold
 pub reply_values : ReplyValues
 unfolding to_image_sector side_place table_reply with_table hfe_header unpack_reply unless or_else hfe_header_fault is_version1 field_fault format_fault flag_fault
     hfe_signature stands_at bytes_are same tab low_first table_fault lowest_fault fault_below lowest track_good entry_place track_start track_length track_unit_bytes

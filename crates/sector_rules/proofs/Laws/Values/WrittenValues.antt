@@ -1,13 +1,12 @@
--- Written sides and the track table by value: the proof of written-values (WrittenValues.antt).
+-- Written sides and the track table by value: the proof of written_values (WrittenValues.antt).
 -- Rests on: the laws of the packed image (Base/Packed); all else is computed.
-use Rattle.std.specs.Prelude.{List, ◌∷◌, ◌++◌, ◌≡◌, refl, ℕ, ◌+◌, ◌-◌, ◌≤◌, length}
+use Rattle.std.specs.Prelude.{List, ◌≡◌, refl, ℕ, ◌+◌, ◌≤◌, length}
 use Rattle.std.proofs.Common.{ap, ◌∙◌, arith}
 use Rattle.laws.specs.Laws.Tab.{tab_in, tab_ext}
 use Rattle.laws.specs.Lists.{tab, element_at, window}
 use Rattle.laws.specs.Numbers.{high_byte, low_byte}
 use Rattle.cells.specs.Crc.{crc_bit, crc_bits, crc_from, crc}
 use Rattle.cells.specs.Mfm.{bit_of}
-use Rattle.cells.specs.declared.Item.{Item}
 use Rattle.sector_rules.specs.Geometry.{image_bytes}
 use Rattle.sector_rules.proofs.Laws.Base.Packed.{pack_done, hfe_after}
 use Rattle.sector_rules.specs.Packed.{hfe_bytes}
@@ -23,7 +22,7 @@ part_is image hfe li lh i n l =
     ap (λ (h : List ℕ). window h i n) (hfe_after image hfe done (pack_done (length image) (length hfe) lh li))
     ∙ tab_ext _ _ n (λ k h. tab_in (hfe_byte image) hfe_bytes (i + k) (omega arith))
 
--- written-values: all of these hold
+-- written_values: all of these hold
 pub written_values : WrittenValues
 unfolding tab side_row side_item sector_item span with_crc field_crc crc crc_from crc_bits crc_bit bit_of high_byte low_byte hfe_byte hfe_table_byte hfe_track_byte
 written_values =

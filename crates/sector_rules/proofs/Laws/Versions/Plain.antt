@@ -1,4 +1,4 @@
--- version-3-plain: where no byte of its sides reads as a code, a version 3 image is read as if it had the letters of version 1.
+-- version_3_plain: where no byte of its sides reads as a code, a version 3 image is read as if it had the letters of version 1.
 -- Rests on sides that agree but for their first cells (Alike), on the letters as cells (Letters) and on the cells of a side byte by byte (Rewrite.Base).
 use Rattle.std.specs.Prelude.{true, false, ◌≡◌, ℕ, ◌+◌, ◌-◌, ◌*◌, ◌/◌, ◌%◌, ◌^◌, ◌≤◌, ◌<◌, eqb, length}
 use Rattle.std.proofs.Math.Bool.{cond, not}

@@ -1,4 +1,4 @@
--- version-letters, version-1-cells, version-3-cells and code-replies: eight letters decide of which version an image is; a version 1 image has no codes, in
+-- version_letters, version_1_cells, version_3_cells and code_replies: eight letters decide of which version an image is; a version 1 image has no codes, in
 -- version 3 they decide which cells a side has; 18 for the first wrong code of a version 3 image.
 -- Rests on the laws of the two versions (Base.Versions), the replies of unpacking (Base.Unpacked) and those of rewriting (Rewrite.Judged).
 use Rattle.std.specs.Prelude.{true, List, ◌≢◌, ◌≡◌, refl, ℕ, suc, ◌+◌, ◌*◌, ◌/◌, ◌%◌, ◌≤◌, ◌<◌, length, get_or}

@@ -1,13 +1,13 @@
--- sectors-read: what unpack answers and writes, by the cells of the sides alone.
+-- sectors_read: what unpack answers and writes, by the cells of the sides alone.
 -- Rests on the laws of the lowest number that passes a test and of lists that are given by a rule.
-use Rattle.std.specs.Prelude.{true, false, ◌≡◌, refl, ℕ, ◌+◌, ◌*◌, ◌/◌, ◌%◌, ◌<◌, length}
+use Rattle.std.specs.Prelude.{true, false, ◌≡◌, ℕ, ◌+◌, ◌*◌, ◌/◌, ◌%◌, ◌<◌, length}
 use mathlib.Core.List.{List}
 use Rattle.std.proofs.Math.Path.{ap}
 use Rattle.std.proofs.Common.{◌∙◌}
 use native.Mathlib.Omega.{arith}
 use Rattle.std.proofs.Math.ListN.{get_or}
 use Rattle.laws.specs.Lists.{tab}
-use Rattle.laws.specs.Laws.Tests.{cond_true, cond_false, lt_true, lt_false, eq_true}
+use Rattle.laws.specs.Laws.Tests.{cond_true, lt_true, eq_true}
 use Rattle.laws.specs.Laws.Lowest.{lowest_none, lowest_some}
 use Rattle.laws.specs.Laws.Tab.{tab_length, tab_in}
 use Rattle.cells.specs.Stream.{from, data_byte}

@@ -2,7 +2,7 @@
 -- Rests on: the laws in Unpacking/Codes; the contracts of side_codes and done.
 -- Assumes nothing.
 use mathlib.Core.Path.{◌≡◌}
-use Prim.Native.Nat.{◌-◌, ◌*◌}
+use Prim.Native.Nat.{◌*◌}
 use native.Mathlib.Omega.{arith}
 use Rattle.sector_rules.specs.Geometry.{tracks, sides}
 use Rattle.sectors.specs.Laws.Unpacking.Codes.{sides_none, sides_right, sides_wrong, sides_done}

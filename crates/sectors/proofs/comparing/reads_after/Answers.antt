@@ -3,7 +3,6 @@
 -- Assumes nothing.
 use mathlib.Core.Path.{◌∙◌}
 use Rattle.sectors.specs.Laws.Rewriting.Exchanged.{fits_after, goes_back}
-use Rattle.sectors.proofs.comparing.reads_after.Reads as reads
 use Rattle.sectors.proofs.comparing.reads_after.Goals as goal
 
 pub put_bytes-requires : goal.put_bytes-requires

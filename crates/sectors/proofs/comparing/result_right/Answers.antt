@@ -2,8 +2,6 @@
 -- Rests on: the laws in Rewriting/Exchanged; the contracts of header_and_table_right and sides_right.
 -- Assumes nothing.
 use mathlib.Core.Path.{sym, ◌∙◌}
-use Rattle.laws.specs.Laws.Tests.{not_was}
-use borrow.Author.Tests.{not-false}
 use Rattle.sectors.specs.Laws.Rewriting.Exchanged.{sound_plain, result_wrong, result_sectors}
 use Rattle.sectors.proofs.comparing.result_right.Goals as goal
 

@@ -3,11 +3,9 @@
 -- Assumes nothing.
 use mathlib.Core.Path.{sym, ◌∙◌}
 use native.Mathlib.Omega.{arith}
-use Prim.Native.Nat.{◌-◌}
 use Rattle.laws.specs.Laws.Cases.{by_equal}
 use Rattle.sectors.specs.Laws.Rewriting.Compared.{byte_read, reads_differ, reads_same}
 use Rattle.sectors.specs.Laws.Unpacking.Sides.{plain_cells}
-use Rattle.sectors.proofs.comparing.sector_reads.Reads as reads
 use Rattle.sectors.proofs.comparing.sector_reads.Goals as goal
 
 pub loop-k-init : goal.loop-k-init

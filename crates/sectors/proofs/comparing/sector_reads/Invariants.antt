@@ -5,7 +5,6 @@ use mathlib.Core.Path.{◌≡◌}
 use Prim.Native.Nat.{ℕ, ◌-◌, ◌≤◌, ◌<◌}
 use lib.ListN.{get_or}
 use Rattle.sectors.specs.Laws.Rewriting.Compared.{bytes_at}
-use Rattle.sectors.proofs.comparing.sector_reads.Reads as reads
 use Rattle.sectors.proofs.comparing.sector_reads.Given as goal
 
 abbrev pub invariant-loop-k : goal.invariant-loop-k

@@ -3,12 +3,9 @@
 -- Assumes nothing.
 use mathlib.Core.Path.{refl, sym, ap, ◌∙◌}
 use native.Mathlib.Omega.{arith}
-use Prim.Native.Nat.{◌-◌}
 use lib.ListN.{length}
 use Rattle.laws.specs.Laws.All.{all_is, all_false}
 use Rattle.laws.specs.Laws.Cases.{by_equal}
-use Rattle.laws.specs.Laws.Tests.{not_was}
-use borrow.Author.Tests.{not-false}
 use borrow.Author.Rules.{rules}
 use Rattle.sectors.proofs.comparing.sectors_right.Goals as goal
 

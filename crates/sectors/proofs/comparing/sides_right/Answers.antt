@@ -3,11 +3,9 @@
 -- Assumes nothing.
 use mathlib.Core.Path.{◌≡◌, refl, sym, ap, ◌∙◌}
 use native.Mathlib.Omega.{arith}
-use Prim.Native.Nat.{◌-◌, ◌*◌}
+use Prim.Native.Nat.{◌*◌}
 use lib.ListN.{length}
 use Rattle.laws.specs.Laws.All.{all_is}
-use Rattle.laws.specs.Laws.Tests.{not_was}
-use borrow.Author.Tests.{not-false}
 use Rattle.sector_rules.specs.Geometry.{tracks, sides}
 use Rattle.sectors.specs.Laws.Rewriting.Exchanged.{sides_more, sides_fail}
 use Rattle.sectors.proofs.comparing.sides_right.Goals as goal

@@ -12,7 +12,7 @@ use Rattle.sectors.proofs.hfe.track_part.Goals as goal
 pub slice_bounds-result-end : goal.slice_bounds-result-end
 slice_bounds-result-end c =
     let w : track_start c.args.hfe.now c.args.t + track_unit_bytes c.args.hfe.now c.args.t ≤ length c.args.hfe.now =
-        track_within _ _ (table_good _ c.requires.1 _ c.requires.0) in
+    track_within _ _ (table_good _ c.requires.1 _ c.requires.0) in
     omega arith
 
 pub returns : goal.returns

@@ -3,7 +3,7 @@
 -- Assumes nothing.
 use mathlib.Core.Path.{◌≡◌, ap, ◌∙◌}
 use native.Mathlib.Omega.{arith}
-use Prim.Native.Nat.{◌+◌, ◌-◌, ◌*◌, ◌%◌, ◌^◌}
+use Prim.Native.Nat.{◌+◌, ◌*◌, ◌%◌, ◌^◌}
 use Rattle.cells.specs.Stream.{stream, packed_bits, packed}
 use Rattle.cells.proofs.Laws.Stream.{stream_bit}
 use Rattle.cells.proofs.Laws.Packed.{packed_fits, packed_step}

@@ -2,7 +2,6 @@
 -- Rests on: the laws in laws::Overlay; the contract of table_byte.
 -- Assumes nothing.
 use mathlib.Core.Path.{◌≡◌}
-use Prim.Native.Nat.{◌-◌}
 use native.Mathlib.Omega.{arith}
 use lib.ListN.{length-set}
 use Rattle.laws.specs.Laws.Overlay.{overlay_none, overlay_more}

@@ -4,8 +4,6 @@
 -- Assumes nothing.
 use mathlib.Core.Path.{sym, ◌∙◌}
 use native.Mathlib.Omega.{arith}
-use Rattle.laws.specs.Laws.Tests.{not_was}
-use borrow.Author.Tests.{not-false}
 use Rattle.sector_rules.proofs.Laws.Base.Versions.{version1_plain}
 use Rattle.sector_rules.proofs.Laws.Rewrite.Judged.{rewrite_short, rewrite_arguments_lem, rewrite_header, rewrite_table, arguments_named}
 use Rattle.sectors.specs.Laws.Rewriting.Answered.{call_kept, call_answered}

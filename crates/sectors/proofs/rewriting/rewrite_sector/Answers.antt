@@ -2,8 +2,6 @@
 -- Rests on: the laws in Rewriting/Answered; the contracts of sector_field, has_field, image_sector, sector_reply and write_data.
 -- Assumes nothing.
 use mathlib.Core.Path.{refl, sym, ap, ◌∙◌}
-use Rattle.laws.specs.Laws.Tests.{not_was}
-use borrow.Author.Tests.{not-false}
 use Rattle.sector_rules.proofs.Laws.Rewrite.Place.{data_within}
 use Rattle.sector_rules.specs.Rewritten.{has_field}
 use Rattle.sectors.specs.Laws.Rewriting.Answered.{answered_field, answered_written}

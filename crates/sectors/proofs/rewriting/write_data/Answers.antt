@@ -2,8 +2,6 @@
 -- Rests on: the laws in Rewriting/Answered; the contracts of changed_bytes, take_bytes, new_bytes, image_sector, result_right and put_bytes.
 -- Assumes nothing.
 use mathlib.Core.Path.{sym, ◌∙◌}
-use Rattle.laws.specs.Laws.Tests.{not_was}
-use borrow.Author.Tests.{not-false}
 use Rattle.sectors.specs.Laws.Rewriting.Answered.{window_place, window_new_by, written_wrong, written_done}
 use Rattle.sectors.proofs.rewriting.write_data.Goals as goal
 

@@ -3,8 +3,6 @@
 -- sector_index and more.
 -- Assumes nothing.
 use mathlib.Core.Path.{◌≡◌, refl, ap, ◌∙◌}
-use mathlib.Core.Logic.{⊎_elim}
-use Prim.Native.Nat.{◌-◌}
 use native.Mathlib.Omega.{arith}
 use lib.ListN.{length, length-set}
 use Rattle.cells.proofs.Laws.Stream.{from_zero}
@@ -20,14 +18,14 @@ loop-i-preserved c = (
   omega arith,
   c.loop-i.invariant.1,
   elim c.if-k-lt-SECTORS.branch [
-    then-k-lt-SECTORS w ↦ rw w.found-is (simp length-set c.loop-i.invariant.2)
-  | else-k-lt-SECTORS w ↦ rw w.found-is c.loop-i.invariant.2
+    | then-k-lt-SECTORS w ↦ rw w.found-is (simp length-set c.loop-i.invariant.2)
+    | else-k-lt-SECTORS w ↦ rw w.found-is c.loop-i.invariant.2
   ],
   elim c.if-k-lt-SECTORS.branch [
-    then-k-lt-SECTORS w ↦ rw w.found-is
+    | then-k-lt-SECTORS w ↦ rw w.found-is
         (scan_yes _ _ _ _ _ _ c.header_at.ensures c.sector_index-k.ensures c.loop-i.found c.loop-i.invariant.3 _
         c.loop-i.invariant.2 w.if-k-lt-SECTORS.true w.more.ensures)
-  | else-k-lt-SECTORS w ↦ rw w.found-is
+    | else-k-lt-SECTORS w ↦ rw w.found-is
         (scan_no _ _ _ _ _ _ c.header_at.ensures c.sector_index-k.ensures c.loop-i.found c.loop-i.invariant.3
         w.if-k-lt-SECTORS.false)
   ],

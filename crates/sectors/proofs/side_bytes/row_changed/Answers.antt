@@ -3,7 +3,6 @@
 -- Assumes nothing.
 use mathlib.Core.Path.{◌≡◌, refl, sym, ◌∙◌}
 use native.Mathlib.Omega.{arith}
-use Prim.Native.Nat.{◌-◌}
 use Rattle.laws.specs.Laws.Tests.{true≢false}
 use Rattle.sectors.specs.Laws.Rewriting.Skipped.{kept_none, kept_more}
 use Rattle.sectors.proofs.side_bytes.row_changed.Goals as goal

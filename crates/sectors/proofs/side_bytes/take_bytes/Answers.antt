@@ -3,7 +3,7 @@
 -- Assumes nothing.
 use mathlib.Core.Path.{refl, ap}
 use native.Mathlib.Omega.{arith}
-use Prim.Native.Nat.{ℕ, ◌+◌, ◌-◌}
+use Prim.Native.Nat.{ℕ, ◌+◌}
 use lib.ListN.{get_or, length-set}
 use Rattle.laws.specs.Laws.Changes.{element_more}
 use Rattle.sectors.specs.Laws.Rewriting.Changed.{stored_place}

@@ -2,7 +2,6 @@
 -- Rests on: the laws in Unpacking/Sides and laws::Overlay; the contract of write_sector.
 -- Assumes nothing.
 use mathlib.Core.Path.{◌≡◌, ap, ◌∙◌}
-use Prim.Native.Nat.{◌-◌}
 use native.Mathlib.Omega.{arith}
 use lib.ListN.{length}
 use Rattle.laws.specs.Laws.Overlay.{overlay_none, overlay_length}

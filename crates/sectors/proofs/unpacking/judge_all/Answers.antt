@@ -2,7 +2,7 @@
 -- Rests on: the laws in Unpacking/SectorsJudged; the contracts of judge_side and done.
 -- Assumes nothing.
 use mathlib.Core.Path.{◌≡◌}
-use Prim.Native.Nat.{◌-◌, ◌*◌}
+use Prim.Native.Nat.{◌*◌}
 use native.Mathlib.Omega.{arith}
 use borrow.Author.Rules.{rules}
 use Rattle.sector_rules.specs.Geometry.{sectors, all_sectors}

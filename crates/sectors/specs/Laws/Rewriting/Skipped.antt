@@ -1,5 +1,5 @@
 -- A side that need not be read again: none of its bytes is exchanged, and its table entry says what it said.
--- Rests on side-untouched and the laws of an image with other side bytes (Rewrite of sector_rules).
+-- Rests on side_untouched and the laws of an image with other side bytes (Rewrite of sector_rules).
 use Rattle.std.specs.Prelude.{Bool, not, ◌&&◌, ◌||◌, List, ◌⊎◌, ◌≢◌, ◌≡◌, ℕ, ◌+◌, ◌-◌, ◌*◌, ◌/◌, ◌%◌, ◌≤◌, ◌<◌, ltb, eqb, length}
 use Rattle.std.proofs.Math.Bool.{true, false}
 use Rattle.std.proofs.Common.{inl, inr, ⊎_elim, sym, ap, ◌∙◌, le-leb}
