@@ -32,7 +32,7 @@ use Rattle.cells.specs.declared.Item.{Item}
 use Rattle.cells.specs.declared.Item.TheVariants.{Plain, Sync, Index}
 use Rattle.cells.proofs.Laws.Number.{byte_from}
 use Rattle.cells.proofs.Laws.Sync.{sync_from, three_first, three_second, three_third}
-use Rattle.cells.proofs.Laws.Written.{byte_at, sync_here}
+use Rattle.cells.proofs.Laws.Written.{byte_at_lem, sync_here}
 use Rattle.cells.proofs.Laws.Triple.{triple_at}
 
 -- ---- stated here
@@ -41,7 +41,7 @@ use Rattle.cells.proofs.Laws.Triple.{triple_at}
 module _ (items : ℕ → Item) (n : ℕ) where
   -- byte_back: the byte that was written at item q is read there
   pub byte_back : (q : ℕ) → q < n → item_byte (items q) < 256 → data_byte (from (written items n) (16 * q)) 0 ≡ item_byte (items q)
-  byte_back q h hx = byte_from (written items n) (16 * q) 0 ∙ ap (data_byte (written items n)) (add-zero (16 * q)) ∙ byte_at items n q h hx
+  byte_back q h hx = byte_from (written items n) (16 * q) 0 ∙ ap (data_byte (written items n)) (add-zero (16 * q)) ∙ byte_at_lem items n q h hx
 
   -- sync_back: a sync mark that was written is found there
   pub sync_back : (q : ℕ) → q < n → items q ≡ Sync → sync_at (from (written items n) (16 * q)) 0 ≡ true

@@ -14,7 +14,8 @@ use Rattle.file_rules.specs.Sizes.{slot_bytes, record_bytes}
 use Rattle.file_rules.specs.Values.{entry_row}
 
 -- values_to_check: the definition gives the image sector of each row, and the record is that of file 2A5, sequence 013 (hex)
-pub values_to_check : (defined_sectors placements ≡ table_sectors placements) × (decode (high_first (0x2A ∷ 0x50 ∷ 0x13 ∷ []) 0 record_bytes) ≡ File 0x2A5 0x013)
+pub values_to_check : (defined_sectors placements ≡ table_sectors placements)
+    × (decode (high_first (0x2A ∷ 0x50 ∷ 0x13 ∷ []) 0 record_bytes) ≡ File 0x2A5 0x013)
 unfolding decode high_first big_endian element_at
 values_to_check = (placement_values, refl)
 

@@ -76,7 +76,8 @@ pub record BadBlocks : Type 0 where
       → at16 (disk_of image 0) 24 ≢ 1440 → check image ≡ reply_with 8 24 0 0
   -- the good word of an accepted disk and 3 x its records FE FF FF are 1440; where 19 is given they are another number (§6.18 §7.26)
   pub word_counts : (image : List ℕ) → MapInBytes (disk_of image) → check image ≡ done → at16 (disk_of image 0) 22 + 3 * bad_by_bytes (disk_of image) ≡ 1440
-  pub word_wrong : (image : List ℕ) → MapInBytes (disk_of image) → check image ≡ refusal 19 → at16 (disk_of image 0) 22 + 3 * bad_by_bytes (disk_of image) ≢ 1440
+  pub word_wrong : (image : List ℕ) → MapInBytes (disk_of image) → check image ≡ refusal 19 → at16 (disk_of image 0) 22 + 3 * bad_by_bytes
+      (disk_of image) ≢ 1440
   -- so are those of an accepted first track
   pub track_counts : (image : List ℕ) → length image ≡ image_bytes → MapInBytes (disk_of image) → (first_track_result (take 9216 image)).reply ≡ done
       → (first_track_result (take 9216 image)).good + 3 * bad_by_bytes (disk_of image) ≡ 1440

@@ -18,7 +18,8 @@ use Rattle.file_rules.specs.Disk.{Disk, disk_of, image_of}
 use Rattle.file_rules.specs.Map.{free_at, free_count, file_byte}
 use Rattle.file_rules.specs.Directory.{name_right, entry_byte, entry_for, slot_byte, slot_entry, held, dir_end, find_name, vacant_slot}
 use Rattle.file_rules.specs.Check.{disk_refusal}
-use Rattle.file_rules.specs.Written.{disk_header_byte, disk_with, stored_byte, blocks_for, zeros, set_slot, set_free, set_end, step_update, give_blocks, free_blocks}
+use Rattle.file_rules.specs.Written.{disk_header_byte, disk_with, stored_byte, blocks_for, zeros, set_slot, set_free, set_end, step_update, give_blocks}
+use Rattle.file_rules.specs.Written.{free_blocks}
 
 -- what a call that reads leaves: its reply and the buffer (§8.8)
 pub record Outcome : Type 0 where

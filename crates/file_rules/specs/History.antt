@@ -97,7 +97,8 @@ pub record CallsMade : Type 0 where
   pub made_remove : (image name : List ℕ) → (image_out image (to_remove name) ≡ record { answer = (remove image name).answer; buffer = [] })
       × (image_step image (to_remove name) ≡ (remove image name).image)
   pub made_list : (image buffer : List ℕ) → (image_out image (to_list buffer) ≡ list image buffer) × (image_step image (to_list buffer) ≡ image)
-  pub made_read : (image name buffer : List ℕ) → (image_out image (to_read name buffer) ≡ read image name buffer) × (image_step image (to_read name buffer) ≡ image)
+  pub made_read : (image name buffer : List ℕ) → (image_out image (to_read name buffer) ≡ read image name buffer)
+      × (image_step image (to_read name buffer) ≡ image)
   pub made_batch : (image items : List ℕ) → (image_out image (to_batch items) ≡ record { answer = (batch image items).answer; buffer = [] })
       × (image_step image (to_batch items) ≡ (batch image items).image)
 

@@ -46,7 +46,8 @@ pub record Rewrites (h g : List ℕ) (t s r : ℕ) (d : List ℕ) (p : ℕ) : Ty
   -- every byte that is not one of this side is as it was
   pub outside : (k : ℕ) → is_side_byte (track_start h t) (track_length h t / 2) s 0 (track_length h t / 2) k ≡ false → get_or g k 0 ≡ get_or h k 0
   -- the 8,224 cells are those of the data and their CRC
-  pub written : (i : ℕ) → i < data_cells → get_or (side_cells_at g (track_start h t) (track_length h t) s) (p + i) 0 ≡ written_cell (plain_items (field_row d)) (16 + i)
+  pub written : (i : ℕ) → i < data_cells → get_or (side_cells_at g (track_start h t) (track_length h t) s) (p + i) 0 ≡ written_cell (plain_items
+      (field_row d)) (16 + i)
   -- every cell of this side before them is as it was
   pub before : (i : ℕ) → i < p → get_or (side_cells_at g (track_start h t) (track_length h t) s) i 0 ≡ get_or (side_stream h t s) i 0
   -- and every cell after the clock cell that follows them
@@ -113,7 +114,8 @@ pub record RewriteReplies : Type 0 where
   pub table : (h : List ℕ) (t s r : ℕ) (d : List ℕ) → 1024 ≤ length h → rewrite_arguments t s r d ≡ true → version1_fault h ≡ Sound
       → (k : ℕ) → table_fault h ≡ At k → rewrite_reply h t s r d ≡ reply_with 3 k 0 0
   pub field : (h : List ℕ) (t s r : ℕ) (d : List ℕ) → 1024 ≤ length h → rewrite_arguments t s r d ≡ true → version1_fault h ≡ Sound → table_fault h ≡ Sound
-      → has_field (sector_at h (image_sector_of t s r)) ≡ false → rewrite_reply h t s r d ≡ sector_reply (image_sector_of t s r) (sector_at h (image_sector_of t s r))
+      → has_field (sector_at h (image_sector_of t s r)) ≡ false → rewrite_reply h t s r d ≡ sector_reply (image_sector_of t s r) (sector_at h
+      (image_sector_of t s r))
   pub accepted : (h : List ℕ) (t s r : ℕ) (d : List ℕ) → 1024 ≤ length h → rewrite_arguments t s r d ≡ true → version1_fault h ≡ Sound → table_fault h ≡ Sound
       → has_field (sector_at h (image_sector_of t s r)) ≡ true → ResultReads h (rewritten h t s r d) (image_sector_of t s r) d
       → rewrite_reply h t s r d ≡ reply_with 0 0 0 0

@@ -118,7 +118,7 @@ delivered_bytes c Repeated = []
 delivered_bytes c NoField = []
 delivered_bytes c Damaged = []
 
--- one more place than those that gave the answer
+-- what is found at one place more than those that gave the answer: a header found once, or more than once (§4.3)
 abbrev pub more_found : Found → ℕ → Found
 more_found Nothing i = One i
 more_found (One j) i = Several

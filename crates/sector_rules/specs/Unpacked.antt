@@ -89,7 +89,7 @@ unpacked_byte h k = get_or (sector_bytes_at h (k / sector_bytes)) (k % sector_by
 unfoldable pub unpack_image : List ℕ → List ℕ → List ℕ
 unpack_image h image = cond (eqb (unpack_reply h (length image)).number 0) (tab (unpacked_byte h) image_bytes) image
 
--- the place of a sector's bytes
+-- the place of a sector's bytes, of a sector that is delivered (§8.1)
 abbrev pub place_of : Sector → ℕ
 place_of (Delivered p) = p
 place_of Missing = 0
@@ -97,6 +97,6 @@ place_of Repeated = 0
 place_of NoField = 0
 place_of Damaged = 0
 
--- the refusal of the n-th side of version 3
+-- the refusal of the n-th side of version 3, by track and then side (§7.25)
 abbrev pub side_refusal : List ℕ → ℕ → Option Reply
 side_refusal h n = side_code_refusal n (coded_side h (n / sides) (n % sides))

@@ -157,7 +157,8 @@ cells_spelled c q =
     (λ j h. let a : 16 * q + 1 + 2 * j ≡ 2 * (8 * q + j) + 1 = omega arith in ap (λ (m : ℕ). get_or c m 0) a)
 
 -- a data cell is a digit of its byte
-pub byte_cell : (c : List ℕ) → ((i : ℕ) → get_or c i 0 < 2) → (q j : ℕ) → j < 8 → get_or c (16 * q + (2 * j + 1)) 0 ≡ data_byte c (16 * q) / 2 ^ (8 - (j + 1)) % 2
+pub byte_cell : (c : List ℕ) → ((i : ℕ) → get_or c i 0 < 2) → (q j : ℕ) → j < 8 → get_or c (16 * q + (2 * j + 1)) 0 ≡ data_byte c (16 * q) / 2 ^ (8 -
+    (j + 1)) % 2
 unfolding data_bit bits_byte
 byte_cell c bit q j h =
     let m : 16 * q + (2 * j + 1) ≡ 2 * (8 * q + j) + 1 = omega arith in

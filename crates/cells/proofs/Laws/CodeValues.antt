@@ -8,7 +8,8 @@ use Rattle.cells.specs.CodeValues.{sample_cells, after_count, after_data, CodeVa
 
 -- code_values: all of these hold
 pub code_values : CodeValues
-unfolding tab number byte_cells reversed_bits is_code after_code expected_after cells_given cells_before at_end coded_from coded sample_cells after_count after_data
+unfolding tab number byte_cells reversed_bits is_code after_code expected_after cells_given cells_before at_end coded_from coded sample_cells
+    after_count after_data
 code_values =
     record {
       codes_stored = refl;

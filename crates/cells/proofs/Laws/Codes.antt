@@ -1,7 +1,8 @@
 -- What bytes with codes give, byte by byte; that all of it is cells; and that a side without codes gives its own cells.
 -- Rests on the laws of lists that are given by a rule, and of streams.
 use Rattle.std.specs.Prelude.{List, [], ◌∷◌, ◌++◌, true, false, ◌≡◌, length, drop}
-use Rattle.std.proofs.Common.{append-nil, append_assoc, sym, ap₂, ◌∙◌, mod-lt, zero-lt-suc, add-one, length-append, drop_of_length-le, get_or-append-add, get_or-drop, leb-false, le-leb}
+use Rattle.std.proofs.Common.{append-nil, append_assoc, sym, ap₂, ◌∙◌, mod-lt, zero-lt-suc, add-one, length-append, drop_of_length-le, get_or-append-add}
+use Rattle.std.proofs.Common.{get_or-drop, leb-false, le-leb}
 use Rattle.std.proofs.Math.Path.{refl, ap}
 use Prim.Native.Nat.{ℕ, zero, suc, ◌+◌, ◌-◌, ◌*◌, ◌/◌, ◌%◌, ◌^◌, ◌≤◌, ◌<◌}
 use native.Mathlib.Omega.{arith}

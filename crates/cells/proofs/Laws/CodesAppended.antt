@@ -4,7 +4,8 @@ use Rattle.cells.specs.Stream.{buffer_side}
 use mathlib.Core.List.{List, ◌++◌}
 use Rattle.std.specs.Prelude.{◌≡◌, ℕ, ◌+◌, ◌-◌, ◌*◌, ◌/◌, ◌%◌, ◌^◌, ◌≤◌, ◌<◌, length, take, drop, set}
 use Rattle.std.proofs.Math.Path.{sym, ap}
-use Rattle.std.proofs.Common.{ap₂, ◌∙◌, add_comm, mod-lt, mul-le-mul_right, le_of_suc-le-suc, length-set, length-drop, get_or-set_same, get_or-set_other, get_or-drop, pow_pos, pow_mono, shl_exact, shr-shr}
+use Rattle.std.proofs.Common.{ap₂, ◌∙◌, add_comm, mod-lt, mul-le-mul_right, le_of_suc-le-suc, length-set, length-drop, get_or-set_same, get_or-set_other}
+use Rattle.std.proofs.Common.{get_or-drop, pow_pos, pow_mono, shl_exact, shr-shr}
 use native.Mathlib.Omega.{arith}
 use Rattle.std.proofs.Math.ListN.{get_or}
 use Rattle.std.proofs.Math.Seq.{take-append-add}

@@ -2,7 +2,8 @@
 -- Rests on no other law.
 use Rattle.std.proofs.Math.Logic.{⊎_elim}
 use Rattle.std.specs.Prelude.{◌≡◌, refl}
-use Rattle.std.proofs.Common.{sym, ◌∙◌, eq-or-lt_of_le, le_of_suc-le-suc, not-suc-le-zero, lt_of_lt_of_le, mul_assoc, mod-eq_of_lt, add-one, pow_pos, pow-add, pow_mono}
+use Rattle.std.proofs.Common.{sym, ◌∙◌, eq-or-lt_of_le, le_of_suc-le-suc, not-suc-le-zero, lt_of_lt_of_le, mul_assoc, mod-eq_of_lt, add-one, pow_pos}
+use Rattle.std.proofs.Common.{pow-add, pow_mono}
 use Rattle.std.proofs.Math.Path.{ap}
 use Prim.Native.Nat.{ℕ, zero, suc, ◌+◌, ◌-◌, ◌*◌, ◌/◌, ◌%◌, ◌^◌, ◌≤◌, ◌<◌}
 use Rattle.std.proofs.Math.Nat.{zero-lt-suc, mul-le-mul_right, pow-suc, mul-add-div_right, mul-add-mod_self_right}

@@ -119,9 +119,9 @@ module _ (items : ℕ → Item) (n q : ℕ) (h : q < n) where
   written_at j l = tab_in (written_cell items) (16 * n) (16 * q + j) (omega arith) ∙ cell_at items q j l
 
   -- the byte that was written at item q is read there
-  pub byte_at : item_byte (items q) < 256 → data_byte (written items n) (16 * q) ≡ item_byte (items q)
+  pub byte_at_lem : item_byte (items q) < 256 → data_byte (written items n) (16 * q) ≡ item_byte (items q)
   unfolding data_byte bit_of written
-  byte_at hx = number_digits (written items n) 2 (16 * q + 1) (item_byte (items q)) 8 hx digit 8 (lit≤ tt) ∙ div-one _
+  byte_at_lem hx = number_digits (written items n) 2 (16 * q + 1) (item_byte (items q)) 8 hx digit 8 (lit≤ tt) ∙ div-one _
     where
       digit : (k : ℕ) → k < 8 → get_or (written items n) (16 * q + 1 + 2 * k) 0 ≡ item_byte (items q) / 2 ^ (8 - (k + 1)) % 2
       digit k l =

@@ -1,7 +1,8 @@
 -- Lists that are given by a rule for each place, and parts of a list.
 -- Rests on the case splits.
 use Rattle.std.specs.Prelude.{◌≡◌, refl, List, [], ◌∷◌, ◌++◌, ℕ, zero, suc, ◌+◌, ◌<◌, ◌≤◌, length, get_or, take, drop}
-use Rattle.std.proofs.Common.{◌∙◌, sym, add-zero, zero-add, add-suc, suc-add, le_of_suc-le-suc, not-suc-le-zero, zero-lt-suc, arith, length-take, length-drop, ext_get_or, length-take-le, get_or-take, get_or-drop}
+use Rattle.std.proofs.Common.{◌∙◌, sym, add-zero, zero-add, add-suc, suc-add, le_of_suc-le-suc, not-suc-le-zero, zero-lt-suc, arith, length-take}
+use Rattle.std.proofs.Common.{length-drop, ext_get_or, length-take-le, get_or-take, get_or-drop}
 use Rattle.std.proofs.Math.Path.{ap}
 use Rattle.std.proofs.Math.Numerals.{add-one}
 use Rattle.std.proofs.Math.ListN.{get_or-eq_default}

@@ -21,4 +21,5 @@ pub returns-then-v-2 : goal.returns-then-v-2
 returns-then-v-2 c = sym (after_count_lem _ _ (sym c.reversed_bits-v.ensures ∙ c.if-v-2.true))
 
 pub returns-else-v-2 : goal.returns-else-v-2
-returns-else-v-2 c = sym (after_wrong _ _ (rw (← c.reversed_bits-v.ensures) c.if-v-le241.false) (λ e. c.if-v.false (c.reversed_bits-v.ensures ∙ e)) (λ e. c.if-v-2.false (c.reversed_bits-v.ensures ∙ e)))
+returns-else-v-2 c = sym (after_wrong _ _ (rw (← c.reversed_bits-v.ensures) c.if-v-le241.false) (λ e. c.if-v.false (c.reversed_bits-v.ensures
+    ∙ e)) (λ e. c.if-v-2.false (c.reversed_bits-v.ensures ∙ e)))

@@ -11,7 +11,8 @@ use Rattle.laws.specs.Laws.Cases.{by_order, by_equal}
 use Rattle.laws.specs.Laws.Tests.{lt_true, lt_false, cond_true, cond_false, and_true, and_false_left, and_false_right}
 use Rattle.laws.specs.Laws.Tab.{tab_self, tab_length, tab_in, tab_ext}
 use Rattle.laws.specs.Laws.Changes.{upd_same, upd_other, upd₂_same, upd₂_other}
-use Rattle.sector_rules.specs.Geometry.{sector_bytes, block_sectors, track_sectors, all_sectors, blocks, image_bytes, running, to_image_sector, to_running_sector}
+use Rattle.sector_rules.specs.Geometry.{sector_bytes, block_sectors, track_sectors, all_sectors, blocks, image_bytes, running, to_image_sector}
+use Rattle.sector_rules.specs.Geometry.{to_running_sector}
 use Rattle.sector_rules.proofs.Laws.Base.Geometry.{image_lt, running_lt, running_image, image_running, image_track, image_first, running_first}
 use Rattle.file_rules.specs.Disk.{Disk, image_place, block_of, offset_of, disk_of, image_of, set_byte}
 use Rattle.file_rules.specs.Sizes.{block_bytes}

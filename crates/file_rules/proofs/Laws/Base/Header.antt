@@ -130,7 +130,8 @@ module _ (args : FormatArguments) (updates word end : ℕ) where
       let bytes : ℕ = at16 written 34 * block_bytes + at16 written 36 in
       let is : bytes ≡ end * slot_bytes = ap₂ (λ (x y : ℕ). x * block_bytes + y) (at_34 b) at_36 ∙ omega arith in
       and_true (lt_true {a = at16 written 36} {b = block_bytes} (omega (arith, at_36)))
-      (and_true (eq_true {a = bytes % slot_bytes} {b = 0} (ap (λ (x : ℕ). x % slot_bytes) is ∙ omega arith)) (le_true {a = slot_bytes} {b = bytes} (omega arith)))
+      (and_true (eq_true {a = bytes % slot_bytes} {b = 0} (ap (λ (x : ℕ). x % slot_bytes) is ∙ omega arith)) (le_true {a = slot_bytes} {b =
+      bytes} (omega arith)))
 
   -- a disk that has its letters, and its bytes 24 to 75, passes 8, whatever stands in the others
   pub header_passes : 1 ≤ end → end < 1572864 → (d : Disk) → ((o : ℕ) → o < 4 → d 0 o ≡ written o) → ((o : ℕ) → 24 ≤ o → o < 76 → d 0 o ≡ written o)

@@ -173,7 +173,8 @@ module _ (l : List ℕ) (bytes : EachIsByte l) where
   date_on rest e h = ap₂ (λ (a b : List ℕ). a ++ b) (date_part h).0 e ∙ part_rest 4 (name_end l) l
 
   add_stands : get_or l 0 0 ≡ 2 → data_start l + data_length l ≤ length l
-      → Stands l (adding (record { name = item_name l; date = item_date l; content = take (data_length l) (drop (data_start l) l) })) (data_start l + data_length l)
+      → Stands l (adding (record { name = item_name l; date = item_date l; content = take (data_length l) (drop (data_start l) l) }))
+      (data_start l + data_length l)
   unfolding data_start
   add_stands k h =
       let content : List ℕ = take (data_length l) (drop (name_end l + 8) l) in

@@ -28,7 +28,8 @@ module _ {A : Type 0} (image : List ℕ) (refuse : Reply → A) (act : Disk → 
     unfolding on_sound image_right unless
     sound_passed e = cond_true _ _ (eq_true long) ∙ rw e
 
-  by_disk_refusal : (P : A → Type 0) → ((r : Reply) → P (refuse r)) → (length image ≡ image_bytes → disk_refusal (disk_of image) ≡ none → P (act (disk_of image)))
+  by_disk_refusal : (P : A → Type 0) → ((r : Reply) → P (refuse r)) → (length image ≡ image_bytes → disk_refusal (disk_of image) ≡ none
+      → P (act (disk_of image)))
       → (long : length image ≡ image_bytes) (v : Option Reply) → disk_refusal (disk_of image) ≡ v → P (on_sound image refuse act)
   by_disk_refusal P f g long none e = subst P (sym (sound_passed long e)) (g long e)
   by_disk_refusal P f g long (some r) e = subst P (sym (sound_refused long r e)) (f r)

@@ -111,7 +111,8 @@ module _ (d : Disk) (h : ℕ → ℕ) (owner : ℕ → Record) (content : Record
 
 module _ (d : Disk) (h : ℕ → ℕ) (owner : ℕ → Record) (content : Record → ℕ → ℕ) (p : With d h owner content) where
   -- a block that is written and given a record has that record and its content
-  pub give_block : (b : ℕ) (r : Record) (g : ℕ → ℕ) → 0 < b → b < blocks → ((o : ℕ) → o < block_bytes → g o ≡ content r o) → ((o : ℕ) → block_bytes ≤ o → g o ≡ 0)
+  pub give_block : (b : ℕ) (r : Record) (g : ℕ → ℕ) → 0 < b → b < blocks → ((o : ℕ) → o < block_bytes → g o ≡ content r o) → ((o : ℕ) → block_bytes ≤ o
+      → g o ≡ 0)
       → With (set_record (set_block d b g) b r) h (upd owner b r) content
   unfolding set_record set_block
   give_block b r g b₀ b₁ inside outside =
@@ -123,7 +124,8 @@ module _ (d : Disk) (h : ℕ → ℕ) (owner : ℕ → Record) (content : Record
             upd₂_same d₁ 0 F 0 o refl ∙ patch_below (d₁ 0) (map_start + record_bytes * b) record_bytes (encode r) o (omega arith) ∙ zero_row o ∙ p.head o k;
         map = λ b' i k l.
             by_equal b' b
-            (λ e. ap (λ (x : ℕ). record_byte (set_record d₁ b r) x i) e ∙ record_set d₁ b r i l ∙ ap (λ (x : Record). encode x i) (sym (upd_same owner b r b' e)))
+            (λ e. ap (λ (x : ℕ). record_byte (set_record d₁ b r) x i) e ∙ record_set d₁ b r i l ∙ ap (λ (x : Record). encode x i) (sym
+            (upd_same owner b r b' e)))
             (λ e. record_beside d₁ b r b' i e l ∙ zero_row (map_start + record_bytes * b' + i) ∙ p.map b' i k l
             ∙ ap (λ (x : Record). encode x i) (sym (upd_other owner b r b' e)));
         block = λ b' o j k l.
@@ -134,7 +136,8 @@ module _ (d : Disk) (h : ℕ → ℕ) (owner : ℕ → Record) (content : Record
         far = λ b' o k. upd₂_other d₁ 0 F b' o (omega arith) ∙ upd₂_other d b g b' o (omega arith) ∙ p.far b' o k;
         out = λ b' o k.
             by_equal b' 0
-            (λ e. upd₂_same d₁ 0 F b' o e ∙ patch_above (d₁ 0) (map_start + record_bytes * b) record_bytes (encode r) o (omega arith) ∙ zero_row o ∙ p.out 0 o k)
+            (λ e. upd₂_same d₁ 0 F b' o e ∙ patch_above (d₁ 0) (map_start + record_bytes * b) record_bytes (encode r) o (omega arith) ∙ zero_row o
+            ∙ p.out 0 o k)
             (λ e. upd₂_other d₁ 0 F b' o e
             ∙ by_equal b' b (λ q. upd₂_same d b g b' o q ∙ outside o k) (λ q. upd₂_other d b g b' o q ∙ p.out b' o k));
       }
@@ -251,5 +254,6 @@ module _ (h : ℕ → ℕ) (owner : ℕ → Record) (content : Record → ℕ �
   pub free_all : (d : Disk) → With d h owner content → With (free_blocks blocks d f) h (λ (b : ℕ). unowned f (owner b)) content
   unfolding unowned_below
   free_all d p =
-      with_same (free_blocks blocks d f) h (unowned_below blocks f owner) content (free_below d p blocks (omega arith)) h (λ (b : ℕ). unowned f (owner b)) content
+      with_same (free_blocks blocks d f) h (unowned_below blocks f owner) content (free_below d p blocks (omega arith)) h (λ (b : ℕ). unowned f
+      (owner b)) content
       (λ o l. refl) (λ b l. cond_true _ _ (lt_true l)) (λ b o i j l. refl)

@@ -28,7 +28,8 @@ use Rattle.file_rules.proofs.Laws.InnerModel.Fields.{parts_none}
 use Rattle.file_rules.proofs.Laws.InnerModel.Reads.{found_slot}
 use Rattle.file_rules.proofs.Laws.InnerModel.Inner.{Inner, present_count, file_blocks, inner_bad, header, render}
 use Rattle.file_rules.proofs.Laws.InnerModel.Inner.{inner_find, empty_slot}
-use Rattle.file_rules.proofs.Laws.InnerModel.Inner.{give, free_of, inner_list, inner_read, InnerChanged, inner_refused, inner_remove_at, inner_remove, grow_owner}
+use Rattle.file_rules.proofs.Laws.InnerModel.Inner.{give, free_of, inner_list, inner_read, InnerChanged, inner_refused, inner_remove_at, inner_remove}
+use Rattle.file_rules.proofs.Laws.InnerModel.Inner.{grow_owner}
 use Rattle.file_rules.proofs.Laws.InnerModel.Inner.{peak_after, inner_add_at, room_for, inner_add, inner_item}
 use Rattle.file_rules.proofs.Laws.InnerModel.Invariant.{parts_of, Inv}
 use Rattle.file_rules.proofs.Laws.InModel.Listed.{listed_blocks, with_owner, BlocksListed, owner_is, give_listed, freed_listed, listed_cong}
@@ -266,8 +267,10 @@ module _ (m : Model) (o : ℕ → Record) (v : Inv (with_owner m o)) (r : Blocks
       (λ h.
       let w : (x : NamedFile) × (inner.slots (inner_find inner name) ≡ some x) × (name_eq x.name name ≡ true) × (0 < inner_find inner name) =
       found_slot inner v name h in
-      let em : (inner_remove inner name).model_after ≡ inner_remove_at inner (inner_find inner name) = ap inner_next (cond_true _ _ t ∙ cond_true _ _ (lt_true h)) in
-      let eb : (model_remove m name).model_after ≡ clear m (inner_find inner name) = ap model_next (cond_true _ _ (name_so name t) ∙ cond_true _ _ (lt_true h)) in
+      let em : (inner_remove inner name).model_after ≡ inner_remove_at inner (inner_find inner name) = ap inner_next (cond_true _ _ t
+      ∙ cond_true _ _ (lt_true h)) in
+      let eb : (model_remove m name).model_after ≡ clear m (inner_find inner name) = ap model_next (cond_true _ _ (name_so name t)
+      ∙ cond_true _ _ (lt_true h)) in
       subst (λ (z : Inner). ModelsAgree z (model_remove m name).model_after) (sym em)
       (subst (λ (z : Model). ModelsAgree (inner_remove_at inner (inner_find inner name)) z) (sym eb) (remove_next (inner_find inner name) w.3 (omega arith))))
       (λ h.

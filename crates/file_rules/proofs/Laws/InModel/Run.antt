@@ -76,7 +76,8 @@ answers_same : (i : Inner) (m : Model) → Inv i → ModelsAgree i m
 answers_same i m v (o, e, r) =
     let v' : Inv (with_owner m o) = subst Inv e v in
     let r' : BlocksListed m.slots m.dir o (parts_of (with_owner m o)) = subst (λ (z : Inner). BlocksListed m.slots m.dir o (parts_of z)) e r in
-    subst (λ (z : Inner). ((buf : List ℕ) → inner_list z buf ≡ model_list m buf) × ((name buf : List ℕ) → inner_read z name buf ≡ model_read m name buf)) (sym e)
+    subst (λ (z : Inner). ((buf : List ℕ) → inner_list z buf ≡ model_list m buf) × ((name buf : List ℕ) → inner_read z name buf ≡ model_read m name buf))
+    (sym e)
     (list_same m o v' r', read_same m o v' r')
 
 -- a call: its reply and result buffer, and after it, the models agree
@@ -93,10 +94,11 @@ call_agrees (to_remove name) i m v a = let w : Alike (inner_item i (removing nam
 )
 call_agrees (to_list buf) i m v a = ((answers_same i m v a).0 buf, a)
 call_agrees (to_read name buf) i m v a = ((answers_same i m v a).1 name buf, a)
-call_agrees (to_batch list) i m v a = let w : Alike (inner_batch i (read_items list)) (model_batch m (read_items list)) = batch_agrees (read_items list) i m v a in (
-  ap (buffer_kept []) w.0,
-  w.1,
-)
+call_agrees (to_batch list) i m v a = let w : Alike (inner_batch i (read_items list)) (model_batch m (read_items list)) =
+    batch_agrees (read_items list) i m v a in (
+      ap (buffer_kept []) w.0,
+      w.1,
+    )
 
 -- ---- a history
 
@@ -115,7 +117,8 @@ unfolding inner_outs model_outs inner_end model_end
 agree [] i m v a = (refl, (disks_same i m v a).0, (disks_same i m v a).1)
 agree (c ∷ cs) i m v a =
     let w : (inner_out i c ≡ model_out m c) × ModelsAgree (inner_step i c) (model_step m c) = call_agrees c i m v a in
-    let ih : (inner_outs (inner_step i c) cs ≡ model_outs (model_step m c) cs) × (render (inner_end (inner_step i c) cs) ≡ model_disk (model_end (model_step m c) cs))
+    let ih : (inner_outs (inner_step i c) cs ≡ model_outs (model_step m c) cs) × (render (inner_end (inner_step i c) cs) ≡ model_disk (model_end
+    (model_step m c) cs))
     × ((inner_end (inner_step i c) cs).peak ≡ (model_end (model_step m c) cs).peak) = agree cs (inner_step i c) (model_step m c) (step_inv i v c) w.1 in
     (ap₂ (λ (x : Outcome) (xs : List Outcome). x ∷ xs) w.0 ih.0, ih.1, ih.2)
 

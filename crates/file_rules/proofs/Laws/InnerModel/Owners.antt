@@ -294,7 +294,8 @@ still_free owner b r bs t =
     (λ j h l a. ap is_free (upd_other owner b r j (omega arith)) ∙ a) t
 
 -- giving free blocks away leaves the same blocks bad
-pub give_bad : (bs : List ℕ) (owner : ℕ → Record) (f s i b : ℕ) → Picks blocks (free_of owner) i bs → is_bad_record (give owner f s bs b) ≡ is_bad_record (owner b)
+pub give_bad : (bs : List ℕ) (owner : ℕ → Record) (f s i b : ℕ) → Picks blocks (free_of owner) i bs → is_bad_record (give owner f s bs b) ≡ is_bad_record
+    (owner b)
 unfolding give free_of is_bad_record
 give_bad [] owner f s i b t = refl
 give_bad (x ∷ xs) owner f s i b t =

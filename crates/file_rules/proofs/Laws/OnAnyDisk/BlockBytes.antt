@@ -129,7 +129,8 @@ module _ (d : Disk) (first : record_at d 0 ≡ System) (k : ℕ) (x : Entry) (co
       (λ o. give_bytes b z (firsts blocks 1 (free_at d)) d 0 zeros (k / block_slots) (a o)) (λ o i. refl)
 
   -- a block that an add does not take keeps its bytes
-  pub add_bytes : (opens_block d k ≡ true → Avoids b (firsts blocks 1 (free_at d))) × Avoids b (firsts blocks n (free_at d₁)) → SameBlock d (add_at d k x content) b
+  pub add_bytes : (opens_block d k ≡ true → Avoids b (firsts blocks 1 (free_at d))) × Avoids b (firsts blocks n (free_at d₁))
+      → SameBlock d (add_at d k x content) b
   unfolding add_at
   add_bytes apart o =
       let none₁ : NoFile (record_at d₁ b) = still_none d d₁ b (grow_beside d first k b l apart.0) none in

@@ -56,7 +56,8 @@ module _ (image : List ℕ) (b : ℕ) (l : b < blocks) where
 
   -- a record that the steps of an add leave, an add leaves
   pub add_kept : (name : List ℕ) (date : ℕ) (content : List ℕ)
-      → (record_at d 0 ≡ System → (x : Entry) → SameRecord d (add_at d (vacant_slot d) x content) b) → SameRecord d (disk_of (add image name date content).image) b
+      → (record_at d 0 ≡ System → (x : Entry) → SameRecord d (add_at d (vacant_slot d) x content) b)
+      → SameRecord d (disk_of (add image name date content).image) b
   add_kept = by_add image (λ (e : Disk). SameRecord d e b) (λ e s i k. s i k ∙ sym (record_image e i k)) (λ i k. refl)
 
   -- a record that those of a remove leave, a remove leaves
@@ -71,7 +72,8 @@ module _ (image : List ℕ) (b : ℕ) (l : b < blocks) where
 
   -- so it is with the bytes of a block
   pub add_stays : (name : List ℕ) (date : ℕ) (content : List ℕ)
-      → (record_at d 0 ≡ System → (x : Entry) → SameBlock d (add_at d (vacant_slot d) x content) b) → SameBlock d (disk_of (add image name date content).image) b
+      → (record_at d 0 ≡ System → (x : Entry) → SameBlock d (add_at d (vacant_slot d) x content) b)
+      → SameBlock d (disk_of (add image name date content).image) b
   add_stays = by_add image (λ (e : Disk). SameBlock d e b) bytes_image (λ o. refl)
 
   -- and with a remove

@@ -21,7 +21,8 @@ use Rattle.file_rules.specs.Directory.{entry_byte, entry_for, dir_end}
 use Rattle.file_rules.specs.Disk.{Disk}
 use Rattle.file_rules.proofs.Laws.InnerModel.Fields.{parts_none}
 use Rattle.file_rules.proofs.Laws.InnerModel.Reads.{dir_end_is}
-use Rattle.file_rules.proofs.Laws.InnerModel.Inner.{Inner, file_blocks, inner_bad, header, render, inner_find, empty_slot, give, free_of, grow_owner, peak_after}
+use Rattle.file_rules.proofs.Laws.InnerModel.Inner.{Inner, file_blocks, inner_bad, header, render, inner_find, empty_slot, give, free_of, grow_owner}
+use Rattle.file_rules.proofs.Laws.InnerModel.Inner.{peak_after}
 use Rattle.file_rules.proofs.Laws.InnerModel.Inner.{inner_add_at}
 use Rattle.file_rules.proofs.Laws.InnerModel.Invariant.{parts_of, Inv}
 use Rattle.file_rules.proofs.Laws.InnerModel.Last.{end_step, finish, slot_step}

@@ -50,7 +50,8 @@ module _ (m : Inner) (v : Inv m) where
       (λ t. by_order (inner_find m name) (suc m.peak)
       (λ h.
       let w : (x : NamedFile) × (m.slots (inner_find m name) ≡ some x) × (name_eq x.name name ≡ true) × (0 < inner_find m name) = found_slot m v name h in
-      let e : inner_remove m name ≡ record { answer = done; model_after = inner_remove_at m (inner_find m name) } = cond_true _ _ t ∙ cond_true _ _ (lt_true h) in (
+      let e : inner_remove m name ≡ record { answer = done; model_after = inner_remove_at m (inner_find m name) } = cond_true _ _ t
+      ∙ cond_true _ _ (lt_true h) in (
         rw (find_name_is m v name, dir_end_is m v)
             (cond_true _ _ t ∙ cond_true _ _ (lt_true h)
             ∙ ap (λ (d : Disk). record { answer = done; disk_after = d }) (remove_image m v (inner_find m name) w.3 (omega arith))

@@ -142,7 +142,8 @@ module _ (image : List ℕ) (b : ℕ) (l : b < blocks) where
       by_cond Given (name_right name) _ _
       (λ u. by_cond Given (ltb (find_name before name) (dir_end before)) _ _ (λ v. not_done _ (λ z. omega arith))
       (λ v. by_cond Given (leb (needed before (vacant_slot before) (length content)) (free_count before)) _ _
-      (λ w q. written_image (add_at before k x content) r (add_gives_record before first k x content b l t (grow_system before first k) (slot_bound passed) few))
+      (λ w q. written_image (add_at before k x content) r (add_gives_record before first k x content b l t (grow_system before first k)
+      (slot_bound passed) few))
       (λ w. not_done _ (λ z. omega arith))))
       (λ u. not_done _ (λ z. omega arith))) e
 

@@ -31,7 +31,8 @@ use Rattle.file_rules.proofs.Laws.Base.Whole.{with_is}
 use Rattle.file_rules.proofs.Laws.OnImages.Run.{format_done}
 use Rattle.file_rules.specs.Map.{decode, encode, number_of, number_at, record_at, is_bad_record, bad_at, bad_count, is_system, is_other, bears, is_part}
 use Rattle.file_rules.specs.Map.{within, part_block}
-use Rattle.file_rules.specs.Model.{Model, file_of, taken_by, slot_of, dir_byte, content, position, or_record, slot_record, model_record, model_header, model_disk}
+use Rattle.file_rules.specs.Model.{Model, file_of, taken_by, slot_of, dir_byte, content, position, or_record, slot_record, model_record, model_header}
+use Rattle.file_rules.specs.Model.{model_disk}
 use Rattle.file_rules.specs.Sizes.{block_bytes, map_start, free_sectors}
 use Rattle.file_rules.specs.Written.{fixed_byte, disk_header_byte, disk_with}
 use Rattle.file_rules.specs.CheckValues.{RecordsJudged, CheckValues, empty_file, two_files}
@@ -143,7 +144,8 @@ pub passable_passes : (args : FormatArguments) (d : Disk) → Passable args d �
 passable_passes args d w = fresh_passes args d w.judged.0 w.judged.1
 
 -- what check says of an image of which such a byte is another
-byte_changed : (args : FormatArguments) (d : Disk) → Passable args d → (p v : ℕ) → Unjudged p → check (set (image_of d) p v) ≡ reply_after_header (set_byte d 0 p v)
+byte_changed : (args : FormatArguments) (d : Disk) → Passable args d → (p v : ℕ) → Unjudged p → check (set (image_of d) p v) ≡ reply_after_header
+    (set_byte d 0 p v)
 byte_changed args d w p v k =
     changed_is d w.inside p v (first_place p k.0) (omega (arith, k.0))
     ∙ past_header (set_byte d 0 p v) (passable_passes args (set_byte d 0 p v) (passable_set args d p v k w))
@@ -163,7 +165,8 @@ three_changed args d ok p v q w r x k l m =
     ∙ two_changed args (set_byte d 0 p v) (passable_set args d p v k ok) q w r x l m
 
 judged_is : (title : List ℕ) (number : ℕ) → RecordsJudged (image_of (format_disk (arguments_of title number [])))
-unfolding reply_after_header refusal9 refusal19 refusal10 refusal11 dir_bytes map_fault record_at number_at good_right bad_count bad_at is_bad_record count_listed listed
+unfolding reply_after_header refusal9 refusal19 refusal10 refusal11 dir_bytes map_fault record_at number_at good_right bad_count bad_at is_bad_record
+    count_listed listed
     format_disk disk_with disk_header_byte fixed_byte patch high_byte tab at16 big_endian lowest count
     decode encode number_of fresh_owner record_fault is_system is_other fault_below unless or_else set_byte upd
     file_fault file_right parts_right dir_end all within is_part bears no_record_bears quotient_up held
@@ -206,7 +209,8 @@ model_header_lem m h =
 
 spellings_found : (title : List ℕ) (number : ℕ)
     → reply_after_header (model_disk (two_files (arguments_of title number []) reel_one reel_capitals)) ≡ reply_with 10 2 0 0
-unfolding reply_after_header refusal9 refusal19 refusal10 refusal11 dir_bytes map_fault record_at number_at good_right bad_count bad_at is_bad_record count_listed listed
+unfolding reply_after_header refusal9 refusal19 refusal10 refusal11 dir_bytes map_fault record_at number_at good_right bad_count bad_at is_bad_record
+    count_listed listed
     model_disk model_header model_record content dir_byte slot_of position or_record slot_record two_files empty_file reel_one reel_capitals file_of taken_by
     disk_with disk_header_byte fixed_byte patch high_byte same tab at16 at32 big_endian lowest count
     decode encode number_of record_fault is_system is_other fault_below unless or_else upd

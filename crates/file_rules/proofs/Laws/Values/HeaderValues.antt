@@ -102,14 +102,16 @@ three_each = right_each three_bad refl
 
 format_is : (old : List ℕ) → length old ≡ image_bytes
     → take 105 (format old (arguments_of title 0x1234 [])).image ≡ disk_header ++ (0xF8 ∷ 0x00 ∷ 0x00 ∷ 0x00 ∷ 0x00 ∷ 0x00 ∷ 0xFD ∷ 0xFF ∷ 0xFF ∷ [])
-unfolding tab format_disk disk_with disk_header_byte fixed_byte patch high_byte disk_signature side_place backward title disk_header encode number_of fresh_owner
+unfolding tab format_disk disk_with disk_header_byte fixed_byte patch high_byte disk_signature side_place backward title disk_header encode number_of
+    fresh_owner
     count_listed count listed
 format_is old long = formatted_begins old (arguments_of title 0x1234 []) 105 (lit≤ tt) long (lit≤ tt) none_bad ∙ refl
 
 bad_is : (old : List ℕ) → length old ≡ image_bytes
     → take 108 (format old (arguments_of title 0x1234 three_bad)).image
     ≡ set (set disk_header 21 0x91) 23 0x97 ++ (0xF8 ∷ 0x00 ∷ 0x00 ∷ 0x00 ∷ 0x00 ∷ 0x00 ∷ 0xFE ∷ 0xFF ∷ 0xFF ∷ 0xFD ∷ 0xFF ∷ 0xFF ∷ [])
-unfolding tab format_disk disk_with disk_header_byte fixed_byte patch high_byte disk_signature side_place backward title disk_header encode number_of fresh_owner
+unfolding tab format_disk disk_with disk_header_byte fixed_byte patch high_byte disk_signature side_place backward title disk_header encode number_of
+    fresh_owner
     count_listed count listed
 bad_is old long = formatted_begins old (arguments_of title 0x1234 three_bad) 108 (lit≤ tt) long (lit≤ tt) three_each ∙ refl
 

@@ -24,7 +24,8 @@ use Rattle.file_rules.proofs.Laws.Base.Disk.{first_place, length_image, disk_ima
 use Rattle.file_rules.proofs.Laws.Base.Header.{header_none}
 use Rattle.file_rules.proofs.Laws.Base.Track.{track_is}
 use Rattle.file_rules.proofs.Laws.OnImages.Run.{format_done}
-use Rattle.file_rules.specs.Map.{decode, encode, number_of, number_at, record_at, is_free, is_bad_record, is_system, is_other, free_at, free_count, bad_at, bad_count}
+use Rattle.file_rules.specs.Map.{decode, encode, number_of, number_at, record_at, is_free, is_bad_record, is_system, is_other, free_at, free_count, bad_at}
+use Rattle.file_rules.specs.Map.{bad_count}
 use Rattle.file_rules.specs.Sizes.{title_most}
 use Rattle.file_rules.specs.Written.{fixed_byte, disk_header_byte, disk_with}
 use Rattle.file_rules.specs.TrackValues.{judged_first, FirstTrackValues}
@@ -71,12 +72,25 @@ formatted_is : (title : List ℕ) (number : ℕ)
     × (track_after_header (format_disk (arguments_of title number two_bad)) ≡ record { reply = reply_with 0 0 0 0; free = 1428; good = 1434; held = 4 })
     × (track_after_header (set_byte (format_disk (arguments_of title number [])) 0 103 0x50)
     ≡ record { reply = reply_with 0 0 0 0; free = 1434; good = 1440; held = 2 })
-    × (track_after_header (set_byte (format_disk (arguments_of title number [])) 0 23 0x9F) ≡ record { reply = reply_with 19 0 0 0; free = 0; good = 0; held = 0 })
+    × (track_after_header (set_byte (format_disk (arguments_of title number [])) 0 23 0x9F) ≡ record {
+      reply = reply_with 19 0 0 0;
+      free = 0;
+      good = 0;
+      held =
+          0;
+    })
     × (track_after_header (set_byte (set_byte (format_disk (arguments_of title number [])) 0 21 0x9B) 0 23 0x9F)
     ≡ record { reply = reply_with 19 0 0 0; free = 0; good = 0; held = 0 })
-    × (track_after_header (set_byte (format_disk (arguments_of title number [])) 0 21 0x9B) ≡ record { reply = reply_with 11 0 0 0; free = 0; good = 0; held = 0 })
+    × (track_after_header (set_byte (format_disk (arguments_of title number [])) 0 21 0x9B) ≡ record {
+      reply = reply_with 11 0 0 0;
+      free = 0;
+      good = 0;
+      held =
+          0;
+    })
 unfolding track_after_header refusal9 refusal19 refusal11 map_fault record_at number_at free_right free_count free_at
-    good_right bad_count bad_at is_bad_record count_listed listed counted format_disk disk_with disk_header_byte fixed_byte patch high_byte at16 big_endian lowest count
+    good_right bad_count bad_at is_bad_record count_listed listed counted format_disk disk_with disk_header_byte fixed_byte patch high_byte at16
+    big_endian lowest count
     decode encode number_of fresh_owner record_fault is_system is_other is_free fault_below unless or_else set_byte upd
 formatted_is title number = (refl, refl, refl, refl, refl, refl)
 

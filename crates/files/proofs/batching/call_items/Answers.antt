@@ -19,25 +19,32 @@ pub shape_of-image-then-r-ne0 : goal.shape_of-image-then-r-ne0
 shape_of-image-then-r-ne0 c = c.call_item-r.auto.image ∙ c.loop-p.invariant.2
 
 pub returns-then-r-ne0 : goal.returns-then-r-ne0
-returns-then-r-ne0 c = turn_refused _ c.loop-p.n c.loop-p.p _ c.args.list.now c.loop-p.invariant.4 (omega arith) c.loop-p.invariant.3 _ refl _ _ c.call_item-r.ensures _
+returns-then-r-ne0 c = turn_refused _ c.loop-p.n c.loop-p.p _ c.args.list.now c.loop-p.invariant.4
+    (omega arith) c.loop-p.invariant.3 _ refl _ _ c.call_item-r.ensures _
     c.if-r-ne0.true c.at_item.ensures
 
 pub overflow_add-p : goal.overflow_add-p
-overflow_add-p c = let w : (1 ≤ c.item_size-p.result) × (c.loop-p.p + c.item_size-p.result ≤ length c.args.list.now) = next_within c.loop-p.n c.loop-p.p c.args.list.now (omega arith) (right_here c.loop-p.n c.loop-p.p c.args.list.now (omega arith) c.loop-p.invariant.3) _ c.item_size-p.ensures in omega arith
+overflow_add-p c = let w : (1 ≤ c.item_size-p.result) × (c.loop-p.p + c.item_size-p.result ≤ length c.args.list.now) =
+    next_within c.loop-p.n c.loop-p.p c.args.list.now (omega arith) (right_here c.loop-p.n c.loop-p.p c.args.list.now
+    (omega arith) c.loop-p.invariant.3) _ c.item_size-p.ensures in omega arith
 
 pub loop-p-smaller : goal.loop-p-smaller
-loop-p-smaller c = let w : (1 ≤ c.item_size-p.result) × (c.loop-p.p + c.item_size-p.result ≤ length c.args.list.now) = next_within c.loop-p.n c.loop-p.p c.args.list.now (omega arith) (right_here c.loop-p.n c.loop-p.p c.args.list.now (omega arith) c.loop-p.invariant.3) _ c.item_size-p.ensures in omega arith
+loop-p-smaller c = let w : (1 ≤ c.item_size-p.result) × (c.loop-p.p + c.item_size-p.result ≤ length c.args.list.now) =
+    next_within c.loop-p.n c.loop-p.p c.args.list.now (omega arith) (right_here c.loop-p.n c.loop-p.p c.args.list.now
+    (omega arith) c.loop-p.invariant.3) _ c.item_size-p.ensures in omega arith
 
 pub loop-p-preserved : goal.loop-p-preserved
-loop-p-preserved c = let w : (1 ≤ c.item_size-p.result) × (c.loop-p.p + c.item_size-p.result ≤ length c.args.list.now) = next_within c.loop-p.n c.loop-p.p c.args.list.now (omega arith) (right_here c.loop-p.n c.loop-p.p c.args.list.now (omega arith) c.loop-p.invariant.3) _ c.item_size-p.ensures in (
-  omega arith,
-  omega arith,
-  c.call_item-r.auto.image ∙ c.loop-p.invariant.2,
-  sym (fault_next c.loop-p.n c.loop-p.p c.args.list.now (omega arith) (right_here c.loop-p.n c.loop-p.p c.args.list.now (omega arith) c.loop-p.invariant.3)
-      _ c.item_size-p.ensures) ∙ c.loop-p.invariant.3,
-  turn_next _ c.loop-p.n c.loop-p.p _ c.args.list.now c.loop-p.invariant.4 (omega arith) c.loop-p.invariant.3 _ c.item_size-p.ensures
-      _ _ c.call_item-r.ensures c.if-r-ne0.false,
-)
+loop-p-preserved c = let w : (1 ≤ c.item_size-p.result) × (c.loop-p.p + c.item_size-p.result ≤ length c.args.list.now) =
+    next_within c.loop-p.n c.loop-p.p c.args.list.now (omega arith) (right_here c.loop-p.n c.loop-p.p c.args.list.now
+    (omega arith) c.loop-p.invariant.3) _ c.item_size-p.ensures in (
+      omega arith,
+      omega arith,
+      c.call_item-r.auto.image ∙ c.loop-p.invariant.2,
+      sym (fault_next c.loop-p.n c.loop-p.p c.args.list.now (omega arith) (right_here c.loop-p.n c.loop-p.p c.args.list.now (omega arith) c.loop-p.invariant.3)
+          _ c.item_size-p.ensures) ∙ c.loop-p.invariant.3,
+      turn_next _ c.loop-p.n c.loop-p.p _ c.args.list.now c.loop-p.invariant.4 (omega arith) c.loop-p.invariant.3 _ c.item_size-p.ensures
+          _ _ c.call_item-r.ensures c.if-r-ne0.false,
+    )
 
 pub shape_of-image : goal.shape_of-image
 shape_of-image c = c.loop-p.invariant.2

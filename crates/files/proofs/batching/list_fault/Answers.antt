@@ -12,22 +12,28 @@ pub loop-p-init : goal.loop-p-init
 loop-p-init c = (omega arith, omega arith, fault_start _)
 
 pub returns-then-not-item_right : goal.returns-then-not-item_right
-returns-then-not-item_right c = sym (c.loop-p.invariant.2 ∙ fault_at c.loop-p.n c.loop-p.p c.args.list.now (omega arith) (sym c.item_right.ensures ∙ c.if-not-item_right.true))
+returns-then-not-item_right c = sym (c.loop-p.invariant.2 ∙ fault_at c.loop-p.n c.loop-p.p c.args.list.now (omega arith) (sym c.item_right.ensures
+    ∙ c.if-not-item_right.true))
 
 pub overflow_add-p : goal.overflow_add-p
-overflow_add-p c = let w : (1 ≤ c.item_size-p.result) × (c.loop-p.p + c.item_size-p.result ≤ length c.args.list.now) = next_within c.loop-p.n c.loop-p.p c.args.list.now (omega arith) (sym c.item_right.ensures ∙ c.if-not-item_right.false) _ c.item_size-p.ensures in omega arith
+overflow_add-p c = let w : (1 ≤ c.item_size-p.result) × (c.loop-p.p + c.item_size-p.result ≤ length c.args.list.now) =
+    next_within c.loop-p.n c.loop-p.p c.args.list.now (omega arith) (sym c.item_right.ensures ∙ c.if-not-item_right.false) _ c.item_size-p.ensures in
+    omega arith
 
 pub loop-p-smaller : goal.loop-p-smaller
-loop-p-smaller c = let w : (1 ≤ c.item_size-p.result) × (c.loop-p.p + c.item_size-p.result ≤ length c.args.list.now) = next_within c.loop-p.n c.loop-p.p c.args.list.now (omega arith) (sym c.item_right.ensures ∙ c.if-not-item_right.false) _ c.item_size-p.ensures in omega arith
+loop-p-smaller c = let w : (1 ≤ c.item_size-p.result) × (c.loop-p.p + c.item_size-p.result ≤ length c.args.list.now) =
+    next_within c.loop-p.n c.loop-p.p c.args.list.now (omega arith) (sym c.item_right.ensures ∙ c.if-not-item_right.false) _ c.item_size-p.ensures in
+    omega arith
 
 pub loop-p-preserved : goal.loop-p-preserved
-loop-p-preserved c = let w : (1 ≤ c.item_size-p.result) × (c.loop-p.p + c.item_size-p.result ≤ length c.args.list.now) = next_within c.loop-p.n c.loop-p.p c.args.list.now (omega arith) (sym c.item_right.ensures ∙ c.if-not-item_right.false) _ c.item_size-p.ensures in (
-  omega arith,
-  omega arith,
-  c.loop-p.invariant.2 ∙ fault_next c.loop-p.n c.loop-p.p c.args.list.now (omega arith)
-      (sym c.item_right.ensures ∙ c.if-not-item_right.false)
-      _ c.item_size-p.ensures,
-)
+loop-p-preserved c = let w : (1 ≤ c.item_size-p.result) × (c.loop-p.p + c.item_size-p.result ≤ length c.args.list.now) =
+    next_within c.loop-p.n c.loop-p.p c.args.list.now (omega arith) (sym c.item_right.ensures ∙ c.if-not-item_right.false) _ c.item_size-p.ensures in (
+      omega arith,
+      omega arith,
+      c.loop-p.invariant.2 ∙ fault_next c.loop-p.n c.loop-p.p c.args.list.now (omega arith)
+          (sym c.item_right.ensures ∙ c.if-not-item_right.false)
+          _ c.item_size-p.ensures,
+    )
 
 pub returns : goal.returns
 returns c = sym (c.loop-p.invariant.2 ∙ fault_end _ _ _ (omega arith))

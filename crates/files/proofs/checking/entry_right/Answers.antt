@@ -31,22 +31,26 @@ new_by_hash-requires c = (
   sizes_name _ _ c.read_entry-e.ensures
       c.if-length-namelen.true,
   c.requires.2,
-  entry_name _ _ c.read_entry-e.result (read_is _ _ _ _ _ c.requires.0.long c.requires.1 c.requires.0.loaded_directory c.slot_place.ensures.0 c.read_entry-e.ensures),
+  entry_name _ _ c.read_entry-e.result
+      (read_is _ _ _ _ _ c.requires.0.long c.requires.1 c.requires.0.loaded_directory c.slot_place.ensures.0 c.read_entry-e.ensures),
 )
 
 pub parts_right-requires : goal.parts_right-requires
 parts_right-requires c = c.requires.0.loaded_chains
 
 pub returns-then-new_by_hash : goal.returns-then-new_by_hash
-returns-then-new_by_hash c = entry_parts _ _ c.read_entry-e.result (read_is _ _ _ _ _ c.requires.0.long c.requires.1 c.requires.0.loaded_directory c.slot_place.ensures.0 c.read_entry-e.ensures)
+returns-then-new_by_hash c = entry_parts _ _ c.read_entry-e.result
+    (read_is _ _ _ _ _ c.requires.0.long c.requires.1 c.requires.0.loaded_directory c.slot_place.ensures.0 c.read_entry-e.ensures)
     c.if-length-namelen.true (sym c.new_by_hash.ensures ∙ c.if-new_by_hash.true) _
     (c.parts_right.ensures ∙ parts_loaded _ _ c.requires.0.loaded_map _ _ ∙
     ap (parts_right (disk_of c.args.image.now) c.args.k) c.blocks_of.ensures.0)
 
 pub returns-else-new_by_hash : goal.returns-else-new_by_hash
-returns-else-new_by_hash c = entry_name_wrong _ _ c.read_entry-e.result (read_is _ _ _ _ _ c.requires.0.long c.requires.1 c.requires.0.loaded_directory c.slot_place.ensures.0 c.read_entry-e.ensures)
+returns-else-new_by_hash c = entry_name_wrong _ _ c.read_entry-e.result
+    (read_is _ _ _ _ _ c.requires.0.long c.requires.1 c.requires.0.loaded_directory c.slot_place.ensures.0 c.read_entry-e.ensures)
     c.if-length-namelen.true (sym c.new_by_hash.ensures ∙ c.if-new_by_hash.false)
 
 pub returns-else-length-namelen : goal.returns-else-length-namelen
-returns-else-length-namelen c = entry_sizes_wrong _ _ c.read_entry-e.result (read_is _ _ _ _ _ c.requires.0.long c.requires.1 c.requires.0.loaded_directory c.slot_place.ensures.0 c.read_entry-e.ensures)
+returns-else-length-namelen c = entry_sizes_wrong _ _ c.read_entry-e.result
+    (read_is _ _ _ _ _ c.requires.0.long c.requires.1 c.requires.0.loaded_directory c.slot_place.ensures.0 c.read_entry-e.ensures)
     c.if-length-namelen.false

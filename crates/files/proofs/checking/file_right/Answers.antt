@@ -36,7 +36,13 @@ listed_so : (d : Disk) (f end : ℕ) (r t : Bool) → end ≡ dir_end d → r �
 listed_so d f end r t e q h = ap (λ (x : ℕ). ltb f x && held d f) (sym e) ∙ sym q ∙ h
 
 pub note_hash-unnoted-requires : goal.note_hash-unnoted-requires
-note_hash-unnoted-requires c = (c.requires.0.long, c.requires.1, c.requires.0.loaded_directory, listed_so _ _ _ _ true c.requires.2 c.is_listed.ensures c.if-is_listed.true, c.requires.3)
+note_hash-unnoted-requires c = (
+  c.requires.0.long,
+  c.requires.1,
+  c.requires.0.loaded_directory,
+  listed_so _ _ _ _ true c.requires.2 c.is_listed.ensures c.if-is_listed.true,
+  c.requires.3,
+)
 
 pub entry_right-requires : goal.entry_right-requires
 entry_right-requires c = (c.requires.0, c.requires.1, c.note_hash-unnoted.ensures.0)

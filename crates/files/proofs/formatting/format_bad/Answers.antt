@@ -11,7 +11,8 @@ pub returns-then-image-ne-IMAGE_BYTES : goal.returns-then-image-ne-IMAGE_BYTES
 returns-then-image-ne-IMAGE_BYTES c = wrote_refused _ _ _ _ (format_length _ _ c.if-image-ne-IMAGE_BYTES.true) c.refused.ensures
 
 pub returns-then-name-gt-TITLE_MOST : goal.returns-then-name-gt-TITLE_MOST
-returns-then-name-gt-TITLE_MOST c = wrote_refused _ _ _ _ (format_name _ _ c.if-image-ne-IMAGE_BYTES.false c.if-name-gt-TITLE_MOST.true) c.refused-then-name-gt-TITLE_MOST.ensures
+returns-then-name-gt-TITLE_MOST c =
+    wrote_refused _ _ _ _ (format_name _ _ c.if-image-ne-IMAGE_BYTES.false c.if-name-gt-TITLE_MOST.true) c.refused-then-name-gt-TITLE_MOST.ensures
 
 pub returns-then-not-bad_list_right : goal.returns-then-not-bad_list_right
 returns-then-not-bad_list_right c = wrote_refused _ _ _ _

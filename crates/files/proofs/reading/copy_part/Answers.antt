@@ -19,7 +19,8 @@ loop-i-preserved c = (
   omega arith,
   ap length c.copy_run.ensures ∙ overlay_length _ _ _ _ ∙ c.loop-i.invariant.1,
   c.copy_run.ensures ∙ overlay_on _ _ _
-      _ _ (λ (j : ℕ). disk_of c.args.image.now c.args.b (c.args.o + j)) _ c.loop-i.invariant.2 (λ j h. ap (disk_of c.args.image.now c.args.b) (add_assoc c.args.o c.loop-i.i j)),
+      _ _ (λ (j : ℕ). disk_of c.args.image.now c.args.b (c.args.o + j)) _ c.loop-i.invariant.2 (λ j h. ap (disk_of c.args.image.now c.args.b)
+      (add_assoc c.args.o c.loop-i.i j)),
 )
 
 pub returns : goal.returns

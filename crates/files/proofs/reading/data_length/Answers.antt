@@ -12,13 +12,15 @@ use native.Mathlib.Omega.{arith}
 use Rattle.files.proofs.reading.data_length.Goals as goal
 
 pub returns-then-length-lt-SLOT_BYTES : goal.returns-then-length-lt-SLOT_BYTES
-returns-then-length-lt-SLOT_BYTES c = let e : c.read_entry-e.result.length ≡ (slot_entry (disk_of c.args.image.now) c.args.k).length = ap (λ (x : Entry). x.length)
+returns-then-length-lt-SLOT_BYTES c = let e : c.read_entry-e.result.length ≡ (slot_entry (disk_of c.args.image.now) c.args.k).length =
+    ap (λ (x : Entry). x.length)
     (c.read_entry-e.ensures ∙ ap (λ (x : ℕ). entry_of (element_at c.args.image.now x)) c.slot_place.ensures.0 ∙
     sym (slot_entry_row _ _ _ c.requires.0 c.requires.1 c.requires.2)) in
     (omega arith, omega arith)
 
 pub returns-else-length-lt-SLOT_BYTES : goal.returns-else-length-lt-SLOT_BYTES
-returns-else-length-lt-SLOT_BYTES c = let e : c.read_entry-e.result.length ≡ (slot_entry (disk_of c.args.image.now) c.args.k).length = ap (λ (x : Entry). x.length)
+returns-else-length-lt-SLOT_BYTES c = let e : c.read_entry-e.result.length ≡ (slot_entry (disk_of c.args.image.now) c.args.k).length =
+    ap (λ (x : Entry). x.length)
     (c.read_entry-e.ensures ∙ ap (λ (x : ℕ). entry_of (element_at c.args.image.now x)) c.slot_place.ensures.0 ∙
     sym (slot_entry_row _ _ _ c.requires.0 c.requires.1 c.requires.2)) in
     (omega arith, omega arith)

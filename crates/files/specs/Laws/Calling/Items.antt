@@ -15,7 +15,8 @@ use Rattle.sector_rules.specs.declared.Fault.{Fault}
 use Rattle.sector_rules.specs.declared.Fault.TheVariants.{At, Sound}
 use Rattle.sector_rules.specs.declared.Reply.{Reply}
 use Rattle.file_rules.specs.Calls.{ImageChanged, image_kept, image_right, add, remove}
-use Rattle.file_rules.specs.Items.{Item, is_remove, is_add, name_length, name_end, item_date, data_length, data_start, item_size, item_right, item_name, first_item}
+use Rattle.file_rules.specs.Items.{Item, is_remove, is_add, name_length, name_end, item_date, data_length, data_start, item_size, item_right, item_name}
+use Rattle.file_rules.specs.Items.{first_item}
 use Rattle.file_rules.specs.Items.{ItemList, Items, WrongItem, item_before, items_from, read_items}
 use Rattle.file_rules.specs.Batch.{item_call, at_item, items_in_turn, batch_of, batch}
 use Rattle.file_rules.proofs.Laws.Base.Items.{size_least, right_within, add_size, items_end, wrong_at_lem, right_at}
@@ -159,7 +160,8 @@ unfolding batch_of in_turn
 in_turn_lem image (Items xs) = refl
 in_turn_lem image (WrongItem n) = refl
 
-turn_before : (image image₁ : List ℕ) (n : ℕ) (r : Reply) (x : Item) (xs : ItemList) → list_fault (item_before x xs) ≡ Sound → Wrote (item_call image x) r image₁
+turn_before : (image image₁ : List ℕ) (n : ℕ) (r : Reply) (x : Item) (xs : ItemList) → list_fault (item_before x xs) ≡ Sound
+    → Wrote (item_call image x) r image₁
     → in_turn image n (item_before x xs) ≡ cond (eqb r.number 0) (in_turn image₁ (suc n) xs) (record { answer = at_item n r; image = image₁ })
 unfolding in_turn items_in_turn item_before list_fault
 turn_before image image₁ n r x (Items xs) s g = rw (g.answer, g.image)

@@ -43,7 +43,8 @@ module _ (map : List ℕ) (d : Disk) (m : MapLoaded map d) where
   unfolding parts_in parts_right
   parts_loaded f n =
       ap₂ (λ (x y : Bool). x && y)
-      (all_cong (λ (b : ℕ). within f n (loaded_record map b)) (λ (b : ℕ). within f n (record_at d b)) blocks (λ b h. ap (within f n) (record_loaded map d m b h)))
+      (all_cong (λ (b : ℕ). within f n (loaded_record map b)) (λ (b : ℕ). within f n (record_at d b)) blocks (λ b h. ap (within f n)
+      (record_loaded map d m b h)))
       (all_cong
       (λ (s : ℕ). eqb (count blocks (λ (b : ℕ). is_part f s (loaded_record map b))) 1)
       (λ (s : ℕ). eqb (count blocks (λ (b : ℕ). is_part f s (record_at d b))) 1)

@@ -77,7 +77,8 @@ module _ (map : List ℕ) (d : Disk) (m : MapLoaded map d) where
   pub bad_loaded : count blocks (λ (b : ℕ). is_bad_record (loaded_record map b)) ≡ bad_count d
   unfolding bad_count bad_at
   bad_loaded =
-      count_cong blocks (λ (b : ℕ). is_bad_record (loaded_record map b)) (λ (b : ℕ). is_bad_record (record_at d b)) (λ b h. ap is_bad_record (record_loaded b h))
+      count_cong blocks (λ (b : ℕ). is_bad_record (loaded_record map b)) (λ (b : ℕ). is_bad_record (record_at d b)) (λ b h. ap is_bad_record
+      (record_loaded b h))
 
   -- the block of a part by the loaded map is the disk's
   pub part_loaded : (f s : ℕ) → lowest (λ (b : ℕ). is_part f s (loaded_record map b)) blocks ≡ part_block d f s

@@ -44,7 +44,8 @@ module _ (d e : Disk) (near : EqualInside d e) where
   pub inside_part : (f s : ℕ) → part_block d f s ≡ part_block e f s
   unfolding part_block
   inside_part f s =
-      lowest_cong (λ (b : ℕ). is_part f s (record_at d b)) (λ (b : ℕ). is_part f s (record_at e b)) blocks (λ b h. ap (is_part f s) (inside_record d e near b h))
+      lowest_cong (λ (b : ℕ). is_part f s (record_at d b)) (λ (b : ℕ). is_part f s (record_at e b)) blocks (λ b h. ap (is_part f s)
+      (inside_record d e near b h))
 
   -- a slot written on disks that agree leaves disks that agree
   pub inside_slot : (k : ℕ) (g : ℕ → ℕ) → EqualInside (set_slot d k g) (set_slot e k g)
@@ -260,7 +261,8 @@ module _ (d : Disk) (f : ℕ) (c : ℕ → ℕ) (s n : ℕ) where
         }
 
     -- a free block is given as the file's next part
-    pub walked_more : (m : List ℕ) → free_at d b ≡ true → t < n → m ≡ image_of (given (disk_of l) b (part c (s + t)) (File f (s + t))) → Walked (b + 1) (t + 1) m
+    pub walked_more : (m : List ℕ) → free_at d b ≡ true → t < n → m ≡ image_of (given (disk_of l) b (part c (s + t)) (File f (s + t)))
+        → Walked (b + 1) (t + 1) m
     unfolding give_lowest
     walked_more m e h q =
         let bs : List ℕ = firsts b n (free_at d) in

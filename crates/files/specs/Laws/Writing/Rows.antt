@@ -58,7 +58,8 @@ module _ (image : List ℕ) (b o n : ℕ) (long : length image ≡ image_bytes) 
 
 module _ (l : List ℕ) (b o : ℕ) (g : ℕ → ℕ) (long : length l ≡ image_bytes) where
   -- in a block
-  row_inside : b < blocks → o < block_bytes → (n : ℕ) → o % sector_bytes + n ≤ sector_bytes → overlay l (image_place b o) n g ≡ image_of (patched (disk_of l) b o n g)
+  row_inside : b < blocks → o < block_bytes → (n : ℕ) → o % sector_bytes + n ≤ sector_bytes → overlay l (image_place b o) n g ≡ image_of (patched
+      (disk_of l) b o n g)
   row_inside hb ho zero h = sym (overlay_none l (image_place b o) g) ∙ patched_none l b o g long
   row_inside hb ho (suc n) h =
       let m : List ℕ = overlay l (image_place b o) n g in
@@ -109,12 +110,14 @@ pub sector_next : (d : Disk) (b s : ℕ) (c : ℕ → ℕ) (p : ℕ) (l m : List
 sector_next d b s c p l m e q =
     let z : p * sector_bytes + sector_bytes ≡ (p + 1) * sector_bytes = omega arith in
     rows_next d b 0 (p * sector_bytes) sector_bytes (λ (i : ℕ). c (s * block_bytes + i)) (λ (k : ℕ). c (s * block_bytes + p * sector_bytes + k)) l m e
-    (q ∙ ap (λ (x : ℕ). image_of (patched (disk_of l) b x sector_bytes (λ (k : ℕ). c (s * block_bytes + p * sector_bytes + k)))) (sym (zero-add (p * sector_bytes))))
+    (q ∙ ap (λ (x : ℕ). image_of (patched (disk_of l) b x sector_bytes (λ (k : ℕ). c (s * block_bytes + p * sector_bytes + k)))) (sym (zero-add
+    (p * sector_bytes))))
     (λ i h. ap c (add_assoc (s * block_bytes) (p * sector_bytes) i))
     ∙ ap (λ (x : ℕ). image_of (patched d b 0 x (λ (i : ℕ). c (s * block_bytes + i)))) z
 
 -- a part of a list, written after what is written of it
-pub rows_part : (d : Disk) (b o n : ℕ) (src : List ℕ) (e : ℕ) (l m : List ℕ) → l ≡ image_of (patched d b o n (λ (i : ℕ). get_or src i 0)) → n ≤ e → e ≤ length src
+pub rows_part : (d : Disk) (b o n : ℕ) (src : List ℕ) (e : ℕ) (l m : List ℕ) → l ≡ image_of (patched d b o n (λ (i : ℕ). get_or src i 0)) → n ≤ e
+    → e ≤ length src
     → m ≡ image_of (patched (disk_of l) b (o + n) (length (take (e - n) (drop n src))) (λ (i : ℕ). get_or (take (e - n) (drop n src)) i 0))
     → m ≡ image_of (patched d b o e (λ (i : ℕ). get_or src i 0))
 unfolding window element_at

@@ -90,7 +90,8 @@ unfolding stored_row
 stored_rest head content i h = ap (λ (k : ℕ). get_or content k 0) (add-zero (i - slot_bytes)) ∙ sym (cond_false _ _ (lt_false h))
 
 -- a block filled with a part's bytes is the block of that part
-pub part_written : (d : Disk) (b s : ℕ) (c : ℕ → ℕ) → image_of (patched d b 0 block_bytes (λ (o : ℕ). c (s * block_bytes + o))) ≡ image_of (set_block d b (part c s))
+pub part_written : (d : Disk) (b s : ℕ) (c : ℕ → ℕ) → image_of (patched d b 0 block_bytes (λ (o : ℕ). c (s * block_bytes + o))) ≡ image_of (set_block d b
+    (part c s))
 unfolding set_block part
 part_written d b s c = patched_block d b (λ (o : ℕ). c (s * block_bytes + o)) (part c s) (λ o h. sym (cond_true _ _ (lt_true h)))
 

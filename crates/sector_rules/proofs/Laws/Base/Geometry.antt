@@ -30,7 +30,8 @@ pub back_forth : (k : ℕ) → k < track_sectors
     → sectors * (get_or side_place (get_or backward k 0) 0 / 128) + get_or side_place (get_or backward k 0) 0 % 128 ≡ k
 unfolding side_place backward tab all
 back_forth =
-    all_eq (λ (k : ℕ). sectors * (get_or side_place (get_or backward k 0) 0 / 128) + get_or side_place (get_or backward k 0) 0 % 128) (λ (k : ℕ). k) track_sectors refl
+    all_eq (λ (k : ℕ). sectors * (get_or side_place (get_or backward k 0) 0 / 128) + get_or side_place (get_or backward k 0) 0 % 128) (λ
+    (k : ℕ). k) track_sectors refl
 
 -- ---- the placement
 

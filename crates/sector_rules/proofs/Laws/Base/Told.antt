@@ -230,7 +230,8 @@ module _ (h : List ℕ) where
         not_zero : (r : Reply) → unpack_reply h n ≡ r → (k : ℕ) → r.number ≡ suc k → ⊥
         not_zero r p k q = let z : r.number ≡ 0 = ap (λ (x : Reply). x.number) (sym p) ∙ e in omega arith
 
-        codes : (l : least_hfe ≤ length h) (q : n ≡ image_bytes) → hfe_header_fault h ≡ Sound → table_fault h ≡ Sound → (x : Option Reply) → first_code_refusal h ≡ x
+        codes : (l : least_hfe ≤ length h) (q : n ≡ image_bytes) → hfe_header_fault h ≡ Sound → table_fault h ≡ Sound → (x : Option Reply)
+            → first_code_refusal h ≡ x
             → (sectors_reply h).number ≡ 0
         codes l q g f (some r) c = absurd (not_zero r (codes_reply h n l q g f r c) 17 (codes_number h r c))
         codes l q g f none c = ap (λ (x : Reply). x.number) (sym (sound_reply h n l q g f c)) ∙ e

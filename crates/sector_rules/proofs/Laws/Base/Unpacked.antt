@@ -51,7 +51,8 @@ module _ (h : List ℕ) (n : ℕ) where
 
     module _ (e : n ≡ image_bytes) where
       later_reply : unpack_reply h n
-          ≡ unless (or_else (refusal_at 2 (hfe_header_fault h)) (or_else (refusal_at 3 (table_fault h)) (first_code_refusal h))) (λ (r : Reply). r) (sectors_reply h)
+          ≡ unless (or_else (refusal_at 2 (hfe_header_fault h)) (or_else (refusal_at 3 (table_fault h)) (first_code_refusal h))) (λ (r : Reply). r)
+          (sectors_reply h)
       unfolding unpack_reply
       later_reply = rw (le-ltb (length h) least_hfe l, eq-eqb n image_bytes e)
 

@@ -88,7 +88,8 @@ module _ (h : List ℕ) where
 
   module _ (v : is_version3 h ≡ true) where
     -- the first side that has a wrong code is refused
-    pub codes_found : (k : ℕ) (r : Reply) → k < tracks * sides → first_some (side_refusal h) k ≡ none → side_refusal h k ≡ some r → first_code_refusal h ≡ some r
+    pub codes_found : (k : ℕ) (r : Reply) → k < tracks * sides → first_some (side_refusal h) k ≡ none → side_refusal h k ≡ some r
+        → first_code_refusal h ≡ some r
     unfolding first_code_refusal
     codes_found k r l e g = cond_true _ _ v ∙ first_some_found (side_refusal h) _ k r (omega arith) e g
 

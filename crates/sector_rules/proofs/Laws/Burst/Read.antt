@@ -29,7 +29,8 @@ module _ (f g : List ℕ) (bf : Binary f) (bg : Binary g) (tf : three_sync f ≡
   syncs_same e h = three_cell f bf tf e h ∙ sym (three_cell g bg tg e h)
 
   -- the cells that are read agree, where the bytes after the sync bytes do
-  read_same : (n : ℕ) → ((q : ℕ) → 3 ≤ q → 16 * q < n → data_byte f (16 * q) ≡ data_byte g (16 * q)) → (e : ℕ) → is_read n e ≡ true → get_or f e 0 ≡ get_or g e 0
+  read_same : (n : ℕ) → ((q : ℕ) → 3 ≤ q → 16 * q < n → data_byte f (16 * q) ≡ data_byte g (16 * q)) → (e : ℕ) → is_read n e ≡ true
+      → get_or f e 0 ≡ get_or g e 0
   unfolding is_read
   read_same n same e r =
       by_order e 48 (λ l. syncs_same e l)

@@ -317,7 +317,8 @@ module _ (t s : ℕ) (ht : t < 128) (hs : s < 2) (dd : ℕ → List ℕ) (d : Li
       let r = run_place_lem x (sector_start x + 192 + header_cells + b.0) b.3 (omega arith) (omega (arith, b.1)) in
       let z = field_place_lem (written_side t s dd) (sector_start x + 192 + header_cells + b.0) (j + 64) b.4 in
       let f : sector_start x + 896 ≡ j = omega arith in
-      let run : three_sync (from (written_side t s dd) (sector_start x + 896)) ≡ true = ap (λ (k : ℕ). three_sync (from (written_side t s dd) k)) (sym r) ∙ b.3 in
+      let run : three_sync (from (written_side t s dd) (sector_start x + 896)) ≡ true = ap (λ (k : ℕ). three_sync (from (written_side t s dd) k)) (sym r)
+      ∙ b.3 in
       let fc : field_at (written_side t s dd) (sector_start x + 896) ≡ Delivered (j + 64) = ap (field_at (written_side t s dd)) (sym r) ∙ b.4 in
       let a' = sector_told d t s (x + 1) q ed in
       let i' = header_place x hx a'.0 a'.1 in

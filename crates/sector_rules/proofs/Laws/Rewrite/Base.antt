@@ -171,7 +171,8 @@ module _ (h : List ℕ) (start size s b n : ℕ) (f : ℕ → ℕ) where
   with_length = tab_length _ (length h)
 
   -- one of the bytes that are replaced is what f has for its number on its side
-  pub with_in : (k : ℕ) → k < length h → is_side_byte start size s b n k ≡ true → get_or (with_side_bytes h start size s b n f) k 0 ≡ f (side_byte_of (k - start))
+  pub with_in : (k : ℕ) → k < length h → is_side_byte start size s b n k ≡ true → get_or (with_side_bytes h start size s b n f) k 0 ≡ f (side_byte_of
+      (k - start))
   unfolding with_side_bytes
   with_in k l e = tab_in _ (length h) k l ∙ cond_true (f (side_byte_of (k - start))) (get_or h k 0) e
 

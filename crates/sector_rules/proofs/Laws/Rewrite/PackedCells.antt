@@ -169,7 +169,8 @@ module _ (t s : ℕ) (e : ℕ → List ℕ) (k : ℕ) (hk : k < 9) where
       ∙ span_right 22 _ _ _ (lit≤ tt) ∙ span_right 12 _ _ _ (lit≤ tt) ∙ span_right 3 _ _ _ (lit≤ tt) ∙ span_right 515 _ _ _ (lit≤ tt)
 
   -- its first cell is the clock between the CRC's last bit and its own first
-  gap_clock : written_cell (side_item t s e) (16 * (146 + 658 * k + 574)) ≡ clock (bit_before (plain_items (field_row (e (k + 1)))) field_items) (bit_of gap_byte 0)
+  gap_clock : written_cell (side_item t s e) (16 * (146 + 658 * k + 574)) ≡ clock (bit_before (plain_items (field_row (e (k + 1)))) field_items)
+      (bit_of gap_byte 0)
   unfolding before
   gap_clock =
       let q : ℕ = 146 + 658 * k + 574 in
@@ -195,7 +196,8 @@ module _ (t s : ℕ) (d e : ℕ → List ℕ) (k : ℕ) (hk : k < 9) (same : (j 
       cell_is t s d (i + 1) (omega arith) ∙ ap (λ (m : ℕ). written_cell (side_item t s d) (m + 1)) a ∙ gap_data t s d k hk
 
   -- a written side with the data of sector k + 1 written again is, cell by cell, the side that is written with them
-  pub cell_after_lem : (i : ℕ) → i < 100000 → cell_after (written_side t s d) (16 * (146 + 658 * k + 60)) (field_row (e (k + 1))) i ≡ written_cell (side_item t s e) i
+  pub cell_after_lem : (i : ℕ) → i < 100000 → cell_after (written_side t s d) (16 * (146 + 658 * k + 60)) (field_row (e (k + 1))) i ≡ written_cell
+      (side_item t s e) i
   unfolding cell_after
   cell_after_lem i h =
       by_order i (16 * (146 + 658 * k + 60))

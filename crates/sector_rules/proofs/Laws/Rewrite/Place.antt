@@ -14,7 +14,8 @@ use Rattle.cells.proofs.Laws.Stream.{from_length}
 use Rattle.sector_rules.specs.declared.Found.{Found}
 use Rattle.sector_rules.specs.declared.Found.TheVariants.{One, Nothing, Several}
 use Rattle.sector_rules.specs.declared.Sector.TheVariants.{Delivered, NoField, Damaged}
-use Rattle.sector_rules.specs.Search.{crc_holds, data_mark, header_cells, field_cells, gap_cells, first, find_sector, field_at, field_of, sector_found, sector_of}
+use Rattle.sector_rules.specs.Search.{crc_holds, data_mark, header_cells, field_cells, gap_cells, first, find_sector, field_at, field_of, sector_found}
+use Rattle.sector_rules.specs.Search.{sector_of}
 use Rattle.sector_rules.specs.Rewritten.{field_place, data_place_of, data_place, data_cells, has_field}
 use Rattle.sector_rules.proofs.Laws.Base.Told.{field_place_lem}
 

@@ -47,7 +47,8 @@ module _ (h : List ℕ) (t s r : ℕ) (d : List ℕ) where
       → cell_after (side_stream h t s) (data_place (side_stream h t s) t s r) (field_row d) i ≡ get_or (side_stream h t s) i 0
       → get_or (side_cells_at (rewritten h t s r d) (track_start h t) (track_length h t) s) i 0 ≡ get_or (side_stream h t s) i 0
   kept plain g ht hs i e =
-      ap (λ (c : List ℕ). get_or c i 0) (rewritten_cells plain g ht hs) ∙ after_kept (side_stream h t s) (data_place (side_stream h t s) t s r) (field_row d) i e
+      ap (λ (c : List ℕ). get_or c i 0) (rewritten_cells plain g ht hs) ∙ after_kept (side_stream h t s) (data_place (side_stream h t s) t s r)
+      (field_row d) i e
 
   -- the cells of data and CRC in the rewritten image
   new : is_version3 h ≡ false → table_fault h ≡ Sound → t < tracks → s < sides → data_place (side_stream h t s) t s r + data_cells ≤ length (side_stream h t s)

@@ -22,7 +22,7 @@ use Rattle.cells.proofs.Theorems.{triple_only}
 use Rattle.cells.proofs.Laws.Stream.{from_length}
 use Rattle.cells.proofs.Laws.Number.{byte_from, bytes_list}
 use Rattle.cells.proofs.Laws.Sync.{sync_from}
-use Rattle.cells.proofs.Laws.Written.{byte_at, sync_here, written_length_lem}
+use Rattle.cells.proofs.Laws.Written.{byte_at_lem, sync_here, written_length_lem}
 use Rattle.sector_rules.specs.Search.{crc_holds, header_mark, data_mark, size_code, is_header, id_of, header_of, header_at}
 use Rattle.sector_rules.specs.Packed.{span, field_crc, with_crc, header_row, sector_item, side_item, side_items}
 use Rattle.sector_rules.proofs.Laws.Base.Search.{crc_two}
@@ -111,7 +111,7 @@ module _ (t s : ℕ) (d : ℕ → List ℕ) where
   byte_at_item k o hk ho hb p j e =
       let x : side_item t s d (146 + 658 * k + o) ≡ sector_item t s (k + 1) (d (k + 1)) o = item_at k o hk ho in
       byte_from (written (side_item t s d) 6250) p j ∙ ap (data_byte (written (side_item t s d) 6250)) e
-      ∙ byte_at (side_item t s d) 6250 (146 + 658 * k + o) (omega arith) (rw x hb) ∙ ap item_byte x
+      ∙ byte_at_lem (side_item t s d) 6250 (146 + 658 * k + o) (omega arith) (rw x hb) ∙ ap item_byte x
 
   -- a sync mark that is item o of a sector is found at its cells
   pub sync_at_item : (k o : ℕ) → k < 9 → o < 658 → sector_item t s (k + 1) (d (k + 1)) o ≡ Sync

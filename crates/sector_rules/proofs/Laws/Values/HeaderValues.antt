@@ -68,7 +68,8 @@ module _ (h : List ℕ) where
   by_codes none e = by_sectors
 
   by_fault : (f g : Fault)
-      → place_named 2 26 (unless (or_else (refusal_at 2 f) (or_else (refusal_at 3 g) (first_code_refusal h))) (λ (r : Reply). r) (sectors_reply h)) ≡ fault_place f
+      → place_named 2 26 (unless (or_else (refusal_at 2 f) (or_else (refusal_at 3 g) (first_code_refusal h))) (λ (r : Reply). r)
+      (sectors_reply h)) ≡ fault_place f
   unfolding place_named unless or_else
   by_fault (At o) g = refl
   by_fault Sound (At t) = refl
@@ -140,7 +141,8 @@ carried f g same header n x =
         (length-set (set (set header 22 0) 23 1) 24 1 ∙ length-set (set header 22 0) 23 1 ∙ length-set header 22 0 ∙ n)
 
 version_1_judged : FieldsNamed (λ (start : List ℕ). fault_place (hfe_header_fault start)) hfe_header
-unfolding tab hfe_header_fault is_version1 is_version3 field_fault format_fault flag_fault hfe_signature version3_signature hfe_header changed_at changed_from one_more
+unfolding tab hfe_header_fault is_version1 is_version3 field_fault format_fault flag_fault hfe_signature version3_signature hfe_header changed_at
+    changed_from one_more
     one_less low_first stands_at bytes_are same
 version_1_judged =
     record {
@@ -153,7 +155,8 @@ version_1_judged =
     }
 
 version_3_judged : FieldsNamed (λ (start : List ℕ). fault_place (hfe_header_fault start)) version3_header
-unfolding tab hfe_header_fault is_version1 is_version3 field_fault format_fault flag_fault hfe_signature version3_signature hfe_header version3_header changed_at
+unfolding tab hfe_header_fault is_version1 is_version3 field_fault format_fault flag_fault hfe_signature version3_signature hfe_header version3_header
+    changed_at
     changed_from one_more one_less low_first stands_at bytes_are same
 version_3_judged =
     record {

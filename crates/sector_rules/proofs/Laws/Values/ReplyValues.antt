@@ -39,14 +39,17 @@ pack_length_is n w = cond_false _ _ (eq_false w)
 
 table_first : unpack_reply (version3_header ++ (replicate 486 0 ++ (1 ∷ 0 ∷ 0 ∷ 2 ∷ 0x2F ∷ replicate 507 0))) 737280 ≡ reply_with 3 1 0 0
 unfolding hfe_header version3_header unpack_reply unless or_else hfe_header_fault is_version1 is_version3 field_fault format_fault flag_fault hfe_signature
-    version3_signature stands_at bytes_are same tab low_first table_fault lowest_fault fault_below lowest track_good entry_place track_start track_length track_unit_bytes
+    version3_signature stands_at bytes_are same tab low_first table_fault lowest_fault fault_below lowest track_good entry_place track_start
+    track_length track_unit_bytes
     quotient_up
 table_first = refl
 
 -- reply_values: all of these hold
 pub reply_values : ReplyValues
-unfolding to_image_sector side_place table_reply with_table hfe_header unpack_reply unless or_else hfe_header_fault is_version1 field_fault format_fault flag_fault
-    hfe_signature stands_at bytes_are same tab low_first table_fault lowest_fault fault_below lowest track_good entry_place track_start track_length track_unit_bytes
+unfolding to_image_sector side_place table_reply with_table hfe_header unpack_reply unless or_else hfe_header_fault is_version1 field_fault
+    format_fault flag_fault
+    hfe_signature stands_at bytes_are same tab low_first table_fault
+    lowest_fault fault_below lowest track_good entry_place track_start track_length track_unit_bytes
     quotient_up good_entries
 reply_values =
     record {

@@ -24,7 +24,8 @@ part_is image hfe li lh i n l =
 
 -- written_values: all of these hold
 pub written_values : WrittenValues
-unfolding tab side_row side_item sector_item span with_crc field_crc crc crc_from crc_bits crc_bit bit_of high_byte low_byte hfe_byte hfe_table_byte hfe_track_byte
+unfolding tab side_row side_item sector_item span with_crc field_crc crc crc_from crc_bits crc_bit bit_of high_byte low_byte hfe_byte hfe_table_byte
+    hfe_track_byte
 written_values =
     record {
       side_begins = λ t s d. refl;

@@ -136,7 +136,8 @@ module _ (h g : List ℕ) (o : OtherLetters h g) where
       no_codes : first_code_refusal h ≡ none
       no_codes =
           codes_none h o.version_3
-          (first_some_none (side_refusal h) (tracks * sides) (λ k l. ap (side_code_refusal k) (coded_cells (k / sides) (k % sides) (omega arith) (omega arith))))
+          (first_some_none (side_refusal h) (tracks * sides) (λ k l. ap (side_code_refusal k) (coded_cells (k / sides) (k % sides) (omega arith)
+          (omega arith))))
 
       version_3_side : (t s : ℕ) → t < tracks → s < sides → side_stream h t s ≡ side_cells_at h (track_start h t) (track_length h t) s
       unfolding cells_of track_part track_unit_bytes side_cells_at

@@ -33,7 +33,8 @@ module _ (h : List ℕ) where
   good_reply each = rw (lowest_none (λ (k : ℕ). is_bad (sector_at h k)) all_sectors each)
 
   -- the bytes of a sector whose data stand at place p
-  sector_byte_lem : (m p k : ℕ) → k < sector_bytes → sector_read h m ≡ Delivered p → get_or (sector_bytes_at h m) k 0 ≡ data_byte (from (side_cells_of h m) p) (16 * k)
+  sector_byte_lem : (m p k : ℕ) → k < sector_bytes → sector_read h m ≡ Delivered p → get_or (sector_bytes_at h m) k 0 ≡ data_byte (from (side_cells_of h m) p)
+      (16 * k)
   unfolding sector_bytes_at sector_at delivered_bytes sector_byte
   sector_byte_lem m p k l e = rw e (tab_in (sector_byte (side_cells_of h m) p) sector_bytes k l)
 

@@ -11,7 +11,8 @@ pub returns-then-hfe-ne-HFE_BYTES : goal.returns-then-hfe-ne-HFE_BYTES
 returns-then-hfe-ne-HFE_BYTES c = let e = pack_hfe_lem _ _ c.if-hfe-ne-HFE_BYTES.true in (c.refused.ensures ∙ sym e, sym (hfe_after _ _ _ e))
 
 pub returns-then-image-ne-IMAGE_BYTES : goal.returns-then-image-ne-IMAGE_BYTES
-returns-then-image-ne-IMAGE_BYTES c = let e = pack_image _ _ c.if-hfe-ne-HFE_BYTES.false c.if-image-ne-IMAGE_BYTES.true in (c.refused-then-image-ne-IMAGE_BYTES.ensures ∙ sym e, sym (hfe_after _ _ _ e))
+returns-then-image-ne-IMAGE_BYTES c = let e = pack_image _ _ c.if-hfe-ne-HFE_BYTES.false c.if-image-ne-IMAGE_BYTES.true in
+    (c.refused-then-image-ne-IMAGE_BYTES.ensures ∙ sym e, sym (hfe_after _ _ _ e))
 
 pub write_hfe-requires : goal.write_hfe-requires
 write_hfe-requires c = (c.if-image-ne-IMAGE_BYTES.false, c.if-hfe-ne-HFE_BYTES.false)

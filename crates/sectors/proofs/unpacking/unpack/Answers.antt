@@ -11,7 +11,8 @@ pub returns-then-hfe-lt-LEAST_HFE : goal.returns-then-hfe-lt-LEAST_HFE
 returns-then-hfe-lt-LEAST_HFE c = let e = short_reply _ _ c.if-hfe-lt-LEAST_HFE.true in (c.refused.ensures ∙ sym e, sym (image_after_lem _ _ _ e))
 
 pub returns-then-image-ne-IMAGE_BYTES : goal.returns-then-image-ne-IMAGE_BYTES
-returns-then-image-ne-IMAGE_BYTES c = let e = length_reply _ _ c.if-hfe-lt-LEAST_HFE.false c.if-image-ne-IMAGE_BYTES.true in (c.refused-then-image-ne-IMAGE_BYTES.ensures ∙ sym e, sym (image_after_lem _ _ _ e))
+returns-then-image-ne-IMAGE_BYTES c = let e = length_reply _ _ c.if-hfe-lt-LEAST_HFE.false c.if-image-ne-IMAGE_BYTES.true in
+    (c.refused-then-image-ne-IMAGE_BYTES.ensures ∙ sym e, sym (image_after_lem _ _ _ e))
 
 pub returns-in-At : goal.returns-in-At
 returns-in-At c = let e = header_reply _ _ c.if-hfe-lt-LEAST_HFE.false c.if-image-ne-IMAGE_BYTES.false _

@@ -21,7 +21,8 @@ loop-n-preserved c = let q : sector_bytes * (sectors * c.loop-n.n) + sector_byte
   ap length c.write_version_side.ensures ∙ overlay_length _ _ _ _ ∙ c.loop-n.invariant.1,
   c.write_version_side.ensures ∙ overlay_next
       _ (sector_bytes * (sectors * c.loop-n.n)) (sector_bytes * sectors) _ (unpacked_byte c.args.hfe.now) _ c.loop-n.invariant.2
-      (side_byte c.args.hfe.now c.loop-n.n _ refl _ c.requires.3.each (omega arith)) ∙ ap (λ (j : ℕ). overlay c.args.image.now 0 j (unpacked_byte c.args.hfe.now)) q,
+      (side_byte c.args.hfe.now c.loop-n.n _ refl _ c.requires.3.each (omega arith)) ∙ ap (λ (j : ℕ). overlay c.args.image.now 0 j
+      (unpacked_byte c.args.hfe.now)) q,
 )
 
 pub returns : goal.returns

@@ -107,11 +107,13 @@ module _ (image : List ℕ) (at : ℕ) where
       crc_before field (suc k) (omega (arith, field_length)) ∙ rw e (window_in image at sector_bytes k (omega arith))
 
   -- byte 513 of a field's row is the high byte of its CRC
-  pub row_high : (k : ℕ) → k ≡ 513 → get_or (with_crc (data_mark ∷ window image at sector_bytes)) k 0 ≡ field_crc (data_mark ∷ window image at sector_bytes) / 256
+  pub row_high : (k : ℕ) → k ≡ 513 → get_or (with_crc (data_mark ∷ window image at sector_bytes)) k 0 ≡ field_crc
+      (data_mark ∷ window image at sector_bytes) / 256
   row_high k e = crc_high field k (omega (arith, field_length))
 
   -- byte 514 of a field's row is the low byte of its CRC
-  pub row_low : (k : ℕ) → k ≡ 514 → get_or (with_crc (data_mark ∷ window image at sector_bytes)) k 0 ≡ field_crc (data_mark ∷ window image at sector_bytes) % 256
+  pub row_low : (k : ℕ) → k ≡ 514 → get_or (with_crc (data_mark ∷ window image at sector_bytes)) k 0 ≡ field_crc
+      (data_mark ∷ window image at sector_bytes) % 256
   row_low k e = crc_low field k (omega (arith, field_length))
 
 -- ---- the bytes of the image

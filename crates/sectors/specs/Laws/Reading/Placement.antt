@@ -18,7 +18,8 @@ unfolding side_place
 side_place_is t = eq_tab t (λ (l : ℕ). side_place_byte (l / block_sectors) (l % block_sectors)) track_sectors
 
 -- and back, the second
-pub backward_is : (t : List ℕ) → length t ≡ track_sectors → ((i : ℕ) → i < track_sectors → get_or t i 0 ≡ remainder_at (i / sectors) (i % sectors)) → t ≡ backward
+pub backward_is : (t : List ℕ) → length t ≡ track_sectors → ((i : ℕ) → i < track_sectors → get_or t i 0 ≡ remainder_at (i / sectors) (i % sectors))
+    → t ≡ backward
 unfolding backward
 backward_is t = eq_tab t (λ (i : ℕ). remainder_at (i / sectors) (i % sectors)) track_sectors
 

@@ -79,7 +79,8 @@ module _ (h : List ℕ) (t s p : ℕ) where
       let z : p / 8 + (x - p / 8) ≡ x = omega arith in
       (omega arith, omega arith, new.each (x - p / 8) (omega arith) ∙ ap (packed (cell_after (side_stream h t s) p (field_row d))) z))
       (λ x l m f. (omega arith, omega arith))
-      ∙ ap (λ (k : ℕ). with_side_bytes h (track_start h t) (track_length h t / 2) s (k / 8) changed_bytes (packed (cell_after (side_stream h t s) k (field_row d)))) e
+      ∙ ap (λ (k : ℕ). with_side_bytes h (track_start h t) (track_length h t / 2) s (k / 8) changed_bytes (packed (cell_after (side_stream h t s) k
+      (field_row d)))) e
     where
       n : ℕ
       n = min (track_length h t / 2 - p / 8) changed_bytes

@@ -145,7 +145,8 @@ module _ (h : List ℕ) (q p : ℕ) (bytes : List ℕ) where
   reads_differ k n = ne_same (bytes_at h q p) bytes (λ e. n (ap (λ (xs : List ℕ). get_or xs k 0) e))
 
   -- where each byte is the same, the bytes are
-  pub reads_same : length bytes ≡ sector_bytes → ((k : ℕ) → k < sector_bytes → get_or (bytes_at h q p) k 0 ≡ get_or bytes k 0) → same (bytes_at h q p) bytes ≡ true
+  pub reads_same : length bytes ≡ sector_bytes → ((k : ℕ) → k < sector_bytes → get_or (bytes_at h q p) k 0 ≡ get_or bytes k 0)
+      → same (bytes_at h q p) bytes ≡ true
   reads_same l e =
       eq_same (bytes_at h q p) bytes
       (sym (eq_tab bytes (sector_byte (side_stream h (track_of q) (side_of q)) p) sector_bytes l

@@ -36,5 +36,6 @@ module _ (content : List ℕ) (long : length content ≡ sector_bytes) where
       ∙ (let z : length (data_mark ∷ content) + 2 ≡ field_items = omega (arith, long) in z)
 
   -- a list with the bytes of the row is the row
-  pub row_whole : (row : List ℕ) → length row ≡ field_items → ((i : ℕ) → i < field_items → get_or row i 0 ≡ get_or (field_row content) i 0) → row ≡ field_row content
+  pub row_whole : (row : List ℕ) → length row ≡ field_items → ((i : ℕ) → i < field_items → get_or row i 0 ≡ get_or (field_row content) i 0)
+      → row ≡ field_row content
   row_whole row e each = ext_get_or 0 row (field_row content) (e ∙ sym row_length) (λ i l. each i (omega (arith, e, l)))

@@ -50,7 +50,8 @@ answer_is n (WrongCode p) = refl
 
 -- the reply for what the code finds on the n-th side is that side's
 pub side_reply : (h : List ℕ) (n : ℕ) (part : List ℕ) (side : Side) (e : Expected) → part ≡ track_part h (n / sides)
-    → side ≡ hfe_side (n % sides) (track_length h (n / sides)) → e ≡ wrong_of (coded (stored_bytes part side)) → side_answer n e ≡ refusal_reply (side_refusal h n)
+    → side ≡ hfe_side (n % sides) (track_length h (n / sides)) → e ≡ wrong_of (coded (stored_bytes part side)) → side_answer n e ≡ refusal_reply
+    (side_refusal h n)
 unfolding coded_side
 side_reply h n part side e is-part is-side is =
     let same : wrong_of (coded (stored_bytes part side)) ≡ wrong_of (coded_side h (n / sides) (n % sides)) = rw (is-part, is-side) in
