@@ -21,9 +21,9 @@ use Rattle.cells.proofs.Laws.Sync.{sync_all}
 
 -- ---- the cells of an item
 module _ (items : ℕ → Item) (q : ℕ) where
-  cell_at : (j : ℕ) → j < 16 → written_cell items (16 * q + j) ≡ item_cell (bit_before items q) (items q) j
+  cell_at_lem : (j : ℕ) → j < 16 → written_cell items (16 * q + j) ≡ item_cell (bit_before items q) (items q) j
   unfolding written_cell
-  cell_at j h =
+  cell_at_lem j h =
       let a : (16 * q + j) / 16 ≡ q = omega arith in
       let b : (16 * q + j) % 16 ≡ j = omega arith in
       rw (a, b)
@@ -40,7 +40,7 @@ module _ (items : ℕ → Item) (q : ℕ) where
   data_cell k h =
       let a : (2 * k + 1) % 2 ≡ 1 = omega arith in
       let b : (2 * k + 1) / 2 ≡ k = omega arith in
-      cell_at (2 * k + 1) (omega arith) ∙ rw (ne_eqb _ _ (left_even (items q) k), a, b)
+      cell_at_lem (2 * k + 1) (omega arith) ∙ rw (ne_eqb _ _ (left_even (items q) k), a, b)
 
   -- a cell between them that is not left out is the clock of the two bits around it
   pub clock_cell : (k : ℕ) → k < 8 → (2 * k ≡ left_out (items q) → ⊥)
@@ -49,12 +49,12 @@ module _ (items : ℕ → Item) (q : ℕ) where
   clock_cell k h n =
       let a : (2 * k) % 2 ≡ 0 = omega arith in
       let b : (2 * k) / 2 ≡ k = omega arith in
-      cell_at (2 * k) (omega arith) ∙ rw (ne_eqb _ _ n, a, b)
+      cell_at_lem (2 * k) (omega arith) ∙ rw (ne_eqb _ _ n, a, b)
 
 -- the clock that an item leaves out is 0
 pub left_cell : (items : ℕ → Item) (q j : ℕ) → j < 16 → j ≡ left_out (items q) → written_cell items (16 * q + j) ≡ 0
 unfolding item_cell
-left_cell items q j h e = cell_at items q j h ∙ rw (eq-eqb j (left_out (items q)) e)
+left_cell items q j h e = cell_at_lem items q j h ∙ rw (eq-eqb j (left_out (items q)) e)
 
 -- the data cell before a clock cell is the bit before the one that the clock precedes
 pub before_cell : (items : ℕ → Item) (q k l : ℕ) → k < 8 → l + 1 ≡ 16 * q + 2 * k
@@ -116,7 +116,7 @@ sync_cells p = refl
 module _ (items : ℕ → Item) (n q : ℕ) (h : q < n) where
   written_at : (j : ℕ) → j < 16 → get_or (written items n) (16 * q + j) 0 ≡ item_cell (bit_before items q) (items q) j
   unfolding written
-  written_at j l = tab_in (written_cell items) (16 * n) (16 * q + j) (omega arith) ∙ cell_at items q j l
+  written_at j l = tab_in (written_cell items) (16 * n) (16 * q + j) (omega arith) ∙ cell_at_lem items q j l
 
   -- the byte that was written at item q is read there
   pub byte_at_lem : item_byte (items q) < 256 → data_byte (written items n) (16 * q) ≡ item_byte (items q)

@@ -109,8 +109,8 @@ module _ (m : Inner) (v : Inv m) (fs : List NamedFile) (r : Fills m.slots fs) wh
       ap₂ (λ (p s : ℕ). leb (inner_bad m + (dir_blocks (max m.peak (suc p)) + (s + blocks_for (length x.content)))) usable)
       (count_is m v fs r) present_blocks
 
-  slot_of : (x : NamedFile) → IsPresent x fs → (k : ℕ) × (0 < k) × (k < dir_end (render m)) × HasEntry (render m) k x
-  slot_of x p =
+  slot_of_lem : (x : NamedFile) → IsPresent x fs → (k : ℕ) × (0 < k) × (k < dir_end (render m)) × HasEntry (render m) k x
+  slot_of_lem x p =
       let w : (k : ℕ) × (m.slots k ≡ some x) = present_fills fs m.slots x p r in
       let b : (0 < w.0) × (w.0 ≤ m.peak) = filled_below m v fs r w.0 x w.1 in
       (w.0, b.0, omega (arith, b.1, dir_end_is m v), slot_entry_lem m v fs r w.0 x w.1)
@@ -223,7 +223,7 @@ module _ (args : FormatArguments) (each : EachCanBeBad args.bad) (calls : List C
         whole = length_image (render m);
         read_gives = λ name buf p q. read_at name buf ∙ read_found m v fs both.0 name buf p q;
         has_slot = λ x p.
-            subst (λ (d : Disk). (k : ℕ) × (0 < k) × (k < dir_end d) × HasEntry d k x) (sym on_disk) (slot_of m v fs both.0 x p);
+            subst (λ (d : Disk). (k : ℕ) × (0 < k) × (k < dir_end d) × HasEntry d k x) (sym on_disk) (slot_of_lem m v fs both.0 x p);
         slot_has =
             subst (λ (d : Disk). (k : ℕ) → k < dir_end d → held d k ≡ true → (x : NamedFile) × IsPresent x fs × HasEntry d k x) (sym on_disk)
             (of_slot m v fs both.0);
