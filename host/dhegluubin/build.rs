@@ -1,5 +1,6 @@
-//! Links the archive of the proved library, which `rt staticlib bridge`
-//! builds in the repository's main folder.
+//! Links the archive of the proved library, which
+//! `host/build-library` proves, builds and lays below the repository's main
+//! folder.
 
 use std::path::Path;
 use std::process::exit;
@@ -15,7 +16,7 @@ fn main() {
     let archive = folder.join(ARCHIVE);
     println!("cargo:rerun-if-changed={}", archive.display());
     if !archive.is_file() {
-        eprintln!("{} is missing: run rt staticlib bridge", archive.display());
+        eprintln!("{} is missing: run host/build-library", archive.display());
         exit(1);
     }
     println!("cargo:rustc-link-search=native={}", folder.display());

@@ -1,17 +1,17 @@
-//! A public name of the specs stands for one thing: no two files declare it,
+//! A public name of the specs and their laws stands for one thing: no two files declare it,
 //! and no other differs from it in letter case alone.
 
 use crate::sources::{assert_none, declared, sources, Declared};
 use std::collections::BTreeMap;
 
-/// The public definitions and laws of all specs, in small letters, each as it
+/// All public definitions and laws, in small letters, each as it
 /// is written and where.
 fn public_names() -> BTreeMap<String, Vec<(String, String)>> {
     let mut found: BTreeMap<String, Vec<(String, String)>> = BTreeMap::new();
     let sources = sources(&["crates"]);
     let specs = sources
         .iter()
-        .filter(|source| source.has_ending(&["antt"]) && source.is_below("specs"));
+        .filter(|source| source.has_laws());
     for source in specs {
         for kind in [Declared::Definition, Declared::Law] {
             for (line, name) in declared(source, kind) {

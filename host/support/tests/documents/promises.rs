@@ -1,5 +1,5 @@
 //! Every promise that `docs/PROMISES.md` names stands in a crate's list of
-//! promises, `specs/Theorems.antt`, and every one there has its place in the
+//! promises, `proofs/Theorems.antt`, and every one there has its place in the
 //! document; so has every program that must be refused.
 
 use crate::sources::{assert_none, declared, sources, Declared, Source};
@@ -44,7 +44,7 @@ fn listed(source: &Source) -> Vec<&str> {
 /// The crates' lists of promises.
 fn lists() -> Vec<Source> {
     let mut all = sources(&["crates"]);
-    all.retain(|source| source.path.ends_with("/specs/Theorems.antt"));
+    all.retain(|source| source.path.ends_with("/proofs/Theorems.antt"));
     all
 }
 
@@ -54,7 +54,7 @@ fn every_promise_is_in_a_list() {
     let lists = lists();
     let known: BTreeSet<&str> = lists.iter().flat_map(listed).collect();
     let names = named(&text);
-    assert!(names.contains("round-trip") && names.contains("history"));
+    assert!(names.contains("round_trip") && names.contains("history"));
     let missing: Vec<String> = names.difference(&known).map(|&n| n.to_owned()).collect();
     assert_none("promises that no list has", &missing);
 }

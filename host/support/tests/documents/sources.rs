@@ -1,4 +1,4 @@
-//! The files of the repository, and what the files below `specs` declare.
+//! The files of the repository, and what those with definitions and laws declare.
 
 use std::fs;
 use std::path::Path;
@@ -34,6 +34,15 @@ impl Source {
     /// below a folder of laws.
     pub fn has_definitions(&self) -> bool {
         self.has_ending(&["antt"]) && self.is_below("specs") && !self.is_below("Laws")
+    }
+
+    /// Whether it holds definitions, statements or laws: it is below `specs`, or
+    /// below `proofs` and not the proof of one function.
+    pub fn has_laws(&self) -> bool {
+        let name = self.path.rsplit('/').next().unwrap_or_default();
+        let of_function = ["Answers.antt", "Invariants.antt", "Proof.antt"].contains(&name);
+        let laws = self.is_below("specs") || self.is_below("proofs") && !of_function;
+        self.has_ending(&["antt"]) && laws
     }
 
     pub fn is_of_rule_crate(&self) -> bool {
@@ -99,7 +108,7 @@ pub fn is_comment(text: &str) -> bool {
     text.starts_with("--") || text.starts_with("//")
 }
 
-/// What a line of a file below `specs` declares for others.
+/// What a line of a file with definitions or laws declares for others.
 #[derive(Clone, Copy, PartialEq)]
 pub enum Declared {
     /// A definition, or a type.

@@ -13,7 +13,7 @@ use std::io::{ErrorKind, Write};
 use std::path::Path;
 use std::process::{Child, Command, Output, Stdio};
 
-/// Where `rt check first_track` leaves the program, from this package.
+/// Where `host/build-library` leaves the program, from this package.
 const PROGRAM: &str = "../../target/bin/first_track";
 
 const FRESH: &str = "free 1434\ngood 1440\nheld 2\n";
@@ -22,7 +22,7 @@ fn start(input: Stdio) -> Child {
     let program = Path::new(env!("CARGO_MANIFEST_DIR")).join(PROGRAM);
     assert!(
         program.is_file(),
-        "{} is missing: run rt check first_track",
+        "{} is missing: run host/build-library",
         program.display()
     );
     Command::new(program)
