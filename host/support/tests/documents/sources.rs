@@ -91,7 +91,7 @@ fn collect(root: &Path, path: &str, found: &mut Vec<Source>) {
         for entry in fs::read_dir(&full).expect("a folder") {
             let name = entry.expect("an entry").file_name();
             let name = name.to_str().expect("a name of text");
-            if !name.starts_with('.') && name != "target" {
+            if !name.starts_with('.') && name != "target" && name != "out" {
                 collect(root, &format!("{path}/{name}"), found);
             }
         }

@@ -300,7 +300,7 @@ fn may_become(was: &[u8], is: &[u8]) -> bool {
 
 /// No answer depends on a tail: calls on disks that differ in tails alone give
 /// the same, refused ones too, and leave disks that differ in tails alone
-/// (§6.9 by *tails-unread*).
+/// (§6.9 by *tails_unread*).
 #[test]
 fn calls_do_not_read_tails() {
     let mut generator = Generator::new(77);
