@@ -1,60 +1,128 @@
 #!/usr/bin/env python3
-"""Compares what two trees of this repository declare, by text without spaces: every definition and every statement of a
-law or theorem, wherever it stands. usage: compare_statements.py OLD NEW; it lists what moved, changed, is gone or new."""
-import re,glob,os,sys
-def decls(root):
-    out={}
-    for p in sorted(glob.glob(root+'/crates/*/**/*.antt',recursive=True)):
-        if '/out/' in p or os.path.basename(p) in ('Proof.antt','Answers.antt','Invariants.antt','Lib.antt'): continue
-        rel=os.path.relpath(p,root); crate=rel.split('/')[1]; rest='/'.join(rel.split('/')[3:])
-        lines=open(p).read().split('\n')
-        # strip comments
-        L=[]
-        for l in lines:
-            if l.strip().startswith('--'): continue
-            L.append(re.split(r'\s--\s',l)[0] if '--' in l else l)
-        i=0; mods=[]
-        while i<len(L):
-            l=L[i]
-            m=re.match(r"(\s*)((?:pub |abbrev |unfoldable |data |record )*)([^\s(){}:]+)((?: [({][^(){}]*(?:[({][^(){}]*[)}][^(){}]*)*[)}])*) :(?=\s|$)(.*)",l)
-            mm=re.match(r"\s*module _ (.*)",l)
-            if mm:
-                s=l.strip(); j=i+1
-                while 'where' not in s: s+=' '+L[j].strip(); j+=1
-                out.setdefault((crate,rest,'module@'+str(len(mods))),[]).append(' '.join(s.split())); mods.append(s); i=j; continue
-            if m and not re.match(r"\s*(let|λ|in|rw)\b",l):
-                ind=len(m.group(1)); name=m.group(3); kind=m.group(2)
-                s=l.strip(); j=i+1
-                # gather until clause of name or blank or unfolding
-                while j<len(L) and L[j].strip() and len(L[j])-len(L[j].lstrip())>ind and not re.match(r"\s*(unfolding\b|"+re.escape(name)+r"(\s|$))",L[j]):
-                    s+=' '+L[j].strip(); j+=1
-                body=[]
-                if any(k in kind for k in ('abbrev','unfoldable','data','record')):
-                    k=j
-                    while k<len(L) and (not L[k].strip() or len(L[k])-len(L[k].lstrip())>ind or re.match(r"\s*"+re.escape(name)+r"(\s|$)",L[k])):
-                        if L[k].strip(): body.append(L[k].strip())
-                        elif k+1<len(L) and not (len(L[k+1])-len(L[k+1].lstrip())>ind or re.match(r"\s*"+re.escape(name)+r"(\s|$)",L[k+1])): break
-                        k+=1
-                full=' '.join((s+' '+' '.join(body)).split())
-                out.setdefault((crate,rest,name),[]).append(full); i=j; continue
-            i+=1
-    return out
-a=decls(sys.argv[1]); b=decls(sys.argv[2])
-b_by={}
-for (c,f,n),v in b.items(): b_by.setdefault((c,n),[]).append((f,v))
-same=0
-sq=lambda s: re.sub(r'\s+','',s)
-for k,v in a.items():
-    c,f,n=k
-    w=b.get(k)
-    if w is None:
-        cand=b_by.get((c,n),[])
-        hit=[x for x in cand if [sq(y) for y in x[1]]==[sq(y) for y in v]]
-        if hit: print('moved',c,f,n,'->',hit[0][0])
-        else: print('GONE',c,f,n,v[0][:150])
-    elif [sq(x) for x in w]!=[sq(x) for x in v]:
-        print('CHANGED',c,f,n); print('   -',v); print('   +',w)
-    else: same+=1
-for k in b:
-    if k not in a and not any(kk[0]==k[0] and kk[2]==k[2] for kk in a): print('NEW',k,b[k][0][:120])
-print('same',same,'of',len(a))
+"""Compares what two trees of this repository declare, by text without spaces: definitions with their bodies, and the
+statements of laws and theorems, wherever they stand in specs/ or proofs/.
+
+usage: compare_statements.py OLD NEW     lists what moved, changed, is gone or is new; proofs of functions are passed over
+"""
+import glob
+import os
+import re
+import sys
+
+OF_FUNCTIONS = ("Proof.antt", "Answers.antt", "Invariants.antt", "Lib.antt")
+HEAD = re.compile(
+    r"(\s*)((?:pub |abbrev |unfoldable |data |record )*)([^\s(){}:]+)"
+    r"((?: [({][^(){}]*(?:[({][^(){}]*[)}][^(){}]*)*[)}])*) :(?=\s|$)"
+)
+LOCAL = re.compile(r"\s*(let|λ|in|rw)\b")
+WITH_BODY = ("abbrev", "unfoldable", "data", "record")
+
+
+def indent(line):
+    return len(line) - len(line.lstrip())
+
+
+def code_lines(path):
+    """The lines of a file without comments."""
+    with open(path, encoding="utf-8") as f:
+        lines = f.read().split("\n")
+    return [re.split(r"\s--\s", line)[0] for line in lines if not line.strip().startswith("--")]
+
+
+def clause_of(name, line):
+    return re.match(r"\s*" + re.escape(name) + r"(\s|$)", line)
+
+
+def statement_end(lines, start, name, depth):
+    """The line after a statement: its clauses, an `unfolding` line or a blank one end it."""
+    end = start + 1
+    while end < len(lines) and lines[end].strip() and indent(lines[end]) > depth:
+        if re.match(r"\s*unfolding\b", lines[end]) or clause_of(name, lines[end]):
+            break
+        end += 1
+    return end
+
+
+def body_of(lines, start, name, depth):
+    """The lines of a definition's body."""
+    body = []
+    for line in lines[start:]:
+        inside = indent(line) > depth or clause_of(name, line)
+        if line.strip() and not inside:
+            break
+        if line.strip():
+            body.append(line.strip())
+    return body
+
+
+def module_head(lines, start):
+    """A module's parameters, up to its `where`, and the line after them."""
+    text, end = lines[start].strip(), start + 1
+    while "where" not in text:
+        text += " " + lines[end].strip()
+        end += 1
+    return text, end
+
+
+def declared_in(path):
+    """All declarations of a file: name and text."""
+    lines = code_lines(path)
+    found, i = [], 0
+    while i < len(lines):
+        head = HEAD.match(lines[i])
+        if re.match(r"\s*module _ ", lines[i]):
+            text, i = module_head(lines, i)
+            found.append(("module", text))
+        elif head and not LOCAL.match(lines[i]):
+            depth, kind, name = len(head.group(1)), head.group(2), head.group(3)
+            end = statement_end(lines, i, name, depth)
+            text = [line.strip() for line in lines[i:end]]
+            if any(word in kind for word in WITH_BODY):
+                text += body_of(lines, end, name, depth)
+            found.append((name, " ".join(text)))
+            i = end
+        else:
+            i += 1
+    return found
+
+
+def declared(root):
+    """The texts of all names: by crate, file below specs/ or proofs/, and name."""
+    found = {}
+    for path in sorted(glob.glob(f"{root}/crates/*/**/*.antt", recursive=True)):
+        if "/out/" in path or os.path.basename(path) in OF_FUNCTIONS:
+            continue
+        parts = os.path.relpath(path, root).split("/")
+        for name, text in declared_in(path):
+            found.setdefault((parts[1], "/".join(parts[3:]), name), []).append(re.sub(r"\s+", "", text))
+    return found
+
+
+def main(old, new):
+    before, after = declared(old), declared(new)
+    homes = {}
+    for (crate, file, name), texts in after.items():
+        homes.setdefault((crate, name), []).append((file, texts))
+    same = 0
+    for (crate, file, name), texts in before.items():
+        if after.get((crate, file, name)) == texts:
+            same += 1
+            continue
+        there = [home for home, others in homes.get((crate, name), []) if others == texts]
+        if there:
+            print(f"moved: {crate} {file} {name}: to {there[0]}")
+        elif (crate, file, name) in after:
+            print(f"changed: {crate} {file} {name}\n  - {texts}\n  + {after[(crate, file, name)]}")
+        else:
+            print(f"gone: {crate} {file} {name}: {texts[0][:150]}")
+    known = {(crate, name) for crate, _, name in before}
+    for crate, file, name in after:
+        if (crate, name) not in known:
+            print(f"new: {crate} {file} {name}")
+    print(f"{same} of {len(before)} the same in the same file")
+
+
+if __name__ == "__main__":
+    if len(sys.argv) != 3:
+        sys.exit(__doc__)
+    main(sys.argv[1], sys.argv[2])
