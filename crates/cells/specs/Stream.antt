@@ -51,6 +51,6 @@ packed_bits f i (suc n) = f (i + n) * 2 ^ n + packed_bits f i n
 unfoldable pub packed : (ℕ → ℕ) → ℕ → ℕ
 packed f b = packed_bits f (8 * b) 8
 
--- where the first n cells of a buffer lie, in which a code makes them: byte b of this side is byte b of the buffer (§2.6 §2.8)
+-- where n cells lie in a buffer into which those of a side with codes are written: byte b of this side is byte b of the buffer (§2.6 §2.8)
 abbrev pub buffer_side : ℕ → Side
 buffer_side n = record { first = 0; stride = 256; cells = n }

@@ -16,6 +16,7 @@ fn bit_of(x: u8, k: usize) -> u8
 }
 
 // The clock cell of the bit b that follows the bit a (§3.4).
+#[tactic(auto, unfolding(crate::specs::Mfm::clock))]
 pub fn clock(a: u8, b: u8) -> u8
     ensures { result ≡ Mfm.clock a b }
 {

@@ -1,6 +1,4 @@
 -- `coded_cells` meets its contract: the first k bytes are read, their n cells stand in the buffer, and x is expected.
--- Rests on: the laws in Codes; the contracts of side_byte, append_given, expected_after, cells_at_end and buffer_side.
--- Assumes nothing.
 use mathlib.Core.Path.{◌≡◌}
 use Prim.Native.Nat.{◌-◌, ◌*◌, ◌≤◌, ◌<◌}
 use lib.ListN.{length, drop}

@@ -1,6 +1,4 @@
 -- `judge_codes` meets its contract: the first k bytes are read, and x is expected.
--- Rests on: the laws in Codes; the contracts of side_byte, expected_after and wrong_at_end.
--- Assumes nothing.
 use mathlib.Core.Path.{◌≡◌}
 use Prim.Native.Nat.{◌-◌, ◌≤◌}
 use lib.ListN.{drop}

@@ -1,6 +1,4 @@
 -- `cells::crc_at` meets its contract: v is the CRC of the first j bytes.
--- Rests on: the laws in Crc; the contracts of row_byte and crc_byte.
--- Assumes nothing.
 use mathlib.Core.Path.{◌≡◌}
 use Prim.Native.Nat.{◌-◌, ◌≤◌}
 use Rattle.cells.specs.Stream.{stream, from, data_bytes}

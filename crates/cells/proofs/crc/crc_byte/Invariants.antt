@@ -1,6 +1,4 @@
 -- `cells::crc_byte` meets its contract: v is the register after the first k bits.
--- Rests on: the laws in Crc; the contract of crc_bit.
--- Assumes nothing.
 use mathlib.Core.Path.{◌≡◌}
 use Prim.Native.Nat.{◌-◌, ◌≤◌}
 use Rattle.cells.specs.Crc.{crc_bits}

@@ -1,6 +1,4 @@
 -- `cells::crc_row` meets its contract: v is the register after the first i bytes.
--- Rests on: the laws in Crc; the contract of crc_byte.
--- Assumes nothing.
 use mathlib.Core.Path.{◌≡◌}
 use Prim.Native.Nat.{◌-◌, ◌≤◌}
 use lib.ListN.{length, take}

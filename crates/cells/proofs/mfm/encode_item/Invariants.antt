@@ -1,6 +1,4 @@
 -- `cells::encode_item` meets its contract: v is the number of the first j cells.
--- Rests on: the laws in Number, Mfm and laws::Tab; the contract of item_cell.
--- Assumes nothing.
 use mathlib.Core.Path.{◌≡◌}
 use Prim.Native.Nat.{◌-◌, ◌≤◌}
 use Rattle.laws.specs.Lists.{tab}

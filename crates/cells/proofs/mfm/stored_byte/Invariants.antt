@@ -1,6 +1,4 @@
 -- `cells::stored_byte` meets its contract: v has the first j cells.
--- Rests on: the laws in Packed and Mfm; the contract of item_cell.
--- Assumes nothing.
 use mathlib.Core.Path.{◌≡◌}
 use Prim.Native.Nat.{◌-◌, ◌≤◌}
 use Rattle.cells.specs.Stream.{packed_bits}

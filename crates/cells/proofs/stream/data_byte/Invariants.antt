@@ -1,6 +1,4 @@
 -- `cells::data_byte` meets its contract: v is the number of the first n data cells.
--- Rests on: the laws in Stream and Number; the contracts of cells_from and cell_from.
--- Assumes nothing.
 use mathlib.Core.Path.{◌≡◌}
 use Prim.Native.Nat.{◌+◌, ◌-◌, ◌≤◌, ◌<◌, ◌^◌}
 use Rattle.cells.specs.Stream.{stream, from, number}

@@ -1,6 +1,4 @@
 -- `cells::sync_at` meets its contract: the first n cells are those of a sync byte.
--- Rests on: the laws in Sync and Stream; the contracts of cells_from and cell_from.
--- Assumes nothing.
 use mathlib.Core.Path.{◌≡◌}
 use Prim.Native.Nat.{◌+◌, ◌-◌, ◌/◌, ◌≤◌, ◌<◌, ◌^◌}
 use lib.ListN.{length}

@@ -1,6 +1,4 @@
 -- `fields::copy_into` meets its contract: the first i bytes are written.
--- Rests on: the laws in laws::Overlay; the contract of room.
--- Assumes nothing.
 use mathlib.Core.Path.{◌≡◌}
 use Prim.Native.Nat.{◌-◌, ◌≤◌, min}
 use lib.ListN.{length}

@@ -1,6 +1,4 @@
 -- `fields::stands_at` meets its contract: the first i bytes are equal.
--- Rests on: the laws in laws::Same.
--- Assumes nothing.
 use mathlib.Core.Path.{◌≡◌}
 use Prim.Native.Nat.{ℕ, ◌+◌, ◌-◌, ◌≤◌, ◌<◌}
 use lib.ListN.{length, get_or}

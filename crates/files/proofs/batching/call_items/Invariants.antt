@@ -1,6 +1,4 @@
 -- `call_items` meets its contract: the items before place p are done and left the image; no item is wrong, and item n begins there.
--- Rests on: the laws in Calling/Items; the contracts of call_item, at_item, item_size and sectors::done.
--- Assumes nothing.
 use mathlib.Core.Path.{◌≡◌}
 use Prim.Native.Nat.{◌+◌, ◌-◌, ◌≤◌}
 use lib.ListN.{length}

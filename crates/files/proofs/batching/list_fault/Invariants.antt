@@ -1,6 +1,4 @@
 -- `list_fault` meets its contract: no item before place p is wrong, and item n begins there.
--- Rests on: the laws in Calling/Items; the contracts of item_right and item_size.
--- Assumes nothing.
 use mathlib.Core.Path.{◌≡◌}
 use Prim.Native.Nat.{◌+◌, ◌-◌, ◌≤◌}
 use lib.ListN.{length}

@@ -1,6 +1,4 @@
 -- `load_chains` meets its contract: the last i blocks are chained.
--- Rests on: the laws in Loading/Chains; the contracts of map_record and bearer.
--- Assumes nothing.
 use Prim.Native.Nat.{◌-◌, ◌≤◌}
 use Rattle.sector_rules.specs.Geometry.{blocks}
 use Rattle.files.specs.Laws.Loading.Chains.{Chained}

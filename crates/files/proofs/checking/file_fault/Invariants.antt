@@ -1,7 +1,4 @@
 -- `file_fault` meets its contract: the files below f are sound.
--- Rests on: the laws in Loading/NameHashes, Loading/Parts, Loading/Chains, Loading/Slots and Judging/Sound; the
--- contracts of file_blocks, load_chains, dir_end and file_right.
--- Assumes nothing.
 use Rattle.files.specs.Laws.Loading.NameHashes.{HashesNoted}
 use mathlib.Core.Path.{◌≡◌}
 use mathlib.Core.Bool.{false, not}

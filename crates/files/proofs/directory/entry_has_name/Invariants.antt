@@ -1,6 +1,4 @@
 -- `entry_has_name` meets its contract: the first i bytes are equal once they are lowered.
--- Rests on: the laws in Loading/Slots; the contracts of name_length, fields::byte and bytes_agree.
--- Assumes nothing.
 use mathlib.Core.Path.{◌≡◌}
 use Prim.Native.Nat.{ℕ, ◌+◌, ◌-◌, ◌≤◌, ◌<◌}
 use lib.ListN.{length, get_or}

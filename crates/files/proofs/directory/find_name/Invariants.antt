@@ -1,6 +1,4 @@
 -- `find_name` meets its contract: no slot below k is held and has the name.
--- Rests on: the laws in Loading/Slots; the contracts of dir_end and slot_has_name.
--- Assumes nothing.
 use mathlib.Core.Path.{◌≡◌}
 use Prim.Native.Nat.{ℕ, ◌-◌, ◌≤◌, ◌<◌}
 use Rattle.file_rules.specs.Disk.{disk_of}

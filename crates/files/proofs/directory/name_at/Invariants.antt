@@ -1,6 +1,4 @@
 -- `name_at` meets its contract: the first i bytes are copied.
--- Rests on: the laws in Loading/Slots and laws::Tab; the contract of fields::byte.
--- Assumes nothing.
 use mathlib.Core.Path.{◌≡◌}
 use Prim.Native.Nat.{ℕ, ◌-◌, ◌≤◌, ◌<◌}
 use lib.ListN.{length, get_or}

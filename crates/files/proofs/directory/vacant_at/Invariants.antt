@@ -1,6 +1,4 @@
 -- `vacant_at` meets its contract: the first i bytes are zero.
--- Rests on: the laws in laws::Tests and laws::All; the contract of fields::byte.
--- Assumes nothing.
 use mathlib.Core.Path.{◌≡◌}
 use mathlib.Core.Bool.{true}
 use Prim.Native.Nat.{ℕ, ◌-◌, ◌≤◌, ◌<◌}

@@ -1,6 +1,4 @@
 -- `vacant_slot` meets its contract: no slot below k is vacant.
--- Rests on: the laws in Loading/Slots; the contracts of dir_end and held_slot.
--- Assumes nothing.
 use mathlib.Core.Path.{◌≡◌}
 use Prim.Native.Nat.{ℕ, ◌-◌, ◌≤◌, ◌<◌}
 use lib.Dec.{ltb}

@@ -1,6 +1,4 @@
 -- `bad_list_right` meets its contract: the entries below i can be bad blocks.
--- Rests on: the laws in Calling/BadNoted and laws::All; the contract of block_number.
--- Assumes nothing.
 use mathlib.Core.Path.{◌≡◌}
 use mathlib.Core.Bool.{true}
 use Prim.Native.Nat.{ℕ, ◌-◌, ◌≤◌, ◌<◌}

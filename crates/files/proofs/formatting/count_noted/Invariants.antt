@@ -1,6 +1,4 @@
 -- `count_noted` meets its contract: n of the blocks below b are tallied.
--- Rests on: the laws in Calling/BadNoted and Loading/Loops.
--- Assumes nothing.
 use mathlib.Core.Path.{◌≡◌}
 use Prim.Native.Nat.{◌-◌, ◌≤◌}
 use Rattle.laws.specs.Below.{count}

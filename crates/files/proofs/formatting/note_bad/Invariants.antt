@@ -1,6 +1,4 @@
 -- `note_bad` meets its contract: the entries below i are tallied.
--- Rests on: the laws in Loading/Tally and Calling/BadNoted; the contracts of block_number and more.
--- Assumes nothing.
 use Prim.Native.Nat.{ℕ, ◌-◌, ◌≤◌}
 use lib.ListN.{length, get_or}
 use Rattle.sector_rules.specs.Geometry.{blocks}

@@ -1,6 +1,4 @@
 -- `write_map` meets its contract: the records below b are written.
--- Rests on: the laws in Writing/Steps and Calling/Fresh; the contracts of fresh_record and set_record.
--- Assumes nothing.
 use mathlib.Core.Path.{◌≡◌}
 use Prim.Native.Nat.{◌-◌, ◌≤◌}
 use lib.ListN.{length}

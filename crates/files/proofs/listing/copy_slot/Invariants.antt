@@ -1,6 +1,4 @@
 -- `copy_slot` meets its contract: the first i bytes are copied.
--- Rests on: the laws in laws::Overlay; the contract of fields::byte.
--- Assumes nothing.
 use mathlib.Core.Path.{◌≡◌}
 use Prim.Native.Nat.{◌-◌, ◌≤◌}
 use lib.ListN.{length}

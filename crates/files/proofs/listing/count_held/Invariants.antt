@@ -1,6 +1,4 @@
 -- `count_held` meets its contract: n of the slots below k are held.
--- Rests on: the laws in Loading/Loops; the contract of held_slot.
--- Assumes nothing.
 use mathlib.Core.Path.{◌≡◌}
 use Prim.Native.Nat.{◌-◌, ◌≤◌}
 use Rattle.laws.specs.Below.{count}

@@ -1,6 +1,4 @@
 -- `list_slots` meets its contract: the slots below k are listed, and the next goes to c.
--- Rests on: the laws in Calling/Delivered; the contract of list_slot.
--- Assumes nothing.
 use mathlib.Core.Path.{◌≡◌}
 use Prim.Native.Nat.{◌-◌, ◌≤◌}
 use lib.ListN.{length}

@@ -1,6 +1,4 @@
 -- `count_records` meets its contract: n of the records below b are counted.
--- Rests on: the laws in Loading/Loaded and Loading/Loops; the contracts of map_record and is_counted.
--- Assumes nothing.
 use mathlib.Core.Path.{◌≡◌}
 use Prim.Native.Nat.{ℕ, ◌-◌, ◌≤◌}
 use Rattle.laws.specs.Below.{count}

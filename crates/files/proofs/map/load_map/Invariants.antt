@@ -1,6 +1,4 @@
 -- `load_map` meets its contract: the records below b are loaded.
--- Rests on: the laws in Loading/Loaded; the contract of load_record.
--- Assumes nothing.
 use mathlib.Core.Path.{◌≡◌}
 use Prim.Native.Nat.{ℕ, ◌-◌, ◌≤◌, ◌<◌}
 use lib.ListN.{length, get_or}

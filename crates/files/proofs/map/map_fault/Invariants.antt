@@ -1,6 +1,4 @@
 -- `map_fault` meets its contract: no record below b passes.
--- Rests on: the laws in Loading/Loaded and laws::Lowest; the contracts of map_record and record_fault.
--- Assumes nothing.
 use mathlib.Core.Path.{◌≡◌}
 use mathlib.Core.Bool.{false}
 use Prim.Native.Nat.{ℕ, ◌-◌, ◌≤◌, ◌<◌}

@@ -1,6 +1,4 @@
 -- `name_hash` meets its contract: the hash of the first i bytes.
--- Rests on: the laws in Loading/NameHashes; the contracts of name_length, fields::byte, lowered_byte and wide.
--- Assumes nothing.
 use mathlib.Core.Path.{◌≡◌}
 use Prim.Native.Nat.{◌-◌, ◌≤◌, ◌<◌, ◌+◌}
 use Rattle.laws.specs.Lists.{element_at}

@@ -1,6 +1,4 @@
 -- `new_name` meets its contract: no slot below j is held and has the name.
--- Rests on: the laws in laws::All; the contract of slot_has_name.
--- Assumes nothing.
 use mathlib.Core.Path.{◌≡◌}
 use mathlib.Core.Bool.{true, not, ◌&&◌}
 use Prim.Native.Nat.{ℕ, ◌-◌, ◌≤◌, ◌<◌}

@@ -1,6 +1,4 @@
 -- `all_once` meets its contract: the parts below s stand once.
--- Rests on: the laws in laws::Tests and laws::All.
--- Assumes nothing.
 use mathlib.Core.Path.{◌≡◌}
 use mathlib.Core.Bool.{true}
 use Prim.Native.Nat.{ℕ, ◌-◌, ◌≤◌, ◌<◌}

@@ -1,6 +1,4 @@
 -- `file_blocks` meets its contract: the last i blocks are placed.
--- Rests on: the laws in Loading/Parts; the contracts of map_record and part_of.
--- Assumes nothing.
 use Prim.Native.Nat.{◌-◌, ◌≤◌}
 use Rattle.sector_rules.specs.Geometry.{blocks}
 use Rattle.files.specs.Laws.Loading.Parts.{PartsFrom}

@@ -1,7 +1,4 @@
 -- `tally_parts` meets its contract: the records below b are counted, and b bears the file.
--- Rests on: the laws in Loading/Loaded, Loading/Tally, Loading/Parts, Loading/Chains and laws::Cases; the
--- contracts of first_block, map_record, part_of, more and block_number.
--- Assumes nothing.
 use mathlib.Core.Path.{◌≡◌}
 use mathlib.Core.Bool.{true}
 use Prim.Native.Nat.{ℕ, suc, ◌-◌, ◌≤◌, ◌<◌}

@@ -1,7 +1,4 @@
 -- `copy_data` meets its contract: the first i bytes are copied.
--- Rests on: the laws in Loading/Parts, Loading/Loaded, Calling/Delivered and laws::Overlay; the contracts of
--- file_blocks, nth_block, part_length and copy_part.
--- Assumes nothing.
 use mathlib.Core.Path.{◌≡◌}
 use Prim.Native.Nat.{ℕ, ◌-◌, ◌≤◌, ◌+◌}
 use lib.ListN.{length}

@@ -1,6 +1,4 @@
 -- `copy_part` meets its contract: the first i bytes are copied.
--- Rests on: the laws in laws::Overlay; the contracts of run_length and copy_run.
--- Assumes nothing.
 use mathlib.Core.Path.{◌≡◌}
 use Prim.Native.Nat.{ℕ, ◌+◌, ◌-◌, ◌≤◌}
 use lib.ListN.{length}

@@ -1,6 +1,4 @@
 -- `free_blocks` meets its contract: the blocks below b are freed.
--- Rests on: the laws in Writing/Given and Writing/InStep; the contract of free_block.
--- Assumes nothing.
 use mathlib.Core.Path.{◌≡◌}
 use Prim.Native.Nat.{◌-◌, ◌≤◌}
 use Rattle.sector_rules.specs.Geometry.{blocks}

@@ -1,7 +1,4 @@
 -- `give_blocks` meets its contract: the walk has given the free blocks below b, as long as there are not enough; the records from b on are as they were.
--- Rests on: the laws in Loading/Loaded, Writing/Steps, Writing/Given, Writing/InStep and laws::Tests; the
--- contracts of map_record, is_free and give_block.
--- Assumes nothing.
 use mathlib.Core.Path.{◌≡◌}
 use Prim.Native.Nat.{ℕ, ◌-◌, ◌≤◌, ◌<◌}
 use Rattle.sector_rules.specs.Geometry.{blocks}

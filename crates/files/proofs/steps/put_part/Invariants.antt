@@ -1,6 +1,4 @@
 -- `put_part` meets its contract: the first p sectors are written.
--- Rests on: the laws in Writing/Stored, Writing/Steps and Writing/Rows; the contract of put_sector.
--- Assumes nothing.
 use mathlib.Core.Path.{◌≡◌}
 use Prim.Native.Nat.{ℕ, ◌+◌, ◌-◌, ◌*◌, ◌≤◌}
 use lib.ListN.{length}

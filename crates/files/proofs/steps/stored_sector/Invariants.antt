@@ -1,6 +1,4 @@
 -- `stored_sector` meets its contract: the first k bytes are there.
--- Rests on: the laws in Writing/Steps, Writing/Rows and laws::Tab; the contract of stored_byte.
--- Assumes nothing.
 use mathlib.Core.Path.{◌≡◌}
 use Prim.Native.Nat.{ℕ, ◌+◌, ◌-◌, ◌≤◌, ◌<◌}
 use lib.ListN.{length, get_or}

@@ -1,6 +1,4 @@
 -- `zero_bytes` meets its contract: the first i bytes are written.
--- Rests on: the laws in Writing/Stored and Writing/Rows; the contracts of run_length and zero_run.
--- Assumes nothing.
 use mathlib.Core.Path.{◌≡◌}
 use Prim.Native.Nat.{ℕ, ◌-◌, ◌≤◌}
 use lib.ListN.{length}

@@ -1,6 +1,4 @@
 -- `Geometry::backward_table` meets its contract: the bytes below i are those of the rule.
--- Rests on: the laws of lists and in Reading/Placement; the contract of Geometry::remainder_at.
--- Assumes nothing.
 use mathlib.Core.Path.{◌≡◌}
 use Prim.Native.Nat.{ℕ, ◌-◌, ◌/◌, ◌%◌, ◌≤◌, ◌<◌}
 use lib.ListN.{length, get_or}

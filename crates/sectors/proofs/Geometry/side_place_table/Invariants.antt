@@ -1,6 +1,4 @@
 -- `Geometry::side_place_table` meets its contract: the bytes below `remainder` are those of the rule.
--- Rests on: the laws of lists and in Reading/Placement; the contract of Geometry::track_place.
--- Assumes nothing.
 use mathlib.Core.Path.{◌≡◌}
 use Prim.Native.Nat.{ℕ, ◌-◌, ◌/◌, ◌%◌, ◌≤◌, ◌<◌}
 use lib.ListN.{length, get_or}

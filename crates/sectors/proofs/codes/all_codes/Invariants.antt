@@ -1,6 +1,4 @@
 -- `all_codes` meets its contract: no side below n has a wrong code.
--- Rests on: the laws in Unpacking/Codes; the contracts of side_codes and done.
--- Assumes nothing.
 use mathlib.Core.Option.{none}
 use mathlib.Core.Path.{◌≡◌}
 use Prim.Native.Nat.{◌-◌, ◌*◌, ◌≤◌}

@@ -1,6 +1,4 @@
 -- `sector_reads` meets its contract: the bytes below k are the same.
--- Rests on: the laws in Rewriting/Compared; the contracts of track_part, track_side and cells::data_byte.
--- Assumes nothing.
 use mathlib.Core.Path.{◌≡◌}
 use Prim.Native.Nat.{ℕ, ◌-◌, ◌≤◌, ◌<◌}
 use lib.ListN.{get_or}

@@ -1,6 +1,4 @@
 -- `sectors_right` meets its contract: the sectors below k are as they must be.
--- Rests on: the laws in laws::All; the contract of sector_right.
--- Assumes nothing.
 use mathlib.Core.Path.{◌≡◌}
 use Prim.Native.Nat.{ℕ, ◌+◌, ◌-◌, ◌*◌, ◌≤◌, ◌<◌}
 use mathlib.Core.Bool.{true}

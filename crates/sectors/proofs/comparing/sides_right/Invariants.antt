@@ -1,6 +1,4 @@
 -- `sides_right` meets its contract: the sectors of the sides below n are as they must be.
--- Rests on: the laws in Rewriting/Exchanged; the contract of side_right.
--- Assumes nothing.
 use mathlib.Core.Path.{◌≡◌}
 use Prim.Native.Nat.{◌-◌, ◌*◌, ◌≤◌}
 use mathlib.Core.Bool.{true}

@@ -1,6 +1,4 @@
 -- `table_fault` meets its contract: the entries of the tracks below t are good.
--- Rests on: the laws in Reading/Faults and sector_rules::Base/Faults; the contract of track_good.
--- Assumes nothing.
 use mathlib.Core.Path.{◌≡◌}
 use mathlib.Core.Bool.{false, not}
 use Prim.Native.Nat.{ℕ, ◌<◌, ◌≤◌, ◌-◌}

@@ -1,6 +1,4 @@
 -- `byte_after` meets its contract: v has the first j cells.
--- Rests on: the laws in cells::Packed and sector_rules::Rewrite.After; the contract of cell_after.
--- Assumes nothing.
 use mathlib.Core.Path.{◌≡◌}
 use Prim.Native.Nat.{◌-◌, ◌*◌, ◌≤◌}
 use Rattle.cells.specs.Stream.{stream, packed_bits}

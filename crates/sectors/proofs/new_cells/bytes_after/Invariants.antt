@@ -1,6 +1,4 @@
 -- `bytes_after` meets its contract: the first j bytes are made.
--- Rests on: the laws of lists; the contract of byte_after.
--- Assumes nothing.
 use mathlib.Core.Path.{◌≡◌}
 use Prim.Native.Nat.{ℕ, ◌+◌, ◌-◌, ◌≤◌, ◌<◌}
 use lib.ListN.{length, get_or}

@@ -1,6 +1,4 @@
 -- `field_row` meets its contract: the first k bytes are made.
--- Rests on: the laws of lists and rows; the contract of field_byte.
--- Assumes nothing.
 use mathlib.Core.Path.{◌≡◌}
 use Prim.Native.Nat.{ℕ, ◌-◌, ◌≤◌, ◌<◌}
 use lib.ListN.{length, get_or}

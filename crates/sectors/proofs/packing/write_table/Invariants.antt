@@ -1,6 +1,4 @@
 -- `write_table` meets its contract: the first j bytes are written.
--- Rests on: the laws in laws::Overlay; the contract of table_byte.
--- Assumes nothing.
 use mathlib.Core.Path.{◌≡◌}
 use Prim.Native.Nat.{◌-◌, ◌≤◌}
 use lib.ListN.{length}

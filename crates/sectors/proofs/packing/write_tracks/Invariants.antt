@@ -1,6 +1,4 @@
 -- `write_tracks` meets its contract: the runs below w are written.
--- Rests on: the laws in Packing/Runs and laws::Overlay; the contract of write_run.
--- Assumes nothing.
 use mathlib.Core.Path.{◌≡◌}
 use Prim.Native.Nat.{◌-◌, ◌*◌, ◌≤◌}
 use lib.ListN.{length}

@@ -1,6 +1,4 @@
 -- `field_place` meets its contract: what is left of the search gives what the whole gives.
--- Rests on: the laws in Reading/Search, cells::Stream and cells::Sync; the contract of cells::three_sync.
--- Assumes nothing.
 use mathlib.Core.Path.{◌≡◌}
 use Prim.Native.Nat.{ℕ, ◌+◌, ◌-◌, ◌^◌, ◌≤◌, ◌<◌}
 use Rattle.cells.specs.Stream.{stream, from}

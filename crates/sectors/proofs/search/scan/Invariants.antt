@@ -1,7 +1,4 @@
 -- `scan` meets its contract: the answers are those of the places below i.
--- Rests on: the laws in Reading/Search and cells::Stream; the contracts of cells::cells_from, header_at,
--- sector_index and more.
--- Assumes nothing.
 use mathlib.Core.Path.{◌≡◌}
 use Prim.Native.Nat.{ℕ, ◌+◌, ◌-◌, ◌≤◌, ◌<◌}
 use lib.ListN.{length, get_or}

@@ -1,6 +1,4 @@
 -- `put_bytes` meets its contract: the first j bytes are written.
--- Rests on: the laws in Rewriting/Changed; the contract of stored_place.
--- Assumes nothing.
 use mathlib.Core.Path.{◌≡◌}
 use Prim.Native.Nat.{ℕ, ◌+◌, ◌-◌, ◌≤◌}
 use lib.ListN.{length, get_or}

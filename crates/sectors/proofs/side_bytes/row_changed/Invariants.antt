@@ -1,6 +1,4 @@
 -- `row_changed` meets its contract: the first j bytes are not among them.
--- Rests on: the contract of is_changed.
--- Assumes nothing.
 use Prim.Native.Nat.{◌-◌, ◌≤◌}
 use Rattle.sectors.specs.Laws.Rewriting.Skipped.{Kept}
 use Rattle.sectors.proofs.side_bytes.row_changed.Given as goal

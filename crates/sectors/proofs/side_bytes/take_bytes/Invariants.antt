@@ -1,6 +1,4 @@
 -- `take_bytes` meets its contract: the first j bytes are taken.
--- Rests on: the laws of lists; the contract of stored_place.
--- Assumes nothing.
 use mathlib.Core.Path.{◌≡◌}
 use Prim.Native.Nat.{ℕ, ◌+◌, ◌-◌, ◌≤◌, ◌<◌}
 use lib.ListN.{length, get_or}

@@ -1,6 +1,4 @@
 -- `side_sectors` meets its contract: the sectors below k are judged, and the places of their data noted.
--- Rests on: the laws in Unpacking/Sides; the contracts of scan and sector_found.
--- Assumes nothing.
 use mathlib.Core.Path.{◌≡◌}
 use Prim.Native.Nat.{ℕ, ◌+◌, ◌-◌, ◌≤◌, ◌<◌}
 use lib.ListN.{length, get_or}

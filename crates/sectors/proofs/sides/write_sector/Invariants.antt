@@ -1,6 +1,4 @@
 -- `write_sector` meets its contract: the first k bytes are written.
--- Rests on: the laws in laws::Overlay; the contract of cells::data_byte.
--- Assumes nothing.
 use mathlib.Core.Path.{◌≡◌}
 use Prim.Native.Nat.{◌-◌, ◌≤◌}
 use lib.ListN.{length}

@@ -1,6 +1,4 @@
 -- `write_side` meets its contract: the sectors below k are written.
--- Rests on: the laws in Unpacking/Sides and laws::Overlay; the contract of write_sector.
--- Assumes nothing.
 use mathlib.Core.Path.{◌≡◌}
 use Prim.Native.Nat.{◌-◌, ◌*◌, ◌≤◌}
 use lib.ListN.{length}

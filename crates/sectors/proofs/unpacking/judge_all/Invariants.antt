@@ -1,6 +1,4 @@
 -- `judge_all` meets its contract: the sectors of the sides below n are good.
--- Rests on: the laws in Unpacking/SectorsJudged; the contracts of judge_side and done.
--- Assumes nothing.
 use mathlib.Core.Path.{◌≡◌}
 use Prim.Native.Nat.{◌-◌, ◌*◌, ◌≤◌}
 use lib.ListN.{length}

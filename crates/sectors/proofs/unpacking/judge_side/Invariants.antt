@@ -1,7 +1,4 @@
 -- `judge_side` meets its contract: the sectors below k are good, and the places of their bytes are noted.
--- Rests on: the laws in Unpacking/SectorsJudged; the contracts of version_side, is_bad, sector_reply, place_of
--- and done.
--- Assumes nothing.
 use mathlib.Core.Path.{◌≡◌}
 use Prim.Native.Nat.{◌+◌, ◌-◌, ◌*◌, ◌≤◌}
 use lib.ListN.{length}

@@ -1,6 +1,4 @@
 -- `write_sides` meets its contract: the sides below n are written.
--- Rests on: the laws in Unpacking/Sides and laws::Overlay; the contract of write_version_side.
--- Assumes nothing.
 use mathlib.Core.Path.{◌≡◌}
 use Prim.Native.Nat.{◌-◌, ◌*◌, ◌≤◌}
 use lib.ListN.{length}

@@ -1,7 +1,4 @@
 -- `write_items` meets its contract: the items below i are written, and the bit before item i is known.
--- Rests on: the laws in Packing/Runs and laws::Overlay; the contracts of bit_before, side_item,
--- cells::item_byte and cells::last_bit.
--- Assumes nothing.
 use mathlib.Core.Path.{◌≡◌}
 use Prim.Native.Nat.{◌+◌, ◌-◌, ◌*◌, ◌≤◌}
 use lib.ListN.{length}
