@@ -1,5 +1,5 @@
-// The C interface, the calls of docs/RULES.md, section 8: each function calls one of the layers and nothing more, and
-// its contract is that function's. A slice is a pointer and a length.
+// The C interface, the calls of docs/RULES.md, section 8: each function calls one of the layers and makes the
+// reply of what that answers. A slice is a pointer and a length.
 #![tactic(auto)]
 
 ghost use Rattle.std.specs.Prelude.{[], ◌≡◌, length};
@@ -20,7 +20,7 @@ use sector_rules::Reply;
 pub extern "C" fn dheg_unpack(hfe: &[u8], image: &mut [u8]) -> Reply
     ensures { (result ≡ unpack_reply hfe.now (length image.old)) × (image.new ≡ unpack_image hfe.now image.old) }
 {
-    sectors::unpack(hfe, image)
+    sectors::reply_of(sectors::unpack(hfe, image))
 }
 
 // The call pack (§8.2).
@@ -28,7 +28,7 @@ pub extern "C" fn dheg_unpack(hfe: &[u8], image: &mut [u8]) -> Reply
 pub extern "C" fn dheg_pack(image: &[u8], hfe: &mut [u8]) -> Reply
     ensures { (result ≡ pack_reply (length image.now) (length hfe.old)) × (hfe.new ≡ pack_hfe image.now hfe.old) }
 {
-    sectors::pack(image, hfe)
+    sectors::reply_of(sectors::pack(image, hfe))
 }
 
 // The call rewrite, of HFE version 1 alone (§8.15).
@@ -42,7 +42,7 @@ pub extern "C" fn dheg_rewrite(
 ) -> Reply
     ensures { (result ≡ rewrite_reply hfe.old track side r content.now) × (hfe.new ≡ rewrite_hfe hfe.old track side r content.now) }
 {
-    sectors::rewrite(hfe, track, side, r, content)
+    sectors::reply_of(sectors::rewrite(hfe, track, side, r, content))
 }
 
 // The call place (§8.3).
@@ -50,7 +50,7 @@ pub extern "C" fn dheg_rewrite(
 pub extern "C" fn dheg_place(block: usize, sector: usize) -> Reply
     ensures { result ≡ place_reply block sector }
 {
-    sectors::place(block, sector)
+    sectors::reply_with_place(sectors::place(block, sector))
 }
 
 // The call format without bad blocks (§8.4).
@@ -58,7 +58,7 @@ pub extern "C" fn dheg_place(block: usize, sector: usize) -> Reply
 pub extern "C" fn dheg_format(image: &mut [u8], name: &[u8], number: u16) -> Reply
     ensures { (result ≡ (Calls.format image.old (arguments_of name.now number [])).answer) × (image.new ≡ (Calls.format image.old (arguments_of name.now number [])).image) }
 {
-    files::format(image, name, number)
+    sectors::reply_of(files::format(image, name, number))
 }
 
 // The call format with a list of bad blocks (§8.4).
@@ -66,7 +66,7 @@ pub extern "C" fn dheg_format(image: &mut [u8], name: &[u8], number: u16) -> Rep
 pub extern "C" fn dheg_format_bad(image: &mut [u8], name: &[u8], number: u16, bad: &[u16]) -> Reply
     ensures { (result ≡ (Calls.format image.old (arguments_of name.now number bad.now)).answer) × (image.new ≡ (Calls.format image.old (arguments_of name.now number bad.now)).image) }
 {
-    files::format_bad(image, name, number, bad)
+    sectors::reply_of(files::format_bad(image, name, number, bad))
 }
 
 // The call check (§8.5).
@@ -74,7 +74,7 @@ pub extern "C" fn dheg_format_bad(image: &mut [u8], name: &[u8], number: u16, ba
 pub extern "C" fn dheg_check(image: &[u8]) -> Reply
     ensures { result ≡ Calls.check image.now }
 {
-    files::check(image)
+    sectors::reply_of(files::check(image))
 }
 
 // The call list (§8.6).
@@ -82,7 +82,7 @@ pub extern "C" fn dheg_check(image: &[u8]) -> Reply
 pub extern "C" fn dheg_list(image: &[u8], out: &mut [u8]) -> Reply
     ensures { (result ≡ (Calls.list image.now out.old).answer) × (out.new ≡ (Calls.list image.now out.old).buffer) }
 {
-    files::list(image, out)
+    sectors::reply_with_place(files::list(image, out))
 }
 
 // The call read (§8.7).
@@ -90,7 +90,7 @@ pub extern "C" fn dheg_list(image: &[u8], out: &mut [u8]) -> Reply
 pub extern "C" fn dheg_read(image: &[u8], name: &[u8], out: &mut [u8]) -> Reply
     ensures { (result ≡ (Calls.read image.now name.now out.old).answer) × (out.new ≡ (Calls.read image.now name.now out.old).buffer) }
 {
-    files::read(image, name, out)
+    sectors::reply_with_place(files::read(image, name, out))
 }
 
 // The call add (§8.9).
@@ -98,7 +98,7 @@ pub extern "C" fn dheg_read(image: &[u8], name: &[u8], out: &mut [u8]) -> Reply
 pub extern "C" fn dheg_add(image: &mut [u8], name: &[u8], date: u32, data: &[u8]) -> Reply
     ensures { (result ≡ (Calls.add image.old name.now date «data».now).answer) × (image.new ≡ (Calls.add image.old name.now date «data».now).image) }
 {
-    files::add(image, name, date, data)
+    sectors::reply_of(files::add(image, name, date, data))
 }
 
 // The call remove (§8.13).
@@ -106,7 +106,7 @@ pub extern "C" fn dheg_add(image: &mut [u8], name: &[u8], date: u32, data: &[u8]
 pub extern "C" fn dheg_remove(image: &mut [u8], name: &[u8]) -> Reply
     ensures { (result ≡ (Calls.remove image.old name.now).answer) × (image.new ≡ (Calls.remove image.old name.now).image) }
 {
-    files::remove(image, name)
+    sectors::reply_of(files::remove(image, name))
 }
 
 // The call batch (§8.19), with its list of items (§8.18).
@@ -114,7 +114,7 @@ pub extern "C" fn dheg_remove(image: &mut [u8], name: &[u8]) -> Reply
 pub extern "C" fn dheg_batch(image: &mut [u8], list: &[u8]) -> Reply
     ensures { (result ≡ (Batch.batch image.old list.now).answer) × (image.new ≡ (Batch.batch image.old list.now).image) }
 {
-    files::batch(image, list)
+    sectors::reply_of(files::batch(image, list))
 }
 
 // The call first track (§8.14).
@@ -122,5 +122,5 @@ pub extern "C" fn dheg_batch(image: &mut [u8], list: &[u8]) -> Reply
 pub extern "C" fn dheg_first_track(track: &[u8]) -> FirstTrack
     ensures { result ≡ first_track_result track.now }
 {
-    files::first_track(track)
+    files::track_reply(files::first_track(track))
 }

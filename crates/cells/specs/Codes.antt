@@ -1,6 +1,6 @@
 -- Codes among the bytes of a side, as a version 3 image has them (docs/RULES.md, section 2): which cells the bytes give, or which code is wrong.
 -- Assumes nothing: these are definitions.
-use Rattle.std.specs.Prelude.{Bool, cond, List, [], ◌∷◌, ◌++◌, ℕ, suc, ◌/◌, ◌%◌, ◌^◌, leb, eqb, get_or, drop}
+use Rattle.std.specs.Prelude.{Bool, cond, Option, Some, None, List, [], ◌∷◌, ◌++◌, ℕ, suc, ◌/◌, ◌%◌, ◌^◌, leb, eqb, get_or, drop}
 use Rattle.laws.specs.Lists.{tab}
 use Rattle.cells.specs.declared.Side.{Side}
 use Rattle.cells.specs.declared.Expected.{Expected}
@@ -77,7 +77,7 @@ unfoldable pub cells_of : Decoded → List ℕ
 cells_of (Cells c) = c
 cells_of (WrongCode p) = []
 
--- the wrong code, where there is one (§2.9)
-unfoldable pub wrong_of : Decoded → Expected
-wrong_of (Cells c) = Any
-wrong_of (WrongCode p) = Wrong p
+-- the place of the wrong code, where there is one (§2.9)
+unfoldable pub wrong_of : Decoded → Option ℕ
+wrong_of (Cells c) = None
+wrong_of (WrongCode p) = Some p

@@ -1,28 +1,17 @@
 // Codes among the bytes of a side, as a version 3 image has them: which code is wrong, and which cells the bytes give.
 ghost use Rattle.std.specs.Prelude.{cond, List, [], ◌++◌, ◌≡◌, ℕ, ◌+◌, ◌*◌, ◌/◌, ◌%◌, ◌^◌, ◌<◌, ◌≤◌, ltb, length, get_or, drop};
-ghost use Rattle.cells.specs.Stream.{byte_place, stream};
-ghost use Rattle.cells.specs.Codes.{stored_bytes, byte_cells, after_code, expected_after, cells_given, cells_before, at_end, coded, cells_of, wrong_of};
+ghost use Rattle.cells.specs.Stream.{stream};
+ghost use Rattle.cells.specs.Codes.{stored_bytes, byte_cells, reversed_bits, after_code, expected_after, cells_given, cells_before, at_end, coded, cells_of, wrong_of};
 ghost use Rattle.cells.specs.Codes as Codes;
 ghost use Rattle.cells.specs.Stream.{buffer_side};
 
 use crate::{Expected, Side};
 
-// Byte b of a side, 0 where the part has no such byte (§2.6).
-fn side_byte(part: &[u8], side: Side, b: usize) -> u8
-    requires { b < 2 ^ 29 }
-    ensures { result ≡ get_or part.now (byte_place side b) 0 }
-{
-    let at = side.first as usize + side.stride as usize * (b / 256) + b % 256;
-    if at < part.len() { part[at] } else { 0 }
-}
-
 // A byte as codes and counts are read: its first cell, the lowest bit as stored, is the highest bit (§2.7).
 fn reversed_bits(b: u8) -> u8
     ensures { result ≡ Codes.reversed_bits b }
 {
-    let halves = (b >> 4) | (b << 4);
-    let pairs = ((halves >> 2) & 0x33) | ((halves & 0x33) << 2);
-    ((pairs >> 1) & 0x55) | ((pairs & 0x55) << 1)
+    b.reverse_bits()
 }
 
 // Whether a byte that may be a code is one: its lowest four bits, as stored, are all 1 (§2.7).
@@ -33,69 +22,64 @@ fn is_code(b: u8) -> bool
 }
 
 // What follows byte b at place k that may be a code (§2.7 §2.9).
+#[tactic(auto, unfolding(crate::specs::Codes::after_code))]
 fn after_code(k: usize, b: u8) -> Expected
-    ensures { result ≡ after_code k (Codes.reversed_bits b) }
+    ensures { result ≡ after_code k (reversed_bits b) }
 {
     if !is_code(b) {
         return Expected::Any;
     }
-    let v = reversed_bits(b);
-    if v <= 0xF1 {
-        return Expected::Any;
-    }
-    if v == 0xF2 {
-        return Expected::Rate(k);
-    }
-    if v == 0xF3 {
-        Expected::Count(k)
-    } else {
-        Expected::Wrong(k)
+    match reversed_bits(b) {
+        0..=0xF1 => Expected::Any,
+        0xF2 => Expected::Rate(k),
+        0xF3 => Expected::Count(k),
+        _ => Expected::Wrong(k),
     }
 }
 
 // What follows byte b at place k where x was expected; a count is 0 to 7 (§2.7 §2.9).
+#[tactic(auto, unfolding(crate::specs::Codes::expected_after))]
 fn expected_after(x: Expected, k: usize, b: u8) -> Expected
     ensures { result ≡ expected_after x k b }
 {
     match x {
         Expected::Any => after_code(k, b),
-        Expected::Rate(_) => Expected::Any,
+        Expected::Rate(_) | Expected::Partial(_, _) => Expected::Any,
         Expected::Count(p) => {
             let n = reversed_bits(b);
             if n <= 7 {
-                Expected::Partial(p, n as usize)
+                Expected::Partial(p, usize::from(n))
             } else {
                 Expected::Wrong(p)
             }
         }
-        Expected::Partial(_, _) => Expected::Any,
-        Expected::Wrong(p) => Expected::Wrong(p),
+        Expected::Wrong(_) => x,
     }
 }
 
-// The wrong code, if any, where the bytes end and x was expected: a code that lacks a byte is wrong (§2.9).
-fn wrong_at_end(x: Expected) -> Expected
+// The place of the wrong code, if any, where the bytes end and x was expected: a code that lacks a byte is wrong (§2.9).
+#[tactic(auto, unfolding(crate::specs::Codes::at_end, crate::specs::Codes::wrong_of))]
+fn wrong_at_end(x: Expected) -> Option<usize>
     ensures { result ≡ wrong_of (at_end x) }
 {
     match x {
-        Expected::Any => Expected::Any,
-        Expected::Rate(p) => Expected::Wrong(p),
-        Expected::Count(p) => Expected::Wrong(p),
-        Expected::Partial(p, _) => Expected::Wrong(p),
-        Expected::Wrong(p) => Expected::Wrong(p),
+        Expected::Any => None,
+        Expected::Rate(p) | Expected::Count(p) | Expected::Partial(p, _) | Expected::Wrong(p) =>
+            Some(p),
     }
 }
 
-// The first wrong code of a side's bytes (§2.9): `Wrong` with its place, or `Any` where all codes are right.
-pub fn judge_codes(part: &[u8], side: Side) -> Expected
+// The place of the first wrong code of a side's bytes, or none where all codes are right (§2.9).
+pub fn judge_codes(part: &[u8], side: Side) -> Option<usize>
     ensures { result ≡ wrong_of (coded (stored_bytes part.now side)) }
 {
+    // By `as`, here and below: std has no From<u32> for usize.
     let bytes = side.cells as usize / 8;
-    let mut x = Expected::Any;
-    for k in 0..bytes {
-        x = expected_after(x, k, side_byte(part, side, k));
-    }
-    wrong_at_end(x)
+    let end = (0..bytes).fold(
+        Expected::Any,
+        |x, k| expected_after(x, k, side.byte(part, k)),
+    );
+    wrong_at_end(end)
 }
 
 // Where the first n cells of a buffer lie, eight to a byte (§3.1).
@@ -114,7 +98,7 @@ fn joined(old: u8, k: usize, v: u8) -> u32
     requires { k < 8 }
     ensures { (result ≡ old % 2 ^ k + v * 2 ^ k) × (result < 2 ^ 16) }
 {
-    (old as u32) % (1u32 << k) + ((v as u32) << k)
+    u32::from(old) % (1u32 << k) + (u32::from(v) << k)
 }
 
 // Writes the eight cells of v after the first n cells of a buffer, which stay (§3.1).
@@ -130,15 +114,14 @@ fn append_byte(buffer: &mut [u8], n: usize, v: u8)
 
 // How many first cells of byte b are not given where x was expected: all eight where it is a code, a bit rate or a
 // count (§2.8).
+#[tactic(auto, using(crate::proofs::Laws::Codes::eight_cells), unfolding(crate::specs::Codes::cells_given))]
 fn cells_dropped(x: Expected, b: u8) -> usize
     ensures { (cells_given x b ≡ drop result (byte_cells b)) × (result ≤ 8) }
 {
     match x {
-        Expected::Any => { if is_code(b) { 8 } else { 0 } }
-        Expected::Rate(_) => 8,
-        Expected::Count(_) => 8,
-        Expected::Partial(_, d) => { if d < 8 { d } else { 8 } }
-        Expected::Wrong(_) => 8,
+        Expected::Any => if is_code(b) { 8 } else { 0 },
+        Expected::Partial(_, d) => d.min(8),
+        Expected::Rate(_) | Expected::Count(_) | Expected::Wrong(_) => 8,
     }
 }
 
@@ -157,15 +140,13 @@ fn append_given(buffer: &mut [u8], n: usize, x: Expected, b: u8) -> usize
 }
 
 // How many of n cells are given where the bytes end and x was expected: none where a code is wrong (§2.9).
+#[tactic(auto, using(crate::proofs::Laws::Codes::ended_cells, crate::proofs::Laws::Codes::ended_wrong), unfolding(crate::specs::Codes::at_end))]
 fn cells_at_end(x: Expected, n: usize) -> usize
     ensures { ((d : List ℕ) → stream d (buffer_side result) ≡ cells_of (cells_before (stream d (buffer_side n)) (at_end x))) × (result ≤ n) }
 {
     match x {
         Expected::Any => n,
-        Expected::Rate(_) => 0,
-        Expected::Count(_) => 0,
-        Expected::Partial(_, _) => 0,
-        Expected::Wrong(_) => 0,
+        Expected::Rate(_) | Expected::Count(_) | Expected::Partial(_, _) | Expected::Wrong(_) => 0,
     }
 }
 
@@ -178,10 +159,11 @@ pub fn coded_cells(part: &[u8], side: Side, buffer: &mut [u8]) -> Side
     if buffer.len() <= bytes {
         return buffer_side(0);
     }
+    // A `for`: a fold would carry a pair, and the buffer beside it is written at each turn.
     let mut x = Expected::Any;
     let mut n: usize = 0;
     for k in 0..bytes {
-        let b = side_byte(part, side, k);
+        let b = side.byte(part, k);
         n = append_given(buffer, n, x, b);
         x = expected_after(x, k, b);
     }

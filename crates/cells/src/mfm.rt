@@ -1,7 +1,8 @@
 // The cells of a byte or a mark as it is written.
-ghost use Rattle.std.specs.Prelude.{◌≡◌, ℕ, ◌<◌, ◌≤◌, cond, get_or};
+ghost use Rattle.std.specs.Prelude.{◌≡◌, ℕ, ◌<◌, ◌≤◌, [], ◌∷◌, get_or};
 ghost use Rattle.cells.specs.Stream.{packed, packed_bits};
 ghost use Rattle.cells.specs.Mfm.{bit_of, before, mfm_cell};
+ghost use Rattle.std.specs.Option.{unwrap_or};
 ghost use Rattle.cells.specs.Mfm as Mfm;
 ghost use Rattle.cells.specs.Written.{item_byte, left_out, item_cell, item_word, bit_before, written_cell};
 
@@ -20,7 +21,7 @@ fn bit_of(x: u8, k: usize) -> u8
 pub fn clock(a: u8, b: u8) -> u8
     ensures { result ≡ Mfm.clock a b }
 {
-    if (b == 0) & (a == 0) { 1 } else { 0 }
+    u8::from(b == 0 && a == 0)
 }
 
 // The bit before bit k of the byte x that follows the bit p (§3.4).
@@ -56,14 +57,14 @@ fn byte_of(item: Item) -> u8
     }
 }
 
-// The clock cell that an item leaves out, 16 where there is none (§3.5).
-fn left_out(item: Item) -> usize
-    ensures { result ≡ left_out item }
+// The clock cell that an item leaves out, if any (§3.5).
+fn left_out(item: Item) -> Option<usize>
+    ensures { unwrap_or result 16 ≡ left_out item }
 {
     match item {
-        Item::Plain(_) => 16,
-        Item::Sync => 10,
-        Item::Index => 8,
+        Item::Plain(_) => None,
+        Item::Sync => Some(10),
+        Item::Index => Some(8),
     }
 }
 
@@ -72,7 +73,7 @@ fn item_cell(p: u8, item: Item, j: usize) -> u8
     requires { j < 16 }
     ensures { result ≡ item_cell p item j }
 {
-    if j == left_out(item) {
+    if left_out(item) == Some(j) {
         0
     } else {
         mfm_cell(p, byte_of(item), j)
@@ -83,11 +84,7 @@ fn item_cell(p: u8, item: Item, j: usize) -> u8
 pub fn encode_item(p: u8, item: Item) -> u16
     ensures { result ≡ item_word p item }
 {
-    let mut v: u16 = 0;
-    for j in 0..16usize {
-        v = v * 2 + item_cell(p, item, j) as u16;
-    }
-    v
+    (0..16usize).fold(0, |v, j| (v << 1) | u16::from(item_cell(p, item, j)))
 }
 
 // The last bit of an item, which is the bit before the next one (§3.4).
@@ -97,15 +94,12 @@ pub fn last_bit(item: Item) -> u8
     bit_of(byte_of(item), 7)
 }
 
-// The first or the second byte of an item that follows the bit p, as it is stored (§3.1).
-pub fn item_byte(p: u8, item: Item, second: bool) -> u8
-    ensures { result ≡ packed (item_cell p item) (cond second 1 0) }
+// The two bytes of an item that follows the bit p, as they are stored (§3.1).
+#[tactic(auto, unfolding(crate::specs::Stream::packed))]
+pub fn item_bytes(p: u8, item: Item) -> [u8; 2]
+    ensures { result ≡ packed (item_cell p item) 0 ∷ packed (item_cell p item) 1 ∷ [] }
 {
-    if second {
-        stored_byte(p, item, 8)
-    } else {
-        stored_byte(p, item, 0)
-    }
+    [stored_byte(p, item, 0), stored_byte(p, item, 8)]
 }
 
 // The eight cells of an item from the cell `start` on, lowest bit first (§3.1).
@@ -113,11 +107,7 @@ fn stored_byte(p: u8, item: Item, start: usize) -> u8
     requires { start ≤ 8 }
     ensures { result ≡ packed_bits (item_cell p item) start 8 }
 {
-    let mut v: u8 = 0;
-    for j in 0..8usize {
-        v = (item_cell(p, item, start + j) << j) + v;
-    }
-    v
+    (0..8usize).fold(0, |v, j| (item_cell(p, item, start + j) << j) | v)
 }
 
 // The 16 cells of the byte x that follows the bit p, first cell highest (§3.3).
@@ -131,7 +121,7 @@ pub fn encode_byte(p: u8, x: u8) -> u16
 fn byte_in(row: &[u8], q: usize) -> u8
     ensures { result ≡ get_or row.now q 0 }
 {
-    if q < row.len() { row[q] } else { 0 }
+    row.get(q).copied().unwrap_or(0)
 }
 
 // The bit before byte q of a row of plain bytes; before the first it is 0 (§3.4).

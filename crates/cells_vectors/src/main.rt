@@ -2,23 +2,17 @@
 // the file `stdout` has what they must be.
 #![tactic(auto)]
 
-use cells::{Expected, Item, Side};
+use cells::{Cells, Item, Side};
 
 // The CRC of a row of bytes, from the register's start.
 fn crc_of(s: &[u8]) -> u16 {
-    let mut v: u16 = 0xFFFF;
-    let mut i = 0;
-    while i < s.len() {
-        v = cells::crc_byte(v, s[i]);
-        i += 1;
-    }
-    v
+    cells::crc_row(cells::START, s)
 }
 
 fn line(name: &[u8], value: u16) {
     io::write_all(1, name);
     io::write_all(1, b" ");
-    io::print_hex(1, value as u64, 4);
+    io::print_hex(1, u64::from(value), 4);
     io::write_all(1, b"\n");
 }
 
@@ -56,17 +50,16 @@ fn mfm_values() {
 // A track of six bytes, side 0 only: three stored sync bytes, read at even and odd places and
 // past the end.
 fn sync_values() {
-    let track = b"\x22\x91\x22\x91\x22\x91";
-    let side = cells::hfe_side(0, 12);
-    yes(b"sync at 0", cells::sync_at(track, side, 0, 0));
-    yes(b"sync at 16", cells::sync_at(track, side, 16, 0));
-    yes(b"sync at 1", cells::sync_at(track, side, 1, 0));
-    yes(b"sync at 33", cells::sync_at(track, side, 33, 0));
-    yes(b"three at 0", cells::three_sync(track, side, 0));
-    yes(b"three at 16", cells::three_sync(track, side, 16));
-    line(b"byte at 0", cells::data_byte(track, side, 0, 0) as u16);
-    line(b"byte at 48", cells::data_byte(track, side, 48, 0) as u16);
-    line(b"crc of three", cells::crc_at(track, side, 0, 0, 3));
+    let cells = Cells::new(b"\x22\x91\x22\x91\x22\x91", cells::hfe_side(0, 12));
+    yes(b"sync at 0", cells.sync_at(0, 0));
+    yes(b"sync at 16", cells.sync_at(16, 0));
+    yes(b"sync at 1", cells.sync_at(1, 0));
+    yes(b"sync at 33", cells.sync_at(33, 0));
+    yes(b"three at 0", cells.three_sync(0));
+    yes(b"three at 16", cells.three_sync(16));
+    line(b"byte at 0", u16::from(cells.data_byte(0, 0)));
+    line(b"byte at 48", u16::from(cells.data_byte(48, 0)));
+    line(b"crc of three", cells.crc_at(0, 0, 3));
 }
 
 // The same three bytes one cell later, so that they stand at an odd place of side 1.
@@ -79,13 +72,10 @@ fn odd_values() {
     track[260] = 0x45;
     track[261] = 0x22;
     track[262] = 0x01;
-    let side = cells::hfe_side(1, 14);
-    yes(b"side 1 three at 0", cells::three_sync(&track, side, 0));
-    yes(b"side 1 three at 1", cells::three_sync(&track, side, 1));
-    line(
-        b"side 1 byte at 17",
-        cells::data_byte(&track, side, 1, 16) as u16,
-    );
+    let cells = Cells::new(&track, cells::hfe_side(1, 14));
+    yes(b"side 1 three at 0", cells.three_sync(0));
+    yes(b"side 1 three at 1", cells.three_sync(1));
+    line(b"side 1 byte at 17", u16::from(cells.data_byte(1, 16)));
 }
 
 // A side of so many bytes that lie in a row.
@@ -93,25 +83,20 @@ fn in_row(bytes: u8) -> Side {
     Side {
         first: 0,
         stride: 256,
-        cells: 8 * (bytes as u32),
+        cells: 8 * u32::from(bytes),
     }
 }
 
 // The place of a wrong code.
-fn place(name: &[u8], x: Expected) {
+fn place(name: &[u8], wrong: Option<usize>) {
     io::write_all(1, name);
-    if let Expected::Wrong(p) = x {
+    if let Some(p) = wrong {
         io::write_all(1, b" wrong at ");
         io::print_hex(1, p as u64, 4);
     } else {
         io::write_all(1, b" right");
     }
     io::write_all(1, b"\n");
-}
-
-// A byte as a number to print, in a function of its own, so that no proof is asked that it fits.
-fn wide(b: u8) -> u16 {
-    b as u16
 }
 
 // F1; F2 with its bit rate; F3, the count 3 and a byte that looks like F3; a byte of data: 5 cells and then 8.
@@ -123,8 +108,8 @@ fn cells_given() {
     let mut buffer = [0u8; 8];
     let given = cells::coded_cells(&codes, in_row(7), &mut buffer);
     line(b"cells given", (given.cells % 65536) as u16);
-    line(b"their first byte", wide(buffer[0]));
-    line(b"their second byte", wide(buffer[1]));
+    line(b"their first byte", u16::from(buffer[0]));
+    line(b"their second byte", u16::from(buffer[1]));
     let mut short = [0u8; 7];
     let none = cells::coded_cells(&codes, in_row(7), &mut short);
     line(b"cells given, short buffer", (none.cells % 65536) as u16);

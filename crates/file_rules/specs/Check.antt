@@ -6,7 +6,7 @@ use Rattle.laws.specs.Lists.{bytes_are}
 use Rattle.laws.specs.Below.{all, lowest, count}
 use Rattle.laws.specs.Numbers.{at16}
 use Rattle.laws.specs.Options.{or_else}
-use Rattle.sector_rules.specs.declared.Fault.{Fault}
+use Rattle.sector_rules.specs.Faults.{Fault}
 use Rattle.sector_rules.specs.declared.Reply.{Reply}
 use Rattle.sector_rules.specs.Replies.{refusal}
 use Rattle.sector_rules.specs.Faults.{wrong_at, or_fault, fault_below, refusal_at}

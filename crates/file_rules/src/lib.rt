@@ -4,7 +4,7 @@
 use sector_rules::{BlockNumber, Reply};
 
 // A map record: its block is free, bad, the system's, a file's with its sequence, or the record is of no kind (§6.9).
-#[derive(Clone, Copy)]
+#[derive(Clone, Copy, Debug, PartialEq, Eq)]
 pub enum Record {
     Free,
     Bad,
@@ -14,7 +14,7 @@ pub enum Record {
 }
 
 // A map record beside its block's number.
-#[derive(Clone, Copy)]
+#[derive(Clone, Copy, Debug, PartialEq, Eq)]
 pub struct MapRecord {
     pub block: BlockNumber,
     pub record: Record,
@@ -26,7 +26,7 @@ pub const NAME_MOST: usize = 36;
 // A directory entry (§6.13): the length counts the file's first 64 bytes, and the name is the first `namelen` of the 36
 // bytes.
 #[repr(C)]
-#[derive(Clone, Copy)]
+#[derive(Clone, Copy, Debug, PartialEq, Eq)]
 pub struct Entry {
     pub name: [u8; NAME_MOST],
     pub length: u32,

@@ -1,32 +1,28 @@
 // Add: a file's blocks and slot are written, and the directory grows where its end is taken.
-ghost use Rattle.std.specs.Prelude.{◌≡◌, suc, ◌<◌, ◌≤◌, leb, length};
-ghost use Rattle.std.proofs.Math.Option.{none};
+ghost use Rattle.std.specs.Prelude.{MatchResult, ◌≡◌, ℕ, suc, ◌<◌, ◌≤◌, leb, length};
 ghost use Rattle.sector_rules.specs.Geometry.{blocks, image_bytes};
 ghost use Rattle.file_rules.specs.Sizes.{name_most};
 ghost use Rattle.file_rules.specs.Disk.{disk_of, image_of};
 ghost use Rattle.file_rules.specs.Map.{sequences, free_count};
 ghost use Rattle.file_rules.specs.Directory.{entry_for, dir_end};
-ghost use Rattle.file_rules.specs.Check.{disk_refusal};
 ghost use Rattle.file_rules.specs.Written.{blocks_for};
 ghost use Rattle.file_rules.specs.Calls as Calls;
-ghost use Rattle.file_rules.specs.Calls.{opens_block, grow_dir, end_after, needed, add_at, add_sound};
-ghost use Rattle.files.specs.Laws.Loading.Loaded.{MapLoaded};
-ghost use Rattle.files.specs.Laws.Writing.InStep.{InStep};
-ghost use Rattle.files.specs.Laws.Calling.SoundDisk.{Gave};
+ghost use Rattle.file_rules.specs.Calls.{opens_block, grow_dir, end_after, needed, add_at, add_sound, disk_kept};
+ghost use Rattle.files.specs.Laws.Calling.SoundDisk.{FileFits};
+ghost use Rattle.files.specs.Refusals.{disk_refused, disk_replied};
 
-use crate::Verdict;
 use crate::blocks::blocks_of;
-use crate::checking::judge;
-use crate::directory::{find_name, vacant_slot};
+use crate::checking::sound_disk;
 use crate::header::dir_end;
-use crate::map::{count_free, load_map};
-use crate::parts::file_blocks;
+use crate::loaded::LoadedDisk;
+use crate::open::OpenDisk;
 use crate::reading::name_right;
-use crate::sizes::{BLOCK_SLOTS, MapNumbers, NAME_MOST, NO_BLOCK, SLOT_BYTES};
-use crate::steps::{entry_bytes, give_blocks, set_end, update_counts, write_entry};
+use crate::refusals::DiskRefusal;
+use crate::sizes::{BLOCK_SLOTS, NAME_MOST, SLOT_BYTES};
+use crate::sound::SoundDisk;
+use crate::steps::{Stored, entry_bytes, set_end};
 use file_rules::Entry;
-use sector_rules::Reply;
-use sectors::{Geometry, done, refused};
+use sectors::Geometry;
 
 // The blocks of a file with so many bytes of data: 64 bytes more are counted (§6.17).
 fn blocks_for(size: usize) -> usize
@@ -37,9 +33,10 @@ fn blocks_for(size: usize) -> usize
 }
 
 // A slot at the directory's end that begins a block takes the lowest free block for the directory (§8.10).
-fn grow_dir(image: &mut [u8], map: &mut MapNumbers, k: usize, end: usize)
-    requires { InStep map.old image.old × (k < sequences) × (end ≡ dir_end (disk_of image.old)) }
-    ensures { (image.new ≡ image_of (grow_dir (disk_of image.old) k)) × InStep map.new image.new }
+fn grow_dir(disk: &mut OpenDisk<'_>, k: usize, end: usize)
+    requires { (k < sequences) × (end ≡ dir_end (disk_of disk.old.image.now)) }
+    ensures same_image { disk.new.image.ghost_name ≡ disk.old.image.ghost_name }
+    ensures written { disk.new.image.now ≡ image_of (grow_dir (disk_of disk.old.image.now) k) }
 {
     if k != end {
         return;
@@ -47,7 +44,11 @@ fn grow_dir(image: &mut [u8], map: &mut MapNumbers, k: usize, end: usize)
     if k % BLOCK_SLOTS != 0 {
         return;
     }
-    give_blocks(image, map, 0, k / BLOCK_SLOTS, 1, b"", b"");
+    let empty = Stored {
+        head: b"",
+        content: b"",
+    };
+    disk.give_blocks(0, k / BLOCK_SLOTS, 1, &empty);
 }
 
 // The directory grows by a slot where k was its end (§8.9).
@@ -64,17 +65,22 @@ fn end_after(image: &mut [u8], k: usize, end: usize)
 // A file is added in slot k: a new block of the directory (§8.10); then the file's blocks, the lowest free, in ascending
 // order, with sequences from 0 (§8.11); the slot and the header; nothing else (§8.12). In a history
 // the image is then the model's (§9.5).
-fn add_at(image: &mut [u8], map: &mut MapNumbers, k: usize, e: Entry, content: &[u8])
-    requires { InStep map.old image.old × (k < sequences) × (length content.now ≤ image_bytes) }
-    ensures { image.new ≡ image_of (add_at (disk_of image.old) k e content.now) }
+fn add_at(disk: &mut OpenDisk<'_>, k: usize, e: Entry, content: &[u8])
+    requires { (k < sequences) × (length content.now ≤ image_bytes) }
+    ensures same_image { disk.new.image.ghost_name ≡ disk.old.image.ghost_name }
+    ensures written { disk.new.image.now ≡ image_of (add_at (disk_of disk.old.image.now) k e content.now) }
 {
-    let end = dir_end(image);
+    let end = disk.dir_end();
     let head = entry_bytes(e);
-    grow_dir(image, map, k, end);
-    give_blocks(image, map, k, 0, blocks_for(content.len()), &head, content);
-    write_entry(image, map, k, e);
-    end_after(image, k, end);
-    update_counts(image, map);
+    let file = Stored {
+        head: &head,
+        content,
+    };
+    grow_dir(disk, k, end);
+    disk.give_blocks(k, 0, blocks_for(content.len()), &file);
+    disk.write_entry(k, e);
+    end_after(disk.image, k, end);
+    disk.update_counts();
 }
 
 // The entry of a new file (§6.13).
@@ -101,62 +107,51 @@ fn opens_block(image: &[u8], k: usize) -> bool
 
 // Whether there are blocks enough for a file of so many bytes in slot k (§7.15 §9.7), a new block of the directory
 // counted (§8.10). More bytes than the disk has never fit; that is asked first, since 64 more than the size could wrap.
-fn has_room(image: &[u8], map: &MapNumbers, k: usize, size: usize) -> bool
-    requires { MapLoaded map.now (disk_of image.now) }
-    ensures { result ≡ leb (needed (disk_of image.now) k size) (free_count (disk_of image.now)) }
+fn has_room(disk: &LoadedDisk<'_>, k: usize, size: usize) -> bool
+    ensures { result ≡ leb (needed (disk_of disk.now.image.now) k size) (free_count (disk_of disk.now.image.now)) }
 {
     if Geometry::IMAGE_BYTES < size {
         return false;
     }
-    let free = count_free(map);
+    let free = disk.count_free();
     let wanted = blocks_for(size);
-    if opens_block(image, k) {
+    if opens_block(disk.image, k) {
         return wanted + 1 <= free;
     }
     wanted <= free
 }
 
-// Adds a file to a sound disk (§8.9), or 12 (§7.12), 13 with the slot that has the name (§7.13), or 15 (§7.15).
-fn add_sound(
-    image: &mut [u8],
-    map: &mut MapNumbers,
-    name: &[u8],
-    date: u32,
-    content: &[u8],
-) -> Reply
-    requires { InStep map.old image.old × (disk_refusal (disk_of image.old) ≡ none) }
-    ensures { Gave (add_sound (disk_of image.old) name.now date content.now) result image.new }
+// The slot that a new file takes on a sound disk (§8.9), or 12 (§7.12), 13 with the slot that has the name (§7.13), or 15
+// (§7.15) where there is no room.
+fn slot_to_fill(sound: &SoundDisk<'_>, name: &[u8], content: &[u8]) -> Result<usize, DiskRefusal>
+    ensures { MatchResult result (λ k. FileFits (disk_of sound.now.disk.image.now) name.now content.now k) (λ refusal. (date : ℕ) → add_sound (disk_of sound.now.disk.image.now) name.now date content.now ≡ disk_kept (disk_of sound.now.disk.image.now) (disk_refused refusal)) }
 {
     if !name_right(name) {
-        return refused(12, 0);
+        return Err(DiskRefusal::OutOfRange);
     }
-    let mut dir = [NO_BLOCK; Geometry::BLOCKS];
-    file_blocks(map, 0, &mut dir);
-    let found = find_name(image, &dir, name);
-    if found < dir_end(image) {
-        return refused(13, found);
+    let dir = sound.directory();
+    if let Some(found) = dir.find_name(name) {
+        return Err(DiskRefusal::NameTaken(found));
     }
-    let k = vacant_slot(image, &dir);
-    if !has_room(image, map, k, content.len()) {
-        return refused(15, 0);
+    let k = dir.vacant_slot().unwrap_or(sound.dir_end());
+    if !has_room(&sound.disk, k, content.len()) {
+        return Err(DiskRefusal::NoRoom);
     }
-    let e = entry_for(name, date, content.len());
-    add_at(image, map, k, e, content);
-    done()
+    Ok(k)
 }
 
 // The call add (§8.9), or 1 (§7.1) or the refusal of the disk (§8.5); by it a slot of the model is filled (§9.4). A refusal leaves the
 // image as it was (§7.19). In a history the next call is on this image (§9.1).
-pub fn add(image: &mut [u8], name: &[u8], date: u32, content: &[u8]) -> Reply
-    ensures { (result ≡ (Calls.add image.old name.now date content.now).answer) × (image.new ≡ (Calls.add image.old name.now date content.now).image) }
+pub fn add(image: &mut [u8], name: &[u8], date: u32, content: &[u8]) -> Result<(), DiskRefusal>
+    ensures { (disk_replied result ≡ (Calls.add image.old name.now date content.now).answer) × (image.new ≡ (Calls.add image.old name.now date content.now).image) }
 {
-    if image.len() != Geometry::IMAGE_BYTES {
-        return refused(1, 2);
-    }
-    let mut map = [0u32; Geometry::BLOCKS];
-    load_map(image, &mut map);
-    match judge(image, &map) {
-        Verdict::Refused(r) => r,
-        Verdict::Passed => add_sound(image, &mut map, name, date, content),
-    }
+    let sound = sound_disk(image)?;
+    let k = slot_to_fill(&sound, name, content)?;
+    let e = entry_for(name, date, content.len());
+    let mut disk = OpenDisk {
+        map: sound.disk.map,
+        image,
+    };
+    add_at(&mut disk, k, e, content);
+    Ok(())
 }

@@ -45,28 +45,18 @@ pub fn run_length(o: usize, n: usize) -> usize
     requires { 0 < n }
     ensures { (0 < result) × (result ≤ n) × (o % sector_bytes + result ≤ sector_bytes) }
 {
-    let room = Geometry::SECTOR_BYTES - o % Geometry::SECTOR_BYTES;
-    if room < n { room } else { n }
+    n.min(Geometry::SECTOR_BYTES - o % Geometry::SECTOR_BYTES)
 }
 
 // Byte o of block b, 0 where there is none (§1.3).
 pub fn block_byte(image: &[u8], b: usize, o: usize) -> u8
     ensures { result ≡ disk_of image.now b o }
 {
-    if Geometry::BLOCKS <= b {
-        return 0;
+    if b < Geometry::BLOCKS && o < BLOCK_BYTES {
+        fields::byte(image, byte_place(b, o), 0)
+    } else {
+        0
     }
-    if BLOCK_BYTES <= o {
-        return 0;
-    }
-    fields::byte(image, byte_place(b, o), 0)
-}
-
-// A byte of a block as a wider number.
-fn wide(image: &[u8], b: usize, o: usize) -> u32
-    ensures { (result ≡ disk_of image.now b o) × (result < 256) }
-{
-    block_byte(image, b, o) as u32
 }
 
 // The number in two bytes of a block, highest first.
@@ -74,7 +64,7 @@ pub fn block_word2(image: &[u8], b: usize, o: usize) -> u16
     requires { o < 2 ^ 16 }
     ensures { result ≡ at16 (disk_of image.now b) o }
 {
-    (wide(image, b, o) * 256 + wide(image, b, o + 1)) as u16
+    u16::from_be_bytes([block_byte(image, b, o), block_byte(image, b, o + 1)])
 }
 
 // The number in four bytes of a block, highest first.
@@ -82,13 +72,10 @@ pub fn block_word4(image: &[u8], b: usize, o: usize) -> u32
     requires { o < 2 ^ 16 }
     ensures { result ≡ at32 (disk_of image.now b) o }
 {
-    let high = wide(image, b, o) * 256 + wide(image, b, o + 1);
-    (high * 256 + wide(image, b, o + 2)) * 256 + wide(image, b, o + 3)
-}
-
-// A block's number, from a row of blocks.
-pub fn block_number(x: u16) -> usize
-    ensures { result ≡ x }
-{
-    x as usize
+    u32::from_be_bytes([
+        block_byte(image, b, o),
+        block_byte(image, b, o + 1),
+        block_byte(image, b, o + 2),
+        block_byte(image, b, o + 3),
+    ])
 }

@@ -1,40 +1,45 @@
 // The blocks of each file in chains, upwards: the first block whose record bears a file, and after each block the next
 // that bears the same.
-ghost use Rattle.std.specs.Prelude.{◌≡◌};
+ghost use Rattle.std.specs.Prelude.{◌≡◌, None, get_or};
 ghost use Rattle.sector_rules.specs.Geometry.{blocks};
-ghost use Rattle.files.specs.Laws.Loading.Chains.{Chained, first_of};
+ghost use Rattle.files.specs.Laws.Loading.Chains.{Chained};
 
-use crate::blocks::block_number;
-use crate::map::map_record;
-use crate::records::{NO_FILE, bearer};
+use crate::map::loaded_record;
+use crate::records::{FILES, bearer};
 use crate::sizes::{BlockRow, MapNumbers};
-use sector_rules::BlockNumber;
 use sectors::Geometry;
 
-// The first block of each file; NO_BLOCK where no record bears it. The last is no file's.
-pub type FirstBlocks = [u16; NO_FILE + 1];
+// The first block of each file, if a record bears it, and after each block the next of its file.
+#[derive(Clone, Copy)]
+pub struct Chains {
+    pub first: [Option<u16>; FILES],
+    pub next: BlockRow,
+}
 
-// Chains all blocks, from the last one down.
-pub fn load_chains(map: &MapNumbers, first: &mut FirstBlocks, next: &mut BlockRow)
-    requires { Chained first.old next.old map.now blocks }
-    ensures { Chained first.new next.new map.now 0 }
+// Chains all blocks, from the last one down. The chains are lent, not returned: they have 18 KiB, and each copy of them
+// would stand on the stack.
+pub fn load_chains(map: &MapNumbers, chains: &mut Chains)
+    requires { Chained chains.old.first chains.old.next map.now blocks }
+    ensures { Chained chains.new.first chains.new.next map.now 0 }
 {
-    for i in 0..Geometry::BLOCKS {
-        let b = Geometry::BLOCKS - 1 - i;
-        let m = map_record(map, BlockNumber(b));
-        let record = m.record;
-        let f = bearer(record);
-        next[b] = first[f];
-        first[f] = b as u16;
+    for b in (0..Geometry::BLOCKS).rev() {
+        if let Some(f) = bearer(loaded_record(map, b)) {
+            chains.next[b] = chains.first[f];
+            chains.first[f] = Some(b as u16);
+        }
     }
 }
 
-// The first block whose record bears file f, the number of blocks where there is none.
-pub fn first_block(first: &FirstBlocks, f: usize) -> usize
-    ensures { result ≡ first_of first.now f }
+// The first block whose record bears file f.
+pub fn first_block(chains: &Chains, f: usize) -> Option<usize>
+    ensures { result ≡ get_or chains.now.first f None }
 {
-    if f < NO_FILE {
-        return block_number(first[f]);
-    }
-    Geometry::BLOCKS
+    block_at(&chains.first, f)
+}
+
+// The block in place k of a row, if there is one.
+pub fn block_at(row: &[Option<u16>], k: usize) -> Option<usize>
+    ensures { result ≡ get_or row.now k None }
+{
+    row.get(k).copied().flatten().map(usize::from)
 }

@@ -1,5 +1,5 @@
 // Format: a fresh disk, whatever the image held, with the bad blocks of a list.
-ghost use Rattle.std.specs.Prelude.{◌≡◌, true, List, [], ℕ, ◌+◌, ◌≤◌, ◌<◌, length, get_or};
+ghost use Rattle.std.specs.Prelude.{◌≡◌, true, List, [], ℕ, ◌+◌, ◌≤◌, ◌<◌, length};
 ghost use Rattle.laws.specs.Below.{count};
 ghost use Rattle.laws.specs.Lists.{tab};
 ghost use Rattle.sector_rules.specs.Geometry.{blocks, image_bytes};
@@ -10,22 +10,20 @@ ghost use Rattle.file_rules.specs.Calls as Calls;
 ghost use Rattle.file_rules.specs.Calls.{fresh_header, format_disk};
 ghost use Rattle.files.specs.Laws.Calling.BadNoted.{BadNoted, is_noted, fresh_record};
 ghost use Rattle.files.specs.Laws.Calling.Fresh.{titled, sized, started, with_records};
-ghost use Rattle.files.specs.Laws.Loading.Tally.{Tallied};
+ghost use Rattle.files.specs.Refusals.{disk_replied};
 
-use crate::blocks::block_number;
-use crate::parts::more;
+use crate::refusals::DiskRefusal;
 use crate::sizes::{MAP_START, SLOT_BYTES, TITLE_MOST};
 use crate::steps::set_record;
 use crate::store::put_bytes;
 use file_rules::Record;
-use sector_rules::Reply;
-use sectors::{Geometry, done, refused};
+use sectors::Geometry;
 
 // What fills a disk's name to ten bytes (§6.2).
 const SPACE: u8 = 32;
 
-// How often each block stands in a list of bad blocks.
-type BadTally = [u8; Geometry::BLOCKS];
+// Which blocks a list of bad blocks has.
+type BadBlocks = [bool; Geometry::BLOCKS];
 
 // The lowest block that can be bad: the format itself uses those below (§7.12).
 const LOWEST_BAD: usize = 2;
@@ -34,40 +32,26 @@ const LOWEST_BAD: usize = 2;
 fn bad_list_right(bad: &[u16]) -> bool
     ensures { result ≡ bad_list_right bad.now }
 {
-    for i in 0..bad.len() {
-        let b = block_number(bad[i]);
-        if b < LOWEST_BAD {
-            return false;
-        }
-        if b >= Geometry::BLOCKS {
-            return false;
-        }
-    }
-    true
+    bad.iter().all(|b| (LOWEST_BAD..Geometry::BLOCKS).contains(&usize::from(*b)))
 }
 
-// Tallies the blocks of a list, which may have one more than once (§8.4).
-fn note_bad(bad: &[u16], noted: &mut BadTally)
-    requires { (bad_list_right bad.now ≡ true) × Tallied noted.old blocks (λ (i : ℕ). get_or bad.now i 0) 0 }
-    ensures { BadNoted noted.new bad.now }
+// The blocks of a list, which may have one more than once (§8.4).
+fn note_bad(bad: &[u16]) -> BadBlocks
+    requires { bad_list_right bad.now ≡ true }
+    ensures { BadNoted result bad.now }
 {
-    for i in 0..bad.len() {
-        let b = block_number(bad[i]);
-        noted[b] = more(noted[b]);
+    let mut noted = [false; Geometry::BLOCKS];
+    for b in bad {
+        noted[usize::from(*b)] = true;
     }
+    noted
 }
 
-// How many different blocks were tallied (§8.4).
-fn count_noted(noted: &BadTally) -> usize
+// How many different blocks were noted (§8.4).
+fn count_noted(noted: &BadBlocks) -> usize
     ensures { (result ≡ count blocks (is_noted noted.now)) × (result ≤ blocks) }
 {
-    let mut n = 0;
-    for b in 0..Geometry::BLOCKS {
-        if noted[b] != 0 {
-            n += 1;
-        }
-    }
-    n
+    noted.iter().filter(|is_bad| **is_bad).count()
 }
 
 // The letters (§6.1), the name filled with spaces, and the number (§6.2), as in `fixed_byte`.
@@ -126,25 +110,21 @@ fn header_bytes(name: &[u8], number: u16, n: usize) -> [u8; MAP_START]
     head
 }
 
-// The record of block b of a fresh disk: block 1 is the directory's first, and those that were tallied are bad (§8.4).
-fn fresh_record(noted: &BadTally, b: usize) -> Record
+// The record of block b of a fresh disk: block 1 is the directory's first, and those that were noted are bad (§8.4).
+fn fresh_record(noted: &BadBlocks, b: usize) -> Record
     requires { b < blocks }
     ensures { result ≡ fresh_record noted.now b }
 {
-    if b == 0 {
-        return Record::System;
+    match b {
+        0 => Record::System,
+        1 => Record::File(0, 0),
+        _ if noted[b] => Record::Bad,
+        _ => Record::Free,
     }
-    if b == 1 {
-        return Record::File(0, 0);
-    }
-    if noted[b] != 0 {
-        return Record::Bad;
-    }
-    Record::Free
 }
 
 // The map of a fresh disk (§8.4): `set_record` of `fresh_owner` for each block.
-fn write_map(image: &mut [u8], noted: &BadTally)
+fn write_map(image: &mut [u8], noted: &BadBlocks)
     requires { length image.old ≡ image_bytes }
     ensures { image.new ≡ image_of (with_records (disk_of image.old) (fresh_record noted.now) blocks) }
 {
@@ -158,8 +138,7 @@ fn write_fresh(image: &mut [u8], name: &[u8], number: u16, bad: &[u16])
     requires { (length image.old ≡ image_bytes) × (length name.now ≤ title_most) × (bad_list_right bad.now ≡ true) }
     ensures { image.new ≡ image_of (format_disk (arguments_of name.now number bad.now)) }
 {
-    let mut noted = [0u8; Geometry::BLOCKS];
-    note_bad(bad, &mut noted);
+    let noted = note_bad(bad);
     let head = header_bytes(name, number, count_noted(&noted));
     fields::fill(image, 0, Geometry::IMAGE_BYTES, 0);
     put_bytes(image, 0, 0, &head);
@@ -170,26 +149,30 @@ fn write_fresh(image: &mut [u8], name: &[u8], number: u16, bad: &[u16])
 // bytes (§6.15) or the list has a number that cannot be a bad block's. A refusal leaves the image as it was (§7.19). A
 // history begins with it (§9.1), and its arguments are all that the model knows then (§9.2); what it does not name is
 // zero, bad blocks too (§9.8).
-pub fn format_bad(image: &mut [u8], name: &[u8], number: u16, bad: &[u16]) -> Reply
-    ensures { (result ≡ (Calls.format image.old (arguments_of name.now number bad.now)).answer) × (image.new ≡ (Calls.format image.old (arguments_of name.now number bad.now)).image) }
+pub fn format_bad(
+    image: &mut [u8],
+    name: &[u8],
+    number: u16,
+    bad: &[u16],
+) -> Result<(), DiskRefusal>
+    ensures { (disk_replied result ≡ (Calls.format image.old (arguments_of name.now number bad.now)).answer) × (image.new ≡ (Calls.format image.old (arguments_of name.now number bad.now)).image) }
 {
     if image.len() != Geometry::IMAGE_BYTES {
-        return refused(1, 2);
+        return Err(DiskRefusal::ImageLength);
     }
     if name.len() > TITLE_MOST {
-        return refused(12, 0);
+        return Err(DiskRefusal::OutOfRange);
     }
     if !bad_list_right(bad) {
-        return refused(12, 0);
+        return Err(DiskRefusal::OutOfRange);
     }
     write_fresh(image, name, number, bad);
-    done()
+    Ok(())
 }
 
 // The call format without bad blocks: with an empty list (§8.4).
-pub fn format(image: &mut [u8], name: &[u8], number: u16) -> Reply
-    ensures { (result ≡ (Calls.format image.old (arguments_of name.now number [])).answer) × (image.new ≡ (Calls.format image.old (arguments_of name.now number [])).image) }
+pub fn format(image: &mut [u8], name: &[u8], number: u16) -> Result<(), DiskRefusal>
+    ensures { (disk_replied result ≡ (Calls.format image.old (arguments_of name.now number [])).answer) × (image.new ≡ (Calls.format image.old (arguments_of name.now number [])).image) }
 {
-    let none = [0u16; 0];
-    format_bad(image, name, number, &none)
+    format_bad(image, name, number, &[])
 }

@@ -6,13 +6,12 @@ ghost use Rattle.sector_rules.specs.Geometry.{sector_bytes};
 ghost use Rattle.file_rules.specs.Disk.{disk_of};
 ghost use Rattle.file_rules.specs.Directory.{dir_bytes, dir_end};
 ghost use Rattle.file_rules.specs.Check.{length_right, dimensions_fault, disk_header_fault, refusal8};
-ghost use Rattle.files.specs.Laws.Judging.Verdict.{verdict_of};
+ghost use Rattle.files.specs.Refusals.{refusal_of};
 
-use crate::Verdict;
 use crate::blocks::block_word2;
+use crate::refusals::DiskRefusal;
 use crate::sizes::{BLOCK_BYTES, SLOT_BYTES};
-use sector_rules::Fault;
-use sectors::{Geometry, or_fault, refused, wrong_at};
+use sectors::{Geometry, wrong_at};
 
 // The number in two bytes of block 0 (§6.5).
 pub fn head_word(image: &[u8], o: usize) -> usize
@@ -46,7 +45,7 @@ fn length_right(image: &[u8]) -> bool
 }
 
 // The fault of a word of block 0 that is not as wanted.
-fn word_fault(image: &[u8], o: usize, wanted: usize) -> Fault
+fn word_fault(image: &[u8], o: usize, wanted: usize) -> Option<usize>
     requires { o < 2 ^ 16 }
     ensures { result ≡ wrong_at o (eqb (at16 (disk_of image.now 0) o) wanted) }
 {
@@ -54,42 +53,39 @@ fn word_fault(image: &[u8], o: usize, wanted: usize) -> Fault
 }
 
 // The words that say the disk's sizes (§6.5).
-fn dimensions_fault(image: &[u8]) -> Fault
+fn dimensions_fault(image: &[u8]) -> Option<usize>
     ensures { result ≡ dimensions_fault (disk_of image.now) }
 {
-    let block = word_fault(image, 32, Geometry::BLOCK_SECTORS);
-    let tracks = word_fault(image, 30, Geometry::TRACKS);
-    let track = word_fault(image, 28, Geometry::TRACK_SECTORS);
-    let side = word_fault(image, 26, Geometry::SECTORS);
-    let total = word_fault(image, 24, Geometry::ALL_SECTORS);
-    let rest = or_fault(side, or_fault(track, or_fault(tracks, block)));
-    or_fault(total, rest)
+    word_fault(image, 24, Geometry::ALL_SECTORS)
+        .or(word_fault(image, 26, Geometry::SECTORS))
+        .or(word_fault(image, 28, Geometry::TRACK_SECTORS))
+        .or(word_fault(image, 30, Geometry::TRACKS))
+        .or(word_fault(image, 32, Geometry::BLOCK_SECTORS))
 }
 
 // The lowest wrong field of the header: letters (§6.1), sizes, length, track offset and tables (§6.7). Its fields stand
 // in the first sector of block 0, which is the image's first.
-fn disk_header_fault(image: &[u8]) -> Fault
+fn disk_header_fault(image: &[u8]) -> Option<usize>
     requires { sector_bytes ≤ length image.now }
     ensures { result ≡ disk_header_fault (disk_of image.now) }
 {
-    let second = Geometry::backward_table();
-    let backward = wrong_at(58, fields::stands_at(image, 58, &second));
-    let first = Geometry::side_place_table();
-    let places = wrong_at(40, fields::stands_at(image, 40, &first));
-    let offset = word_fault(image, 38, Geometry::TRACK_OFFSET);
-    let directory = wrong_at(34, length_right(image));
-    let signature = wrong_at(0, fields::stands_at(image, 0, b"QL5A"));
-    let rest = or_fault(directory, or_fault(offset, or_fault(places, backward)));
-    or_fault(signature, or_fault(dimensions_fault(image), rest))
+    let places = Geometry::side_place_table();
+    let backward = Geometry::backward_table();
+    wrong_at(0, fields::stands_at(image, 0, b"QL5A"))
+        .or(dimensions_fault(image))
+        .or(wrong_at(34, length_right(image)))
+        .or(word_fault(image, 38, Geometry::TRACK_OFFSET))
+        .or(wrong_at(40, fields::stands_at(image, 40, &places)))
+        .or(wrong_at(58, fields::stands_at(image, 58, &backward)))
 }
 
 // Refusal 8: the header (§7.8).
-pub fn judge_header(image: &[u8]) -> Verdict
+pub fn judge_header(image: &[u8]) -> Result<(), DiskRefusal>
     requires { sector_bytes ≤ length image.now }
-    ensures { result ≡ verdict_of (refusal8 (disk_of image.now)) }
+    ensures { refusal_of result ≡ refusal8 (disk_of image.now) }
 {
     match disk_header_fault(image) {
-        Fault::At(o) => Verdict::Refused(refused(8, o)),
-        Fault::Sound => Verdict::Passed,
+        Some(o) => Err(DiskRefusal::HeaderField(o)),
+        None => Ok(()),
     }
 }

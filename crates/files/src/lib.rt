@@ -10,13 +10,17 @@ mod directory;
 mod formatting;
 mod header;
 mod listing;
+mod loaded;
 mod map;
 mod names;
+mod open;
 mod parts;
 mod reading;
 mod records;
+mod refusals;
 mod removing;
 mod sizes;
+mod sound;
 mod steps;
 mod store;
 mod track;
@@ -27,13 +31,6 @@ pub use checking::check;
 pub use formatting::{format, format_bad};
 pub use listing::list;
 pub use reading::read;
+pub use refusals::{BatchRefusal, DiskRefusal, TrackCounts, track_reply};
 pub use removing::remove;
-use sector_rules::Reply;
 pub use track::first_track;
-
-// What the judgements 8, 9, 19, 10 and 11 say: all passed, or the refusal.
-#[derive(Clone, Copy)]
-pub enum Verdict {
-    Passed,
-    Refused(Reply),
-}

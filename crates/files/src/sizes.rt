@@ -26,11 +26,8 @@ pub const RECORD_BYTES: usize = 3;
 // The most bytes of a disk's name (§6.15).
 pub const TITLE_MOST: usize = 10;
 
-// What stands for no block.
-pub const NO_BLOCK: u16 = Geometry::BLOCKS as u16;
-
 // A loaded map: the number of each block's record.
 pub type MapNumbers = [u32; Geometry::BLOCKS];
 
-// The blocks of a file in sequence, or the block after each in its file's chain; NO_BLOCK where there is none.
-pub type BlockRow = [u16; Geometry::BLOCKS];
+// The blocks of a file in sequence, or the block after each in its file's chain.
+pub type BlockRow = [Option<u16>; Geometry::BLOCKS];

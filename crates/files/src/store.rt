@@ -24,7 +24,8 @@ fn zero_run(image: &mut [u8], b: usize, o: usize, n: usize)
     fields::fill(image, run_place(b, o), n, 0);
 }
 
-// The bytes of src are written from offset o of block b on, sector by sector.
+// The bytes of src are written from offset o of block b on, sector by sector: the first run and the last may be shorter
+// than a sector, so that no iterator over parts of one length gives them.
 pub fn put_bytes(image: &mut [u8], b: usize, o: usize, src: &[u8])
     requires { (length image.old ≡ image_bytes) × (o + length src.now ≤ block_bytes) }
     ensures { image.new ≡ image_of (patched (disk_of image.old) b o (length src.now) (λ (i : ℕ). get_or src.now i 0)) }
@@ -37,7 +38,7 @@ pub fn put_bytes(image: &mut [u8], b: usize, o: usize, src: &[u8])
     }
 }
 
-// The n bytes from offset o of block b on become 0, sector by sector.
+// The n bytes from offset o of block b on become 0, sector by sector, as in `put_bytes`.
 pub fn zero_bytes(image: &mut [u8], b: usize, o: usize, n: usize)
     requires { (length image.old ≡ image_bytes) × (o + n ≤ block_bytes) }
     ensures { image.new ≡ image_of (patched (disk_of image.old) b o n (λ (i : ℕ). 0)) }
@@ -50,25 +51,11 @@ pub fn zero_bytes(image: &mut [u8], b: usize, o: usize, n: usize)
     }
 }
 
-// A number in two bytes from offset o of block b on, highest first; what does not fit is left out.
-pub fn put_word2(image: &mut [u8], b: usize, o: usize, v: usize)
-    requires { (length image.old ≡ image_bytes) × (o + 2 ≤ block_bytes) }
-    ensures { image.new ≡ image_of (patched (disk_of image.old) b o 2 (high_byte 2 v)) }
+// A number in N bytes from offset o of block b on, highest first; what does not fit is left out.
+pub fn put_word<const N: usize>(image: &mut [u8], b: usize, o: usize, v: usize)
+    requires { (length image.old ≡ image_bytes) × (o + N ≤ block_bytes) × (N ≤ 8) }
+    ensures { image.new ≡ image_of (patched (disk_of image.old) b o N (high_byte N v)) }
 {
-    let bytes = [(v / 256 % 256) as u8, (v % 256) as u8];
-    put_bytes(image, b, o, &bytes);
-}
-
-// A number in four bytes from offset o of block b on, highest first; what does not fit is left out.
-pub fn put_word4(image: &mut [u8], b: usize, o: usize, v: usize)
-    requires { (length image.old ≡ image_bytes) × (o + 4 ≤ block_bytes) }
-    ensures { image.new ≡ image_of (patched (disk_of image.old) b o 4 (high_byte 4 v)) }
-{
-    let bytes = [
-        (v / 16777216 % 256) as u8,
-        (v / 65536 % 256) as u8,
-        (v / 256 % 256) as u8,
-        (v % 256) as u8,
-    ];
-    put_bytes(image, b, o, &bytes);
+    let bytes = v.to_be_bytes();
+    put_bytes(image, b, o, &bytes[bytes.len() - N..]);
 }

@@ -5,66 +5,44 @@ ghost use Rattle.sector_rules.specs.Geometry.{sector_bytes};
 ghost use Rattle.file_rules.specs.Disk.{disk_of};
 ghost use Rattle.file_rules.specs.Check.{start_refusal, refusal11};
 ghost use Rattle.file_rules.specs.FirstTrack as Tracks;
-ghost use Rattle.files.specs.Laws.Judging.Verdict.{verdict_of};
-ghost use Rattle.files.specs.Laws.Loading.Loaded.{MapLoaded};
+ghost use Rattle.files.specs.Refusals.{refusal_of, track_replied};
 
-use crate::Verdict;
 use crate::checking::{judge_free, judge_start};
 use crate::header::head_word;
-use crate::map::{count_free, load_map};
-use crate::sizes::{MapNumbers, TRACK_BYTES};
-use file_rules::FirstTrack;
-use sector_rules::Reply;
-use sectors::{Geometry, done, refused};
-
-// A refusal has no counts (§8.14).
-fn refused_track(reply: Reply) -> FirstTrack
-    ensures { result ≡ Tracks.refused_track reply }
-{
-    FirstTrack {
-        reply,
-        free: 0,
-        good: 0,
-        held: 0,
-    }
-}
+use crate::loaded::LoadedDisk;
+use crate::refusals::{DiskRefusal, TrackCounts};
+use crate::sizes::TRACK_BYTES;
+use sectors::Geometry;
 
 // The free word, the good word, and the number of records that are not free, bad ones among them (§8.14).
-fn counted_track(track: &[u8], map: &MapNumbers) -> FirstTrack
-    requires { MapLoaded map.now (disk_of track.now) }
-    ensures { result ≡ Tracks.counted (disk_of track.now) }
+fn counted_track(track: &LoadedDisk<'_>) -> TrackCounts
+    ensures { track_replied (Ok result) ≡ Tracks.counted (disk_of track.now.image.now) }
 {
-    let free = count_free(map);
-    FirstTrack {
-        reply: done(),
-        free: head_word(track, 20),
-        good: head_word(track, 22),
+    let free = track.count_free();
+    TrackCounts {
+        free: head_word(track.image, 20),
+        good: head_word(track.image, 22),
         held: Geometry::BLOCKS - free,
     }
 }
 
 // The judgements 8, 9, 19 and 11, in order (§8.14).
-fn judge_track(track: &[u8], map: &MapNumbers) -> Verdict
-    requires { (sector_bytes ≤ length track.now) × MapLoaded map.now (disk_of track.now) }
-    ensures { result ≡ verdict_of (or_else (start_refusal (disk_of track.now)) (refusal11 (disk_of track.now))) }
+fn judge_track(track: &LoadedDisk<'_>) -> Result<(), DiskRefusal>
+    requires { sector_bytes ≤ length track.now.image.now }
+    ensures { refusal_of result ≡ or_else (start_refusal (disk_of track.now.image.now)) (refusal11 (disk_of track.now.image.now)) }
 {
-    match judge_start(track, map) {
-        Verdict::Refused(r) => Verdict::Refused(r),
-        Verdict::Passed => judge_free(track, map),
-    }
+    judge_start(track)?;
+    judge_free(track)
 }
 
 // The call first track (§8.14), or 1 (§7.1).
-pub fn first_track(track: &[u8]) -> FirstTrack
-    ensures { result ≡ Tracks.first_track_result track.now }
+pub fn first_track(track: &[u8]) -> Result<TrackCounts, DiskRefusal>
+    ensures { track_replied result ≡ Tracks.first_track_result track.now }
 {
     if track.len() != TRACK_BYTES {
-        return refused_track(refused(1, 2));
+        return Err(DiskRefusal::ImageLength);
     }
-    let mut map = [0u32; Geometry::BLOCKS];
-    load_map(track, &mut map);
-    match judge_track(track, &map) {
-        Verdict::Refused(r) => refused_track(r),
-        Verdict::Passed => counted_track(track, &map),
-    }
+    let track = LoadedDisk::load(track);
+    judge_track(&track)?;
+    Ok(counted_track(&track))
 }

@@ -1,6 +1,7 @@
 // The example program: judges track 0 on standard input (§8.14), and prints a refusal or three counts.
 #![tactic(auto)]
 
+use sector_rules::Reply;
 use sectors::Geometry;
 
 const TRACK_BYTES: usize = Geometry::TRACK_SECTORS * Geometry::SECTOR_BYTES;
@@ -16,13 +17,12 @@ fn main() {
     // One byte more than a track, so that a longer input is seen to be longer.
     let mut track = [0u8; TRACK_BYTES + 1];
     let n = io::read_full(0, &mut track);
-    let judged = files::first_track(&track[..n]);
-    let reply = judged.reply;
-    if reply.number == 0 {
-        line(b"free ", judged.free);
-        line(b"good ", judged.good);
-        line(b"held ", judged.held);
-    } else {
-        line(b"refused ", reply.number);
+    match files::first_track(&track[..n]) {
+        Ok(counts) => {
+            line(b"free ", counts.free);
+            line(b"good ", counts.good);
+            line(b"held ", counts.held);
+        }
+        Err(refusal) => line(b"refused ", Reply::from(refusal).number),
     }
 }

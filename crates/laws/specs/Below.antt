@@ -1,5 +1,5 @@
 -- Of the numbers below a bound: whether all pass a test, the lowest that does, how many do, the first that do; and the sum of their values.
-use Rattle.std.specs.Prelude.{Bool, true, false, cond, ◌&&◌, List, [], ◌∷◌, ℕ, zero, suc, ◌+◌, ltb}
+use Rattle.std.specs.Prelude.{Bool, true, false, cond, ◌&&◌, List, [], ◌∷◌, Option, Some, None, ℕ, zero, suc, ◌+◌, ltb}
 
 -- whether each number below n passes the test
 unfoldable pub all : (ℕ → Bool) → ℕ → Bool
@@ -12,6 +12,10 @@ lowest test zero = zero
 lowest test (suc n) =
     let m : ℕ = lowest test n in
     cond (ltb m n) m (cond (test n) n (suc n))
+
+-- the lowest number below n that passes the test, where one does
+unfoldable pub first_below : (ℕ → Bool) → ℕ → Option ℕ
+first_below test n = cond (ltb (lowest test n) n) (Some (lowest test n)) None
 
 -- how many numbers below n pass the test; the count is bound, so that it is computed once
 unfoldable pub count : ℕ → (ℕ → Bool) → ℕ

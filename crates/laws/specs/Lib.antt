@@ -2,6 +2,7 @@
 pub mod Lists
 pub mod Changes
 pub mod Below
+pub mod Found
 pub mod Numbers
 pub mod Options
 pub mod Laws

@@ -1,13 +1,13 @@
 -- What is promised of a damaged track: detectable damage of a sector is refused, and never shown as data.
 -- Rests on the laws of damage (Laws.Damage) and of one burst (Laws.Burst).
-use Rattle.std.specs.Prelude.{true, cond, List, ◌≢◌, ◌≡◌, refl, ℕ, ◌+◌, ◌*◌, ◌≤◌, ◌<◌, eqb, length, get_or}
+use Rattle.std.specs.Prelude.{Ok, Err, true, cond, List, ◌≢◌, ◌≡◌, refl, ℕ, ◌+◌, ◌*◌, ◌≤◌, ◌<◌, eqb, length, get_or}
 use Rattle.std.proofs.Common.{sym, ap, ◌∙◌}
 use Rattle.cells.specs.Stream.{from, data_byte}
 use Rattle.cells.specs.Crc.{crc_follows}
 use Rattle.cells.specs.Damage.{data_bit, bits_byte, burst_bits, longest_row, Detectable}
 use Rattle.cells.proofs.Laws.Caught.{cells_burst}
 use Rattle.sector_rules.specs.declared.Found.TheVariants.{One}
-use Rattle.sector_rules.specs.declared.Sector.TheVariants.{Delivered, NoField, Damaged}
+use Rattle.sector_rules.specs.declared.SectorFault.TheVariants.{NoField, Damaged}
 use Rattle.sector_rules.specs.declared.Reply.{Reply}
 use Rattle.sector_rules.specs.Geometry.{all_sectors, image_bytes}
 use Rattle.sector_rules.specs.Search.{crc_holds, data_mark, field_cells, is_header, id_of, find_sector, field_at, sector_of}
@@ -34,17 +34,17 @@ crc_counted f n = holds_bits f n
 
 -- field_caught: of a field that was delivered the data bits differ detectably, and bit k is wrong.
 -- Judged at its place it is Damaged (7) where its mark reads FB, and NoField (6) where not; never is it delivered
-pub field_caught : (c d : List ℕ) → Binary c → Binary d → length c ≡ length d → (j p : ℕ) → field_at c j ≡ Delivered p
+pub field_caught : (c d : List ℕ) → Binary c → Binary d → length c ≡ length d → (j p : ℕ) → field_at c j ≡ Ok p
     → Detectable (data_bit (from c j)) (data_bit (from d j)) field_bits → (k : ℕ) → k < field_bits → data_bit (from c j) k ≢ data_bit (from d j) k
-    → field_at d j ≡ cond (eqb (data_byte (from d j) 48) data_mark) Damaged NoField
+    → field_at d j ≡ cond (eqb (data_byte (from d j) 48) data_mark) (Err Damaged) (Err NoField)
 field_caught c d bc bd long j p e differ k h wrong = field_refused c d bc bd j differ p k e long h wrong
 
 -- burst_refused: the same where the changed cells of the field lie among 32 neighbouring ones, clock cells counted
-pub burst_refused : (c d : List ℕ) → Binary c → Binary d → length c ≡ length d → (j p a : ℕ) → field_at c j ≡ Delivered p
+pub burst_refused : (c d : List ℕ) → Binary c → Binary d → length c ≡ length d → (j p a : ℕ) → field_at c j ≡ Ok p
     → ((k : ℕ) → k < field_cells → k < a → get_or (from c j) k 0 ≡ get_or (from d j) k 0)
     → ((k : ℕ) → k < field_cells → a + 2 * burst_bits ≤ k → get_or (from c j) k 0 ≡ get_or (from d j) k 0)
     → (k : ℕ) → k < field_bits → data_bit (from c j) k ≢ data_bit (from d j) k
-    → field_at d j ≡ cond (eqb (data_byte (from d j) 48) data_mark) Damaged NoField
+    → field_at d j ≡ cond (eqb (data_byte (from d j) 48) data_mark) (Err Damaged) (Err NoField)
 burst_refused c d bc bd long j p a e before after k h wrong =
     field_caught c d bc bd long j p e (cells_burst (from c j) (from d j) a field_bits before after) k h wrong
 
@@ -55,13 +55,13 @@ pub header_caught : (c d : List ℕ) → Binary c → Binary d → (i : ℕ) →
 header_caught c d bc bd i hc hd differ = header_same c d bc bd i differ hc hd
 
 -- sector_caught: a sector whose field is damaged (FieldDamage) is delivered with the recorded bytes, or not at all
-pub sector_caught : (c d : List ℕ) → Binary c → Binary d → (t s r i j q : ℕ) → find_sector c t s r ≡ One i → sector_of c t s r ≡ Delivered (j + 64)
-    → FieldDamage c d i j → sector_of d t s r ≡ Delivered q → (q ≡ j + 64) × SameField c d j
+pub sector_caught : (c d : List ℕ) → Binary c → Binary d → (t s r i j q : ℕ) → find_sector c t s r ≡ One i → sector_of c t s r ≡ Ok (j + 64)
+    → FieldDamage c d i j → sector_of d t s r ≡ Ok q → (q ≡ j + 64) × SameField c d j
 sector_caught c d bc bd t s r i j q ei ec g ed = sector_same c d bc bd t s r i j q ei ec g ed
 
 -- side_caught: so is a sector of a side with damage anywhere (SideDamage), if the side was recorded so that runs of sync bytes are apart
-pub side_caught : (c d : List ℕ) → Binary c → Binary d → SideDamage c d → RunsApart c → (t s r j q : ℕ) → sector_of c t s r ≡ Delivered (j + 64)
-    → sector_of d t s r ≡ Delivered q → (q ≡ j + 64) × SameField c d j
+pub side_caught : (c d : List ℕ) → Binary c → Binary d → SideDamage c d → RunsApart c → (t s r j q : ℕ) → sector_of c t s r ≡ Ok (j + 64)
+    → sector_of d t s r ≡ Ok q → (q ≡ j + 64) × SameField c d j
 side_caught c d bc bd g away t s r j q ec ed = side_same c d bc bd g away t s r j q ec ed
 
 -- ---- whole images
@@ -73,7 +73,7 @@ unpack_caught h g image d eh eg = same_images h g image (fields_bytes h g d) eh 
 
 -- unpack_refused: where one sector's field is damaged so, and a data bit of it is wrong, the image is refused, whatever became of the other sectors
 pub unpack_refused : (h g : List ℕ) (n m i j k : ℕ) → m < all_sectors → find_sector (side_with h m) (track_of m) (side_of m) (r_of m) ≡ One i
-    → sector_at h m ≡ Delivered (j + 64) → FieldDamage (side_with h m) (side_with g m) i j
+    → sector_at h m ≡ Ok (j + 64) → FieldDamage (side_with h m) (side_with g m) i j
     → k < field_bits → data_bit (from (side_with h m) j) k ≢ data_bit (from (side_with g m) j) k → (unpack_reply g n).number ≢ 0
 unpack_refused h g n m i j k l ei e d hk wrong eg =
     let y = each_place g n eg m l in

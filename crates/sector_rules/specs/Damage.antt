@@ -1,12 +1,11 @@
 -- Damage of a track, by what is detectable in a row of bits (docs/RULES.md, section 10): what the promises on damage (Caught.antt) are stated with.
 -- Of two sides c is what was recorded and d what is read; so are the HFE images h and g. Cells may be changed; none is lost or added.
 -- Assumes nothing: these are definitions.
-use Rattle.std.specs.Prelude.{true, false, List, ◌≡◌, ℕ, ◌+◌, ◌*◌, ◌/◌, ◌≤◌, ◌<◌, length, get_or}
+use Rattle.std.specs.Prelude.{Ok, true, false, List, ◌≡◌, ℕ, ◌+◌, ◌*◌, ◌/◌, ◌≤◌, ◌<◌, length, get_or}
 use Rattle.cells.specs.Stream.{from}
 use Rattle.cells.specs.Sync.{three_sync}
 use Rattle.cells.specs.Damage.{data_bit, burst_bits, Detectable}
 use Rattle.sector_rules.specs.declared.Found.TheVariants.{One}
-use Rattle.sector_rules.specs.declared.Sector.TheVariants.{Delivered}
 use Rattle.sector_rules.specs.Geometry.{tracks, sides, all_sectors}
 use Rattle.sector_rules.specs.Search.{header_cells, field_cells, gap_cells, is_header, find_sector, field_at, delivered_bytes}
 use Rattle.sector_rules.specs.Hfe.{side_stream}
@@ -36,7 +35,7 @@ pub record FieldDamage (c d : List ℕ) (i j : ℕ) : Type 0 where
 -- the field at place j has the same data bits on both sides, and the same 512 bytes (§10.3)
 pub record SameField (c d : List ℕ) (j : ℕ) : Type 0 where
   pub bits : (k : ℕ) → k < field_bits → data_bit (from c j) k ≡ data_bit (from d j) k
-  pub bytes : delivered_bytes c (Delivered (j + 64)) ≡ delivered_bytes d (Delivered (j + 64))
+  pub bytes : delivered_bytes c (Ok (j + 64)) ≡ delivered_bytes d (Ok (j + 64))
 
 -- the side of the track that image sector m is on (§1.2)
 abbrev pub side_with : List ℕ → ℕ → List ℕ
@@ -44,7 +43,7 @@ side_with h m = side_stream h (track_of m) (side_of m)
 
 -- of whole images: the field of each sector whose bytes h gives has such damage, or none (§10.3)
 pub record ImageFieldDamage (h g : List ℕ) : Type 0 where
-  pub each : (m i j : ℕ) → m < all_sectors → find_sector (side_with h m) (track_of m) (side_of m) (r_of m) ≡ One i → sector_at h m ≡ Delivered (j + 64)
+  pub each : (m i j : ℕ) → m < all_sectors → find_sector (side_with h m) (track_of m) (side_of m) (r_of m) ≡ One i → sector_at h m ≡ Ok (j + 64)
       → FieldDamage (side_with h m) (side_with g m) i j
 
 -- ---- damage anywhere
@@ -56,7 +55,7 @@ pub record SideDamage (c d : List ℕ) : Type 0 where
   pub long : length c ≡ length d
   pub no_new_run : (k : ℕ) → three_sync (from d k) ≡ true → three_sync (from c k) ≡ true
   pub headers : (k : ℕ) → is_header (from c k) ≡ true → Detectable (data_bit (from c k)) (data_bit (from d k)) header_bits
-  pub fields : (k p : ℕ) → three_sync (from c k) ≡ true → field_at c k ≡ Delivered p → Detectable (data_bit (from c k)) (data_bit (from d k)) field_bits
+  pub fields : (k p : ℕ) → three_sync (from c k) ≡ true → field_at c k ≡ Ok p → Detectable (data_bit (from c k)) (data_bit (from d k)) field_bits
 
 -- of whole images: each side of each track (§10.4)
 pub record ImageSideDamage (h g : List ℕ) : Type 0 where

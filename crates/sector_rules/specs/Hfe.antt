@@ -5,7 +5,7 @@ use Rattle.laws.specs.Lists.{stands_at}
 use Rattle.laws.specs.Numbers.{quotient_up, low_first}
 use Rattle.cells.specs.Stream.{stream, hfe_side}
 use Rattle.cells.specs.Codes.{stored_bytes, Decoded, coded, cells_of}
-use Rattle.sector_rules.specs.declared.Fault.{Fault}
+use Rattle.sector_rules.specs.Faults.{Fault}
 use Rattle.sector_rules.specs.Faults.{wrong_at, or_fault, lowest_fault}
 use Rattle.sector_rules.specs.Geometry.{tracks, sides}
 

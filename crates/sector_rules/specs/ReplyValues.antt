@@ -1,10 +1,10 @@
 -- reply_values: the lengths that 1 refuses and its places (§7.1), what 3 judges of a track table (§2.5, §7.3), the numbers 4 to 7 with their places, and
 -- 12 of the placement call (§8.3), by value; and that 3 comes before 18 (§7.25).
 -- Assumes nothing: these are definitions. The proof is `reply_values` in Laws/Values/ReplyValues.antt.
-use Rattle.std.specs.Prelude.{cond, List, [], ◌∷◌, ◌++◌, map, ◌≢◌, ◌≡◌, ℕ, ◌-◌, ◌*◌, ◌%◌, ◌≤◌, ◌<◌, eqb, length, set, replicate}
+use Rattle.std.specs.Prelude.{Err, cond, List, [], ◌∷◌, ◌++◌, map, ◌≢◌, ◌≡◌, ℕ, ◌-◌, ◌*◌, ◌%◌, ◌≤◌, ◌<◌, eqb, length, set, replicate}
 use Rattle.laws.specs.Lists.{tab}
 use Rattle.sector_rules.specs.declared.Reply.{Reply}
-use Rattle.sector_rules.specs.declared.Sector.TheVariants.{Missing, Repeated, NoField, Damaged}
+use Rattle.sector_rules.specs.declared.SectorFault.TheVariants.{Missing, Repeated, NoField, Damaged}
 use Rattle.sector_rules.specs.Geometry.{place_reply}
 use Rattle.sector_rules.specs.HeaderValues.{hfe_header, version3_header}
 use Rattle.sector_rules.specs.Packed.{pack_reply}
@@ -59,9 +59,9 @@ pub record ReplyValues : Type 0 where
   -- the last track is judged too
   pub last_track : table_reply (good_entries 79) ≡ reply_with 3 79 0 0
   -- 4 to 7 with track, side and R, for the first and last sectors of sides
-  pub sectors_named : map (sector_reply 1439) (Missing ∷ Repeated ∷ NoField ∷ Damaged ∷ [])
+  pub sectors_named : map (sector_reply 1439) ((Err Missing) ∷ (Err Repeated) ∷ (Err NoField) ∷ (Err Damaged) ∷ [])
       ≡ reply_with 4 79 1 9 ∷ reply_with 5 79 1 9 ∷ reply_with 6 79 1 9 ∷ reply_with 7 79 1 9 ∷ []
-  pub places_named : map (λ (m : ℕ). sector_reply m Missing) (0 ∷ 8 ∷ 9 ∷ 18 ∷ [])
+  pub places_named : map (λ (m : ℕ). sector_reply m (Err Missing)) (0 ∷ 8 ∷ 9 ∷ 18 ∷ [])
       ≡ reply_with 4 0 0 1 ∷ reply_with 4 0 0 9 ∷ reply_with 4 0 1 1 ∷ reply_with 4 1 0 1 ∷ []
   -- 12 of the placement call: blocks are 0 to 479, sectors of a block 0 to 2
   pub place_judged : ((place_reply 479 2).number ≡ 0) × (place_reply 0 2 ≡ reply_with 0 6 0 0)

@@ -1,14 +1,13 @@
 -- What is promised of rewriting (docs/PROMISES.md): rewrite_reads, rewrite_packs, side_untouched and rewrite_replies.
 -- Assumes nothing: these are definitions. The proofs stand in Laws/Rewrite.
-use Rattle.std.specs.Prelude.{true, false, List, ◌≡◌, ◌≢◌, ℕ, ◌+◌, ◌*◌, ◌/◌, ◌%◌, ◌≤◌, ◌<◌, length, get_or, take, drop}
+use Rattle.std.specs.Prelude.{Some, None, Ok, Err, true, false, List, ◌≡◌, ◌≢◌, ℕ, ◌+◌, ◌*◌, ◌/◌, ◌%◌, ◌≤◌, ◌<◌, length, get_or, take, drop}
 use Rattle.std.proofs.Math.Option.{none}
 use Rattle.laws.specs.Changes.{put}
 use Rattle.laws.specs.Numbers.{quotient_up}
 use Rattle.cells.specs.Stream.{stream, hfe_side}
 use Rattle.cells.specs.Mfm.{clock}
 use Rattle.cells.specs.Written.{bit_before, written_cell}
-use Rattle.sector_rules.specs.declared.Fault.TheVariants.{At, Sound}
-use Rattle.sector_rules.specs.declared.Sector.TheVariants.{Delivered, Missing, Repeated, NoField, Damaged}
+use Rattle.sector_rules.specs.declared.SectorFault.TheVariants.{Missing, Repeated, NoField, Damaged}
 use Rattle.sector_rules.specs.Replies.{reply_with, done}
 use Rattle.sector_rules.specs.Geometry.{tracks, sides, sectors, all_sectors, sector_bytes, image_bytes}
 use Rattle.sector_rules.specs.Hfe.{unit_bytes, is_version3, version1_fault, table_fault, track_start, track_length, side_stream}
@@ -40,7 +39,7 @@ pub record Rewrites (h g : List ℕ) (t s r : ℕ) (d : List ℕ) (p : ℕ) : Ty
   -- the result reads as is asked
   pub reads : ResultReads h g (image_sector_of t s r) d
   -- the data stand where the old ones did, if these were delivered
-  pub place : (k : ℕ) → sector_at h (image_sector_of t s r) ≡ Delivered k → p ≡ k
+  pub place : (k : ℕ) → sector_at h (image_sector_of t s r) ≡ Ok k → p ≡ k
   -- the image is as long as it was
   pub long : length g ≡ length h
   -- every byte that is not one of this side is as it was
@@ -97,11 +96,11 @@ pub record ArgumentLimits : Type 0 where
 
 -- whether a sector has a data field, by what it gives, judged alone (§8.15)
 pub record FieldPresent : Type 0 where
-  pub delivered : (p : ℕ) → has_field (Delivered p) ≡ true
-  pub damaged : has_field Damaged ≡ true
-  pub missing : has_field Missing ≡ false
-  pub repeated : has_field Repeated ≡ false
-  pub absent : has_field NoField ≡ false
+  pub delivered : (p : ℕ) → has_field (Ok p) ≡ true
+  pub damaged : has_field (Err Damaged) ≡ true
+  pub missing : has_field (Err Missing) ≡ false
+  pub repeated : has_field (Err Repeated) ≡ false
+  pub absent : has_field (Err NoField) ≡ false
 
 -- rewrite_replies: the replies of rewrite in their order, with number and places; 17 exactly where the result does not read as is asked (§8.15 §7.24)
 pub record RewriteReplies : Type 0 where
@@ -109,16 +108,16 @@ pub record RewriteReplies : Type 0 where
   pub fields : FieldPresent
   pub short : (h : List ℕ) (t s r : ℕ) (d : List ℕ) → length h < 1024 → rewrite_reply h t s r d ≡ reply_with 1 1 0 0
   pub arguments : (h : List ℕ) (t s r : ℕ) (d : List ℕ) → 1024 ≤ length h → rewrite_arguments t s r d ≡ false → rewrite_reply h t s r d ≡ reply_with 12 0 0 0
-  pub header : (h : List ℕ) (t s r : ℕ) (d : List ℕ) → 1024 ≤ length h → rewrite_arguments t s r d ≡ true → (o : ℕ) → version1_fault h ≡ At o
+  pub header : (h : List ℕ) (t s r : ℕ) (d : List ℕ) → 1024 ≤ length h → rewrite_arguments t s r d ≡ true → (o : ℕ) → version1_fault h ≡ Some o
       → rewrite_reply h t s r d ≡ reply_with 2 o 0 0
-  pub table : (h : List ℕ) (t s r : ℕ) (d : List ℕ) → 1024 ≤ length h → rewrite_arguments t s r d ≡ true → version1_fault h ≡ Sound
-      → (k : ℕ) → table_fault h ≡ At k → rewrite_reply h t s r d ≡ reply_with 3 k 0 0
-  pub field : (h : List ℕ) (t s r : ℕ) (d : List ℕ) → 1024 ≤ length h → rewrite_arguments t s r d ≡ true → version1_fault h ≡ Sound → table_fault h ≡ Sound
+  pub table : (h : List ℕ) (t s r : ℕ) (d : List ℕ) → 1024 ≤ length h → rewrite_arguments t s r d ≡ true → version1_fault h ≡ None
+      → (k : ℕ) → table_fault h ≡ Some k → rewrite_reply h t s r d ≡ reply_with 3 k 0 0
+  pub field : (h : List ℕ) (t s r : ℕ) (d : List ℕ) → 1024 ≤ length h → rewrite_arguments t s r d ≡ true → version1_fault h ≡ None → table_fault h ≡ None
       → has_field (sector_at h (image_sector_of t s r)) ≡ false → rewrite_reply h t s r d ≡ sector_reply (image_sector_of t s r) (sector_at h
       (image_sector_of t s r))
-  pub accepted : (h : List ℕ) (t s r : ℕ) (d : List ℕ) → 1024 ≤ length h → rewrite_arguments t s r d ≡ true → version1_fault h ≡ Sound → table_fault h ≡ Sound
+  pub accepted : (h : List ℕ) (t s r : ℕ) (d : List ℕ) → 1024 ≤ length h → rewrite_arguments t s r d ≡ true → version1_fault h ≡ None → table_fault h ≡ None
       → has_field (sector_at h (image_sector_of t s r)) ≡ true → ResultReads h (rewritten h t s r d) (image_sector_of t s r) d
       → rewrite_reply h t s r d ≡ reply_with 0 0 0 0
-  pub misread : (h : List ℕ) (t s r : ℕ) (d : List ℕ) → 1024 ≤ length h → rewrite_arguments t s r d ≡ true → version1_fault h ≡ Sound → table_fault h ≡ Sound
+  pub misread : (h : List ℕ) (t s r : ℕ) (d : List ℕ) → 1024 ≤ length h → rewrite_arguments t s r d ≡ true → version1_fault h ≡ None → table_fault h ≡ None
       → has_field (sector_at h (image_sector_of t s r)) ≡ true → (ResultReads h (rewritten h t s r d) (image_sector_of t s r) d → ⊥)
       → rewrite_reply h t s r d ≡ reply_with 17 0 0 0

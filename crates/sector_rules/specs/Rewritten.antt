@@ -1,6 +1,6 @@
 -- Rewriting one sector in an HFE image (docs/RULES.md, section 8), and the reply 17 (section 7).
 -- Assumes nothing: these are definitions.
-use Rattle.std.specs.Prelude.{Bool, true, false, cond, ◌&&◌, not, List, ◌∷◌, ℕ, ◌+◌, ◌-◌, ◌*◌, ◌/◌, ◌%◌, leb, ltb, eqb, length, get_or}
+use Rattle.std.specs.Prelude.{Ok, Err, Bool, true, false, cond, ◌&&◌, not, List, ◌∷◌, ℕ, ◌+◌, ◌-◌, ◌*◌, ◌/◌, ◌%◌, leb, ltb, eqb, length, get_or}
 use Rattle.std.proofs.Math.Option.{Option}
 use Rattle.laws.specs.Lists.{tab, same}
 use Rattle.laws.specs.Below.{all}
@@ -12,8 +12,8 @@ use Rattle.cells.specs.Written.{bit_before, written_cell}
 use Rattle.sector_rules.specs.declared.Reply.{Reply}
 use Rattle.sector_rules.specs.declared.Found.{Found}
 use Rattle.sector_rules.specs.declared.Found.TheVariants.{One, Nothing, Several}
-use Rattle.sector_rules.specs.declared.Sector.{Sector}
-use Rattle.sector_rules.specs.declared.Sector.TheVariants.{Delivered, Missing, Repeated, NoField, Damaged}
+use Rattle.sector_rules.specs.Search.{Sector}
+use Rattle.sector_rules.specs.declared.SectorFault.TheVariants.{Missing, Repeated, NoField, Damaged}
 use Rattle.sector_rules.specs.Replies.{done, refusal, wrong_hfe, unless}
 use Rattle.sector_rules.specs.Faults.{refusal_at}
 use Rattle.sector_rules.specs.Geometry.{tracks, sides, sectors, all_sectors, sector_bytes}
@@ -113,11 +113,11 @@ result_right h g m d = not (is_some (hfe_refusal g)) && all (sector_right h g m 
 
 -- whether a sector has a data field, its CRC right or wrong; else it gets 4, 5 or 6 (§8.15)
 abbrev pub has_field : Sector → Bool
-has_field (Delivered p) = true
-has_field Damaged = true
-has_field Missing = false
-has_field Repeated = false
-has_field NoField = false
+has_field (Ok p) = true
+has_field (Err Damaged) = true
+has_field (Err Missing) = false
+has_field (Err Repeated) = false
+has_field (Err NoField) = false
 
 -- the reply where header, table and arguments are right: 4 to 6 for this sector alone (§8.15), then 17 exactly where the result would not read as it
 -- must (§7.24)

@@ -1,19 +1,25 @@
 -- Headers, the search for a sector, its data field, and what a sector gives, judged alone (docs/RULES.md, section 4).
 -- Headers and fields are stated over the cells from a place on.
 -- Assumes nothing: these are definitions.
-use Rattle.std.specs.Prelude.{Bool, false, cond, ◌&&◌, List, [], ◌∷◌, ◌++◌, ℕ, zero, suc, ◌+◌, ◌*◌, leb, eqb, length}
+use Rattle.std.specs.Prelude.{Option, Some, None, Result, Ok, Err, Bool, false, cond, ◌&&◌, List, [], ◌∷◌, ◌++◌, ℕ, zero, suc, ◌+◌, ◌*◌, leb, eqb, length}
 use Rattle.laws.specs.Lists.{tab}
 use Rattle.cells.specs.Stream.{from, data_byte}
 use Rattle.cells.specs.Sync.{three_sync}
 use Rattle.cells.specs.Crc.{crc_follows}
 use Rattle.sector_rules.specs.Geometry.{sector_bytes}
 use Rattle.sector_rules.specs.declared.Id.{Id}
-use Rattle.sector_rules.specs.declared.Header.{Header}
-use Rattle.sector_rules.specs.declared.Header.TheVariants.{Is, Absent}
 use Rattle.sector_rules.specs.declared.Found.{Found}
 use Rattle.sector_rules.specs.declared.Found.TheVariants.{One, Nothing, Several}
-use Rattle.sector_rules.specs.declared.Sector.{Sector}
-use Rattle.sector_rules.specs.declared.Sector.TheVariants.{Delivered, Missing, Repeated, NoField, Damaged}
+use Rattle.sector_rules.specs.declared.SectorFault.{SectorFault}
+use Rattle.sector_rules.specs.declared.SectorFault.TheVariants.{Missing, Repeated, NoField, Damaged}
+
+-- what stands at a cell place: a header that names a sector, or none (§4.1)
+abbrev pub FoundHeader : Type 0
+FoundHeader = Option Id
+
+-- what a sector gives, judged alone: the cell place of its 512 bytes, or why there are none (§4.6)
+abbrev pub Sector : Type 0
+Sector = Result ℕ SectorFault
 
 -- the n bytes at the list's beginning are followed by their CRC (§3.9)
 unfoldable pub crc_holds : List ℕ → ℕ → Bool
@@ -48,13 +54,13 @@ unfoldable pub id_of : List ℕ → Id
 id_of f = record { c = data_byte f 64; h = data_byte f 80; r = data_byte f 96; n = data_byte f 112 }
 
 -- the header at the list's beginning, or none (§4.1)
-unfoldable pub header_of : List ℕ → Header
-header_of f = cond (is_header f) (Is (id_of f)) Absent
+unfoldable pub header_of : List ℕ → FoundHeader
+header_of f = cond (is_header f) (Some (id_of f)) None
 
 -- a header belongs to sector R of this track and side: C is the track, H the side, R the sector and N is 2 (§4.2)
-abbrev pub is_header_of : ℕ → ℕ → ℕ → Header → Bool
-is_header_of t s r (Is id) = eqb id.c t && eqb id.h s && eqb id.n size_code && eqb id.r r
-is_header_of t s r Absent = false
+abbrev pub is_header_of : ℕ → ℕ → ℕ → FoundHeader → Bool
+is_header_of t s r (Some id) = eqb id.c t && eqb id.h s && eqb id.n size_code && eqb id.r r
+is_header_of t s r None = false
 
 -- a header that belongs to sector R of this track and side stands at cell place i (§4.2)
 unfoldable pub header_at : List ℕ → ℕ → ℕ → ℕ → ℕ → Bool
@@ -89,18 +95,18 @@ gap_cells = 688
 unfoldable pub field_at : List ℕ → ℕ → Sector
 field_at c j =
     cond (leb field_cells (length (from c j)) && eqb (data_byte (from c j) 48) data_mark)
-    (cond (crc_holds (from c j) (4 + sector_bytes)) (Delivered (j + 64)) Damaged)
-    NoField
+    (cond (crc_holds (from c j) (4 + sector_bytes)) (Ok (j + 64)) (Err Damaged))
+    (Err NoField)
 
 -- the field of the header at cell place i: at the first run that begins at the end of its CRC or at most 688 cells after it (§4.4)
 unfoldable pub field_of : List ℕ → ℕ → Sector
-field_of c i = first (λ (j : ℕ). three_sync (from c j)) (field_at c) NoField (gap_cells + 1) (i + header_cells)
+field_of c i = first (λ (j : ℕ). three_sync (from c j)) (field_at c) (Err NoField) (gap_cells + 1) (i + header_cells)
 
 -- what a sector gives, by the search's answer (§4.6)
 unfoldable pub sector_found : List ℕ → Found → Sector
 sector_found c (One i) = field_of c i
-sector_found c Nothing = Missing
-sector_found c Several = Repeated
+sector_found c Nothing = Err Missing
+sector_found c Several = Err Repeated
 
 -- what sector R of this track and side gives, judged alone (§4.6)
 unfoldable pub sector_of : List ℕ → ℕ → ℕ → ℕ → Sector
@@ -112,11 +118,11 @@ sector_byte c p k = data_byte (from c p) (16 * k)
 
 -- its 512 bytes, where it gives them (§4.6)
 unfoldable pub delivered_bytes : List ℕ → Sector → List ℕ
-delivered_bytes c (Delivered p) = tab (sector_byte c p) sector_bytes
-delivered_bytes c Missing = []
-delivered_bytes c Repeated = []
-delivered_bytes c NoField = []
-delivered_bytes c Damaged = []
+delivered_bytes c (Ok p) = tab (sector_byte c p) sector_bytes
+delivered_bytes c (Err Missing) = []
+delivered_bytes c (Err Repeated) = []
+delivered_bytes c (Err NoField) = []
+delivered_bytes c (Err Damaged) = []
 
 -- what is found at one place more than those that gave the answer: a header found once, or more than once (§4.3)
 abbrev pub more_found : Found → ℕ → Found

@@ -1,14 +1,14 @@
 -- Unpacking an HFE image to a block image (docs/RULES.md, section 8), and the replies 1 to 7 and 18 (section 7).
 -- Assumes nothing: these are definitions.
-use Rattle.std.specs.Prelude.{Bool, true, false, cond, List, ℕ, ◌+◌, ◌*◌, ◌/◌, ◌%◌, ltb, eqb, length, get_or}
+use Rattle.std.specs.Prelude.{Ok, Err, Bool, true, false, cond, List, ℕ, ◌+◌, ◌*◌, ◌/◌, ◌%◌, ltb, eqb, length, get_or}
 use Rattle.std.proofs.Math.Option.{Option, none, some}
 use Rattle.laws.specs.Lists.{tab}
 use Rattle.laws.specs.Below.{lowest}
 use Rattle.laws.specs.Options.{or_else, first_some}
 use Rattle.cells.specs.Codes.{Decoded, Cells, WrongCode}
 use Rattle.sector_rules.specs.declared.Reply.{Reply}
-use Rattle.sector_rules.specs.declared.Sector.{Sector}
-use Rattle.sector_rules.specs.declared.Sector.TheVariants.{Delivered, Missing, Repeated, NoField, Damaged}
+use Rattle.sector_rules.specs.Search.{Sector}
+use Rattle.sector_rules.specs.declared.SectorFault.TheVariants.{Missing, Repeated, NoField, Damaged}
 use Rattle.sector_rules.specs.Replies.{reply_with, done, wrong_hfe, wrong_length, unless}
 use Rattle.sector_rules.specs.Faults.{refusal_at}
 use Rattle.sector_rules.specs.Geometry.{tracks, sides, sectors, track_sectors, all_sectors, sector_bytes, image_bytes}
@@ -37,19 +37,19 @@ sector_bytes_at h m = delivered_bytes (side_stream h (track_of m) (side_of m)) (
 
 -- the reply for what image sector m gives: 4 no header, 5 two or more, 6 no field, 7 its CRC does not hold; with track, side and R (§7.4 §7.5 §7.6 §7.7)
 abbrev pub sector_reply : ℕ → Sector → Reply
-sector_reply m (Delivered p) = done
-sector_reply m Missing = reply_with 4 (track_of m) (side_of m) (r_of m)
-sector_reply m Repeated = reply_with 5 (track_of m) (side_of m) (r_of m)
-sector_reply m NoField = reply_with 6 (track_of m) (side_of m) (r_of m)
-sector_reply m Damaged = reply_with 7 (track_of m) (side_of m) (r_of m)
+sector_reply m (Ok p) = done
+sector_reply m (Err Missing) = reply_with 4 (track_of m) (side_of m) (r_of m)
+sector_reply m (Err Repeated) = reply_with 5 (track_of m) (side_of m) (r_of m)
+sector_reply m (Err NoField) = reply_with 6 (track_of m) (side_of m) (r_of m)
+sector_reply m (Err Damaged) = reply_with 7 (track_of m) (side_of m) (r_of m)
 
 -- whether a sector is bad: its reply is a refusal (§7.18)
 abbrev pub is_bad : Sector → Bool
-is_bad (Delivered p) = false
-is_bad Missing = true
-is_bad Repeated = true
-is_bad NoField = true
-is_bad Damaged = true
+is_bad (Ok p) = false
+is_bad (Err Missing) = true
+is_bad (Err Repeated) = true
+is_bad (Err NoField) = true
+is_bad (Err Damaged) = true
 
 -- the first bad sector by track, side and R, or 1,440 (§7.18)
 unfoldable pub first_bad : List ℕ → ℕ
@@ -91,11 +91,11 @@ unpack_image h image = cond (eqb (unpack_reply h (length image)).number 0) (tab 
 
 -- the place of a sector's bytes, of a sector that is delivered (§8.1)
 abbrev pub place_of : Sector → ℕ
-place_of (Delivered p) = p
-place_of Missing = 0
-place_of Repeated = 0
-place_of NoField = 0
-place_of Damaged = 0
+place_of (Ok p) = p
+place_of (Err Missing) = 0
+place_of (Err Repeated) = 0
+place_of (Err NoField) = 0
+place_of (Err Damaged) = 0
 
 -- the refusal of the n-th side of version 3, by track and then side (§7.25)
 abbrev pub side_refusal : List ℕ → ℕ → Option Reply

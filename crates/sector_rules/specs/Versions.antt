@@ -1,15 +1,13 @@
 -- What is promised of the two versions of HFE images (docs/PROMISES.md): version_letters, version_3_plain, version_1_cells, version_3_cells, sectors_read and
 -- code_replies.
 -- Assumes nothing: these are definitions. The proofs stand in Laws/Versions.
-use Rattle.std.specs.Prelude.{true, false, List, [], ◌∷◌, ◌≡◌, ◌≢◌, ℕ, ◌+◌, ◌*◌, ◌/◌, ◌≤◌, ◌<◌, length, get_or}
+use Rattle.std.specs.Prelude.{Some, None, Ok, true, false, List, [], ◌∷◌, ◌≡◌, ◌≢◌, ℕ, ◌+◌, ◌*◌, ◌/◌, ◌≤◌, ◌<◌, length, get_or}
 use Rattle.std.proofs.Math.Option.{none}
 use Rattle.laws.specs.Changes.{put}
 use Rattle.laws.specs.Lists.{tab}
 use Rattle.cells.specs.Stream.{byte_place, stream, hfe_side, from, data_byte}
 use Rattle.cells.specs.Codes.{is_code, Cells, WrongCode, coded}
-use Rattle.sector_rules.specs.declared.Fault.TheVariants.{At, Sound}
-use Rattle.sector_rules.specs.declared.Sector.{Sector}
-use Rattle.sector_rules.specs.declared.Sector.TheVariants.{Delivered}
+use Rattle.sector_rules.specs.Search.{Sector}
 use Rattle.sector_rules.specs.Replies.{reply_with, done}
 use Rattle.sector_rules.specs.Geometry.{tracks, sides, all_sectors, sector_bytes, image_bytes}
 use Rattle.sector_rules.specs.Search.{sector_of}
@@ -102,7 +100,7 @@ pub record SectorsRead : Type 0 where
   -- of an image that is accepted the block image has 737,280 bytes
   pub whole : (h image : List ℕ) → (unpack_reply h (length image)).number ≡ 0 → length (unpack_image h image) ≡ image_bytes
   -- and byte k of image sector m is the one whose cells stand 16 k cells after the place of the sector's data
-  pub bytes : (h image : List ℕ) → (unpack_reply h (length image)).number ≡ 0 → (m p k : ℕ) → m < all_sectors → k < sector_bytes → sector_read h m ≡ Delivered p
+  pub bytes : (h image : List ℕ) → (unpack_reply h (length image)).number ≡ 0 → (m p k : ℕ) → m < all_sectors → k < sector_bytes → sector_read h m ≡ Ok p
       → get_or (unpack_image h image) (sector_bytes * m + k) 0 ≡ data_byte (from (side_cells_of h m) p) (16 * k)
 
 -- ---- the order of the replies
@@ -111,16 +109,16 @@ pub record SectorsRead : Type 0 where
 pub record Version3Sound (h : List ℕ) : Type 0 where
   pub long : 1024 ≤ length h
   pub version : is_version3 h ≡ true
-  pub header : hfe_header_fault h ≡ Sound
-  pub table : table_fault h ≡ Sound
+  pub header : hfe_header_fault h ≡ None
+  pub table : table_fault h ≡ None
 
 -- code_replies: 18 after 3 and before 4 to 7, whatever the sectors give, and in version 3 alone (§7.25)
 pub record CodeReplies : Type 0 where
   -- a wrong header and then a wrong table come first, in either version
-  pub header : (h : List ℕ) (o : ℕ) → 1024 ≤ length h → hfe_header_fault h ≡ At o → unpack_reply h image_bytes ≡ reply_with 2 o 0 0
-  pub table : (h : List ℕ) (k : ℕ) → 1024 ≤ length h → hfe_header_fault h ≡ Sound → table_fault h ≡ At k → unpack_reply h image_bytes ≡ reply_with 3 k 0 0
+  pub header : (h : List ℕ) (o : ℕ) → 1024 ≤ length h → hfe_header_fault h ≡ Some o → unpack_reply h image_bytes ≡ reply_with 2 o 0 0
+  pub table : (h : List ℕ) (k : ℕ) → 1024 ≤ length h → hfe_header_fault h ≡ None → table_fault h ≡ Some k → unpack_reply h image_bytes ≡ reply_with 3 k 0 0
   -- in version 1 the sectors decide next
-  pub version_1 : (h : List ℕ) → 1024 ≤ length h → is_version1 h ≡ true → hfe_header_fault h ≡ Sound → table_fault h ≡ Sound
+  pub version_1 : (h : List ℕ) → 1024 ≤ length h → is_version1 h ≡ true → hfe_header_fault h ≡ None → table_fault h ≡ None
       → unpack_reply h image_bytes ≡ sectors_reply h
   -- in version 3 the first side with a wrong code is named, and the place of its first wrong code; earlier sides have none
   pub first : (h : List ℕ) → Version3Sound h → (t s p : ℕ) → t < tracks → s < sides → coded_side h t s ≡ WrongCode p

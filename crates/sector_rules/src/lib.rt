@@ -12,7 +12,7 @@ pub struct Reply {
 }
 
 // A block's number, 0 to 479 (§1.1).
-#[derive(Clone, Copy)]
+#[derive(Clone, Copy, Debug, PartialEq, Eq)]
 pub struct BlockNumber(pub usize);
 
 // A sector's number in the order of the blocks, 0 to 1439: the running sector (§1.3).
@@ -23,13 +23,6 @@ pub struct RunningSector(pub usize);
 #[derive(Clone, Copy)]
 pub struct ImageSector(pub usize);
 
-// What a judgement finds: the lowest place that is at fault, or none (§7.18).
-#[derive(Clone, Copy)]
-pub enum Fault {
-    At(usize),
-    Sound,
-}
-
 // C, H, R and N of a header, which name a sector: track, side, sector and size (§4.1).
 #[derive(Clone, Copy)]
 pub struct Id {
@@ -37,13 +30,6 @@ pub struct Id {
     pub h: u8,
     pub r: u8,
     pub n: u8,
-}
-
-// What stands at a cell place: a header that names a sector, or none (§4.1).
-#[derive(Clone, Copy)]
-pub enum Header {
-    Is(Id),
-    Absent,
 }
 
 // The answer of the search for a sector: at no cell place, at one, or at two or more (§4.3).
@@ -54,12 +40,11 @@ pub enum Found {
     Several,
 }
 
-// What a sector gives, judged alone: the cell place of its 512 bytes, or why there are none (§4.6).
-#[derive(Clone, Copy)]
-pub enum Sector {
+// Why a sector, judged alone, gives no bytes: no header, two or more, no data field, or a CRC that does not hold (§4.6).
+#[derive(Clone, Copy, Debug, PartialEq, Eq)]
+pub enum SectorFault {
     Missing,
     Repeated,
     NoField,
     Damaged,
-    Delivered(usize),
 }

@@ -1,2 +1,3 @@
--- No definitions: those stand in sector_rules. Laws that only the proofs of the functions need.
+-- The replies of the refusals; the other definitions stand in sector_rules. Laws that only the proofs of the functions need.
 pub mod Laws
+pub mod Refusals

@@ -3,74 +3,63 @@
 ghost use Rattle.std.specs.Prelude.{true, ◌≡◌, ◌*◌, ◌/◌, ◌%◌, ◌<◌, length};
 ghost use Rattle.cells.specs.Stream.{stream};
 ghost use Rattle.sector_rules.specs.Geometry.{tracks, sides};
-ghost use Rattle.sector_rules.specs.Hfe.{is_version3, table_fault, side_stream};
+ghost use Rattle.sector_rules.specs.Hfe.{is_version3, side_stream};
 ghost use Rattle.sector_rules.specs.Unpacked.{side_refusal};
 ghost use Rattle.sectors.specs.Laws.Unpacking.Codes.{cell_bytes, refusal_reply, first_code_reply};
+ghost use Rattle.sectors.specs.Refusals.{hfe_replied};
 
 use crate::Geometry;
-use crate::hfe::{is_version3, track_length, track_part, track_side};
-use crate::replies::done;
-use cells::{Expected, Side};
-use sector_rules::{Fault, Reply};
+use crate::hfe::{HfeTracks, is_version3, track_length, track_side};
+use crate::refusals::HfeRefusal;
+use cells::Side;
 
 // Bytes of a buffer that the cells of every side fit in: half of a length of 16 bits (§2.4), and one byte more.
 pub const CELL_BYTES: usize = 32768;
 
 // Refusal 18 of the n-th side, where its first code that is wrong stands (§2.9 §7.25), or done.
-fn side_codes(hfe: &[u8], n: usize) -> Reply
-    requires { (table_fault hfe.now ≡ Fault.Sound) × (n < tracks * sides) }
-    ensures { result ≡ refusal_reply (side_refusal hfe.now n) }
+fn side_codes(hfe: &HfeTracks<'_>, n: usize) -> Result<(), HfeRefusal>
+    requires { n < tracks * sides }
+    ensures { hfe_replied result ≡ refusal_reply (side_refusal hfe.now.bytes.now n) }
 {
     let track = n / Geometry::SIDES;
     let head = n % Geometry::SIDES;
-    let part = track_part(hfe, track);
-    let side = track_side(hfe, track, head);
+    let part = hfe.track_part(track);
+    let side = track_side(hfe.bytes, track, head);
     match cells::judge_codes(part, side) {
-        Expected::Wrong(place) => Reply {
-            number: 18,
-            first: track,
-            second: head,
-            third: place,
-        },
-        Expected::Any => done(),
-        Expected::Rate(_) => done(),
-        Expected::Count(_) => done(),
-        Expected::Partial(_, _) => done(),
+        Some(place) => Err(HfeRefusal::CodeAt(n, place)),
+        None => Ok(()),
     }
 }
 
 // Refusal 18 of the first side of a version 3 image that has a wrong code, by track and then side (§7.25), or done.
-fn all_codes(hfe: &[u8]) -> Reply
-    requires { (table_fault hfe.now ≡ Fault.Sound) × (is_version3 hfe.now ≡ true) }
-    ensures { result ≡ first_code_reply hfe.now }
+fn all_codes(hfe: &HfeTracks<'_>) -> Result<(), HfeRefusal>
+    requires { is_version3 hfe.now.bytes.now ≡ true }
+    ensures { hfe_replied result ≡ first_code_reply hfe.now.bytes.now }
 {
     for n in 0..Geometry::TRACKS * Geometry::SIDES {
-        let reply = side_codes(hfe, n);
-        if reply.number != 0 {
-            return reply;
-        }
+        side_codes(hfe, n)?;
     }
-    done()
+    Ok(())
 }
 
 // Refusal 18, or done: version 1 has no codes (§2.7 §7.25).
-pub fn judge_codes(hfe: &[u8]) -> Reply
-    requires { table_fault hfe.now ≡ Fault.Sound }
-    ensures { result ≡ first_code_reply hfe.now }
+pub fn judge_codes(hfe: &HfeTracks<'_>) -> Result<(), HfeRefusal>
+    ensures { hfe_replied result ≡ first_code_reply hfe.now.bytes.now }
 {
-    if is_version3(hfe) {
-        return all_codes(hfe);
+    if is_version3(hfe.bytes) {
+        all_codes(hfe)
+    } else {
+        Ok(())
     }
-    done()
 }
 
 // Makes the cells of a side of a version 3 image in the buffer (§2.8), and says where they lie there.
-pub fn side_cells(hfe: &[u8], track: usize, head: usize, buffer: &mut [u8]) -> Side
-    requires { (table_fault hfe.now ≡ Fault.Sound) × (is_version3 hfe.now ≡ true) × (track < tracks) × (head < sides) × (length buffer.old ≡ cell_bytes) }
-    ensures { stream buffer.new result ≡ side_stream hfe.now track head }
+pub fn side_cells(hfe: &HfeTracks<'_>, track: usize, head: usize, buffer: &mut [u8]) -> Side
+    requires { (is_version3 hfe.now.bytes.now ≡ true) × (track < tracks) × (head < sides) × (length buffer.old ≡ cell_bytes) }
+    ensures { stream buffer.new result ≡ side_stream hfe.now.bytes.now track head }
 {
-    let part = track_part(hfe, track);
+    let part = hfe.track_part(track);
     // As in `track_side`; here the type of the length, 16 bits, says that the cells fit the buffer.
-    let side = cells::hfe_side(head as u8, track_length(hfe, track));
+    let side = cells::hfe_side(head as u8, track_length(hfe.bytes, track));
     cells::coded_cells(part, side, buffer)
 }

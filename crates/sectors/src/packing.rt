@@ -2,16 +2,16 @@
 ghost use Rattle.std.specs.Prelude.{◌≡◌, ◌+◌, ◌-◌, ◌*◌, ◌<◌, ◌≤◌, min, length};
 ghost use Rattle.laws.specs.Lists.{tab};
 ghost use Rattle.laws.specs.Changes.{overlay};
-ghost use Rattle.sector_rules.specs.Geometry.{tracks, sides, image_bytes};
+ghost use Rattle.sector_rules.specs.Geometry.{tracks};
 ghost use Rattle.sector_rules.specs.Hfe.{unit_bytes};
 ghost use Rattle.sector_rules.specs.Packed.{hfe_header_byte, hfe_table_byte, hfe_byte, hfe_bytes, side_items, track_units, first_unit, pack_reply, pack_hfe};
-ghost use Rattle.sectors.specs.Laws.Packing.Runs.{run_bytes, run_items, run_byte, tracks_byte};
+ghost use Rattle.sectors.specs.Refusals.{hfe_replied};
+ghost use Rattle.sectors.specs.Laws.Packing.Runs.{run_bytes, run_items, run_byte, unit_place, unit_byte, tracks_byte};
 
 use crate::Geometry;
 use crate::hfe::UNIT;
-use crate::replies::{done, refused};
-use crate::written::{SIDE_ITEMS, write_items};
-use sector_rules::Reply;
+use crate::refusals::HfeRefusal;
+use crate::written::{SIDE_ITEMS, WrittenSide};
 
 // Units of a track (§5.3).
 const TRACK_UNITS: usize = 49;
@@ -19,8 +19,8 @@ const TRACK_UNITS: usize = 49;
 // The unit of the first track (§5.3).
 const FIRST_UNIT: usize = 2;
 
-// Bytes that the cells of a side take (§5.2).
-const SIDE_BYTES: usize = 2 * SIDE_ITEMS;
+// Bytes that the cells of both sides of a track take (§5.2). Constants are narrowed by `as`: `try_from` is no const fn.
+const TRACK_BYTES: u16 = (Geometry::SIDES * 2 * SIDE_ITEMS) as u16;
 
 // Bytes of the written image (§5.3).
 const HFE_BYTES: usize = UNIT * (FIRST_UNIT + TRACK_UNITS * Geometry::TRACKS);
@@ -66,20 +66,16 @@ fn write_header(hfe: &mut [u8])
     fields::fill(hfe, HEADER_END, UNIT - HEADER_END, FILL);
 }
 
-// Byte j of the table's unit: the tracks' units and lengths (§5.3).
+// Byte j of the table's unit: the tracks' units and lengths, the low byte first (§5.3 §2.4).
 fn table_byte(j: usize) -> u8
     requires { j < unit_bytes }
     ensures { result ≡ hfe_table_byte j }
 {
     if j < 4 * Geometry::TRACKS {
-        let start = FIRST_UNIT + TRACK_UNITS * (j / 4);
-        let length = Geometry::SIDES * SIDE_BYTES;
-        return match j % 4 {
-            0 => (start % 256) as u8,
-            1 => (start / 256 % 256) as u8,
-            2 => (length % 256) as u8,
-            _ => (length / 256 % 256) as u8,
-        };
+        // By `as`: at most 3922, so that `try_from` would leave a refusal that cannot come.
+        let [low_start, high_start] = ((FIRST_UNIT + TRACK_UNITS * (j / 4)) as u16).to_le_bytes();
+        let [low_length, high_length] = TRACK_BYTES.to_le_bytes();
+        return [low_start, high_start, low_length, high_length][j % 4];
     }
     FILL
 }
@@ -89,9 +85,8 @@ fn write_table(hfe: &mut [u8])
     requires { length hfe.old ≡ hfe_bytes }
     ensures { hfe.new ≡ overlay hfe.old unit_bytes unit_bytes hfe_table_byte }
 {
-    for j in 0..UNIT {
-        hfe[UNIT + j] = table_byte(j);
-    }
+    let table: [u8; UNIT] = std::array::from_fn(|j| table_byte(j));
+    fields::copy_into(hfe, UNIT, &table);
 }
 
 // How many items unit u of a track has of a side.
@@ -99,42 +94,53 @@ fn items_of_run(u: usize) -> usize
     requires { u < track_units }
     ensures { result ≡ min run_items (side_items - run_items * u) }
 {
-    let left = SIDE_ITEMS - RUN_ITEMS * u;
-    if RUN_ITEMS < left { RUN_ITEMS } else { left }
+    RUN_ITEMS.min(SIDE_ITEMS - RUN_ITEMS * u)
 }
 
-// Writes what unit u of a track has of side s (`hfe_track_byte`), from `at` on: items, then FF past the side's end (§5.5).
-fn write_run(image: &[u8], t: usize, s: usize, u: usize, hfe: &mut [u8], at: usize)
-    requires { (length image.now ≡ image_bytes) × (t < tracks) × (s < sides) × (u < track_units) × (at + run_bytes ≤ length hfe.old) }
-    ensures { hfe.new ≡ overlay hfe.old at run_bytes (run_byte image.now t s u) }
+// Writes what unit u of a track has of a side (`hfe_track_byte`), from `at` on: items, then FF past the side's end (§5.5).
+fn write_run(side: WrittenSide<'_>, u: usize, hfe: &mut [u8], at: usize)
+    requires { (u < track_units) × (at + run_bytes ≤ length hfe.old) }
+    ensures { hfe.new ≡ overlay hfe.old at run_bytes (run_byte side.entry.image.now side.entry.track side.entry.head u) }
 {
     let n = items_of_run(u);
-    write_items(image, t, s, RUN_ITEMS * u, n, hfe, at);
+    side.write_items(RUN_ITEMS * u, n, hfe, at);
     fields::fill(hfe, at + 2 * n, RUN - 2 * n, FILL);
 }
 
-// Writes the units of all tracks (`hfe_byte` from unit 2 on), in each the half of side 0 and then that of side 1 (§2.6).
-fn write_tracks(image: &[u8], hfe: &mut [u8])
-    requires { (length image.now ≡ image_bytes) × (length hfe.old ≡ hfe_bytes) }
+// Writes unit u of a track: the half of side 0 and then that of side 1 (§2.6).
+fn write_unit(image: &[u8; Geometry::IMAGE_BYTES], track: usize, u: usize, hfe: &mut [u8])
+    requires { (track < tracks) × (u < track_units) × (length hfe.old ≡ hfe_bytes) }
+    ensures { hfe.new ≡ overlay hfe.old (unit_place track u) unit_bytes (unit_byte image.now track u) }
+{
+    let at = UNIT * (FIRST_UNIT + TRACK_UNITS * track + u);
+    for head in 0..Geometry::SIDES {
+        write_run(WrittenSide { image, track, head }, u, hfe, at + RUN * head);
+    }
+}
+
+// Writes the units of a track (`hfe_byte`).
+fn write_track(image: &[u8; Geometry::IMAGE_BYTES], track: usize, hfe: &mut [u8])
+    requires { (track < tracks) × (length hfe.old ≡ hfe_bytes) }
+    ensures { hfe.new ≡ overlay hfe.old (unit_place track 0) (unit_bytes * track_units) (unit_byte image.now track 0) }
+{
+    for u in 0..TRACK_UNITS {
+        write_unit(image, track, u, hfe);
+    }
+}
+
+// Writes the units of all tracks (`hfe_byte` from unit 2 on).
+fn write_tracks(image: &[u8; Geometry::IMAGE_BYTES], hfe: &mut [u8])
+    requires { length hfe.old ≡ hfe_bytes }
     ensures { hfe.new ≡ overlay hfe.old (first_unit * unit_bytes) (track_units * tracks * unit_bytes) (tracks_byte image.now) }
 {
-    for w in 0..Geometry::SIDES * (TRACK_UNITS * Geometry::TRACKS) {
-        let unit = w / Geometry::SIDES;
-        let at = FIRST_UNIT * UNIT + RUN * w;
-        write_run(
-            image,
-            unit / TRACK_UNITS,
-            w % Geometry::SIDES,
-            unit % TRACK_UNITS,
-            hfe,
-            at,
-        );
+    for track in 0..Geometry::TRACKS {
+        write_track(image, track, hfe);
     }
 }
 
 // Writes all bytes of the HFE image: header, table, tracks (§5.3).
-fn write_hfe(image: &[u8], hfe: &mut [u8])
-    requires { (length image.now ≡ image_bytes) × (length hfe.old ≡ hfe_bytes) }
+fn write_hfe(image: &[u8; Geometry::IMAGE_BYTES], hfe: &mut [u8])
+    requires { length hfe.old ≡ hfe_bytes }
     ensures { hfe.new ≡ tab (hfe_byte image.now) hfe_bytes }
 {
     write_header(hfe);
@@ -144,15 +150,15 @@ fn write_hfe(image: &[u8], hfe: &mut [u8])
 
 // Packs a block image into an HFE image (§8.2), or 1, with the HFE image first (§7.1).
 // A refusal leaves the HFE image as it was (§7.19).
-pub fn pack(image: &[u8], hfe: &mut [u8]) -> Reply
-    ensures { (result ≡ pack_reply (length image.now) (length hfe.old)) × (hfe.new ≡ pack_hfe image.now hfe.old) }
+pub fn pack(image: &[u8], hfe: &mut [u8]) -> Result<(), HfeRefusal>
+    ensures { (hfe_replied result ≡ pack_reply (length image.now) (length hfe.old)) × (hfe.new ≡ pack_hfe image.now hfe.old) }
 {
     if hfe.len() != HFE_BYTES {
-        return refused(1, 1);
+        return Err(HfeRefusal::HfeLength);
     }
-    if image.len() != Geometry::IMAGE_BYTES {
-        return refused(1, 2);
-    }
+    let Ok(image) = <&[u8; Geometry::IMAGE_BYTES]>::try_from(image) else {
+        return Err(HfeRefusal::ImageLength);
+    };
     write_hfe(image, hfe);
-    done()
+    Ok(())
 }

@@ -2,10 +2,11 @@
 ghost use Rattle.std.specs.Prelude.{◌≡◌, ◌<◌, ◌/◌, ◌%◌};
 ghost use Rattle.sector_rules.specs.Geometry.{block_sectors, block_pair, block_side, sector_place, remainder_at, side_place, backward};
 ghost use Rattle.sector_rules.specs.Geometry.{running, to_image_sector, to_running_sector, place_reply};
+ghost use Rattle.sectors.specs.Refusals.{hfe_replied_place};
 
-use crate::replies::{done_with, refused};
+use crate::refusals::HfeRefusal;
 use crate::{Geometry, TrackPlace};
-use sector_rules::{BlockNumber, ImageSector, Reply, RunningSector};
+use sector_rules::{BlockNumber, ImageSector, RunningSector};
 
 // What is added to a place on side 1 in the table of sides and places (§1.4).
 const SIDE_BIT: usize = 0x80;
@@ -66,30 +67,28 @@ impl Geometry {
     pub fn side_place_table() -> [u8; Geometry::TRACK_SECTORS]
         ensures { result ≡ side_place }
     {
-        let mut table = [0u8; Geometry::TRACK_SECTORS];
-        for remainder in 0..Geometry::TRACK_SECTORS {
+        std::array::from_fn(|remainder| {
             let at = Geometry::track_place(remainder);
-            table[remainder] = (SIDE_BIT * at.side + at.place) as u8;
-        }
-        table
+            // By `as`, here and below: at most 137, so that `try_from` would leave a refusal that cannot come.
+            (SIDE_BIT * at.side + at.place) as u8
+        })
     }
 
     // The backward table (§1.6), as the disk header has it (§6.7).
     pub fn backward_table() -> [u8; Geometry::TRACK_SECTORS]
         ensures { result ≡ backward }
     {
-        let mut table = [0u8; Geometry::TRACK_SECTORS];
-        for i in 0..Geometry::TRACK_SECTORS {
+        std::array::from_fn(|i| {
             let at = TrackPlace {
                 side: i / Geometry::SECTORS,
                 place: i % Geometry::SECTORS,
             };
-            table[i] = Geometry::remainder_at(at) as u8;
-        }
-        table
+            Geometry::remainder_at(at) as u8
+        })
     }
 
-    // The running sector of sector s of a block (§1.3).
+    // The running sector of sector s of a block (§1.3). Here and below the bound is a clause and no ghost field: layer 3
+    // numbers blocks before it judges them.
     pub fn running(b: BlockNumber, s: usize) -> RunningSector
         requires { (b.0 < Geometry.BLOCKS) × (s < Geometry.BLOCK_SECTORS) }
         ensures { result.0 ≡ running b.0 s }
@@ -123,12 +122,12 @@ impl Geometry {
 }
 
 // The call place: the image sector of a block's sector (§8.3), or 12 where block or sector is out of range (§7.12).
-pub fn place(block: usize, sector: usize) -> Reply
-    ensures { result ≡ place_reply block sector }
+pub fn place(block: usize, sector: usize) -> Result<usize, HfeRefusal>
+    ensures { hfe_replied_place result ≡ place_reply block sector }
 {
-    if (block < Geometry::BLOCKS) & (sector < Geometry::BLOCK_SECTORS) {
-        let at = Geometry::place(Geometry::running(BlockNumber(block), sector));
-        return done_with(at.0);
+    if block >= Geometry::BLOCKS || sector >= Geometry::BLOCK_SECTORS {
+        return Err(HfeRefusal::OutOfRange);
     }
-    refused(12, 0)
+    let at = Geometry::place(Geometry::running(BlockNumber(block), sector));
+    Ok(at.0)
 }

@@ -1,4 +1,4 @@
-// Replies.
+// Replies: they have numbers, since they are those of the C interface (§7.17); a refusal inside the layer is an `HfeRefusal`.
 ghost use Rattle.std.specs.Prelude.{◌≡◌};
 ghost use Rattle.sector_rules.specs.Replies as Replies;
 

@@ -1,6 +1,6 @@
 -- What bytes with codes give, byte by byte; that all of it is cells; and that a side without codes gives its own cells.
 -- Rests on the laws of lists that are given by a rule, and of streams.
-use Rattle.std.specs.Prelude.{List, [], ◌∷◌, ◌++◌, true, false, ◌≡◌, length, drop}
+use Rattle.std.specs.Prelude.{List, [], ◌∷◌, ◌++◌, false, ◌≡◌, min, length, drop}
 use Rattle.std.proofs.Common.{append-nil, append_assoc, sym, ap₂, ◌∙◌, mod-lt, zero-lt-suc, add-one, length-append, drop_of_length-le, get_or-append-add}
 use Rattle.std.proofs.Common.{get_or-drop, leb-false, le-leb}
 use Rattle.std.proofs.Math.Path.{refl, ap}
@@ -8,6 +8,8 @@ use Prim.Native.Nat.{ℕ, zero, suc, ◌+◌, ◌-◌, ◌*◌, ◌/◌, ◌%◌
 use native.Mathlib.Omega.{arith}
 use Rattle.std.proofs.Math.ListN.{get_or, get_or-append}
 use Rattle.std.proofs.Math.Seq.{drop-cons}
+use Rattle.std.specs.List.{fold, range_with_len}
+use Rattle.std.proofs.lemmas.List.{drop_min}
 use Rattle.laws.specs.Lists.{tab}
 use Rattle.laws.specs.Laws.Cases.{by_order, by_test}
 use Rattle.laws.specs.Laws.Tests.{cond_true, cond_false}
@@ -15,7 +17,7 @@ use Rattle.laws.specs.Laws.Tab.{tab_length, tab_in, tab_below, eq_tab}
 use Rattle.cells.specs.declared.Side.{Side}
 use Rattle.cells.specs.declared.Expected.{Expected}
 use Rattle.cells.specs.declared.Expected.TheVariants.{Any, Rate, Count, Partial, Wrong}
-use Rattle.cells.specs.Stream.{byte_place, cell_at, stream}
+use Rattle.cells.specs.Stream.{byte_place, cell_at, stream, buffer_side}
 use Rattle.cells.specs.Codes.{stored_bytes, byte_cells, reversed_bits, is_code, after_code, expected_after, cells_given}
 use Rattle.cells.specs.Codes.{Decoded, Cells, WrongCode, cells_before, at_end, coded_from, coded, cells_of, wrong_of}
 
@@ -83,15 +85,6 @@ module _ (part : List ℕ) (s : Side) (x : Expected) (k : ℕ) where
   side_end : s.cells / 8 ≤ k → coded_from x k (drop k (stored_bytes part s)) ≡ at_end x
   side_end h = coded_end x k (stored_bytes part s) (rw (stored_length part s) h)
 
-  -- byte k makes no code wrong but by what is expected after it
-  pub wrong_next : (b : ℕ) → b ≡ get_or part (byte_place s k) 0 → k < s.cells / 8
-      → wrong_of (coded_from x k (drop k (stored_bytes part s))) ≡ wrong_of (coded_from (expected_after x k b) (k + 1) (drop (k + 1) (stored_bytes part s)))
-  wrong_next b e h = rw e (ap wrong_of (side_next h) ∙ wrong_before _ _)
-
-  -- past the last byte the end decides whether a code is wrong
-  pub wrong_end : s.cells / 8 ≤ k → wrong_of (coded_from x k (drop k (stored_bytes part s))) ≡ wrong_of (at_end x)
-  wrong_end h = ap wrong_of (side_end h)
-
   -- where the bytes before place k gave the cells c, those up to k gave c and the cells of byte k
   pub cells_more : (c : List ℕ) (b : ℕ) → b ≡ get_or part (byte_place s k) 0 → k < s.cells / 8
       → coded (stored_bytes part s) ≡ cells_before c (coded_from x k (drop k (stored_bytes part s)))
@@ -102,6 +95,27 @@ module _ (part : List ℕ) (s : Side) (x : Expected) (k : ℕ) where
   pub cells_end : (c : List ℕ) → s.cells / 8 ≤ k → coded (stored_bytes part s) ≡ cells_before c (coded_from x k (drop k (stored_bytes part s)))
       → coded (stored_bytes part s) ≡ cells_before c (at_end x)
   cells_end c h g = g ∙ ap (cells_before c) (side_end h)
+
+-- the bytes of a side one after another: what is expected after the m bytes from place k on decides at the end whether a code is wrong
+pub wrong_in_turn : (part : List ℕ) (s : Side) (m k : ℕ) (x : Expected) → k + m ≡ s.cells / 8
+    → wrong_of (at_end (fold (λ (y : Expected) (j : ℕ). expected_after y j (get_or part (byte_place s j) 0)) x (range_with_len k m)))
+    ≡ wrong_of (coded_from x k (drop k (stored_bytes part s)))
+wrong_in_turn part s zero k x e = sym (ap wrong_of (side_end part s x k (omega arith)))
+wrong_in_turn part s (suc m) k x e =
+    wrong_in_turn part s m (k + 1) (expected_after x k (get_or part (byte_place s k) 0)) (omega arith)
+    ∙ sym (ap wrong_of (side_next part s x k (omega arith)) ∙ wrong_before _ _)
+
+-- ---- what the buffer has at the end
+
+-- where no code is wrong, the cells that stand in the buffer are given
+pub ended_cells : (d : List ℕ) (n : ℕ) → stream d (buffer_side n) ≡ cells_of (cells_before (stream d (buffer_side n)) (Cells []))
+unfolding cells_of cells_before
+ended_cells d n = sym (append-nil _)
+
+-- where a code is wrong, no cell is given
+pub ended_wrong : (d c : List ℕ) (p : ℕ) → stream d (buffer_side 0) ≡ cells_of (cells_before c (WrongCode p))
+unfolding cells_of cells_before stream tab
+ended_wrong d c p = refl
 
 -- ---- all that is given is cells
 
@@ -173,15 +187,10 @@ pub eight_cells : (b : ℕ) → drop 8 (byte_cells b) ≡ []
 unfolding byte_cells tab
 eight_cells b = refl
 
--- of a code all eight cells are dropped
-pub code_given : (b : ℕ) → is_code b ≡ true → cells_given Any b ≡ drop 8 (byte_cells b)
-unfolding cells_given
-code_given b e = cond_true [] (byte_cells b) e ∙ sym (eight_cells b)
-
 -- to drop more than eight is to drop all
-pub part_given : (p n b : ℕ) → 8 ≤ n → cells_given (Partial p n) b ≡ drop 8 (byte_cells b)
-unfolding cells_given byte_cells tab
-part_given p n b h = drop_of_length-le (byte_cells _) h
+pub part_dropped : (n b : ℕ) → drop (min n 8) (byte_cells b) ≡ drop n (byte_cells b)
+unfolding byte_cells tab
+part_dropped n b = drop_min n (byte_cells b)
 
 -- ---- bytes without codes
 

@@ -1,8 +1,9 @@
--- One byte as the code reads it: reversed by halves, pairs and bits; a code by its lowest four bits; what each code and each count is followed by.
+-- One byte as the code reads it: its bits reversed; a code by its lowest four bits; what each code and each count is followed by.
 -- Rests on the definitions; what holds of every byte is one computed test.
-use Rattle.std.specs.Prelude.{Bool, true, false, cond, ◌≢◌, ◌≡◌, refl, ℕ, ◌*◌, ◌/◌, ◌%◌, ◌≤◌, ◌<◌, eqb}
+use Rattle.std.specs.Prelude.{Bool, true, false, cond, ◌≢◌, ◌≡◌, refl, ℕ, ◌%◌, ◌≤◌, ◌<◌, eqb}
 use Rattle.std.proofs.Common.{◌∙◌, arith}
-use Rattle.std.specs.Int.Bits.{bit_and, bit_or}
+use Rattle.std.specs.Int.{reverse_bits, reverse_bits_onto}
+use Rattle.std.proofs.Common.{w8}
 use Rattle.laws.specs.Lists.{tab}
 use Rattle.laws.specs.Below.{all}
 use Rattle.laws.specs.Laws.All.{all_eq}
@@ -13,22 +14,10 @@ use Rattle.cells.specs.Codes.{byte_cells, reversed_bits, is_code, after_code, ex
 
 -- ---- one byte
 
--- a byte with its halves exchanged
-abbrev pub halves_swapped : ℕ → ℕ
-halves_swapped b = bit_or (b / 16) (b * 16 % 256)
-
--- with the pairs of bits of each half exchanged
-abbrev pub pairs_swapped : ℕ → ℕ
-pairs_swapped h = bit_or (bit_and (h / 4) 0x33) (bit_and h 0x33 * 4 % 256)
-
--- with the bits of each pair exchanged
-abbrev pub bits_swapped : ℕ → ℕ
-bits_swapped p = bit_or (bit_and (p / 2) 0x55) (bit_and p 0x55 * 2 % 256)
-
--- the bits of a byte are reversed by halves, pairs and bits
-pub reversed_steps : (b : ℕ) → b < 256 → bits_swapped (pairs_swapped (halves_swapped b)) ≡ reversed_bits b
-unfolding all tab number byte_cells reversed_bits
-reversed_steps b h = all_eq (λ (k : ℕ). bits_swapped (pairs_swapped (halves_swapped k))) reversed_bits 256 refl b h
+-- the bits of a byte are reversed by the library's reading, one bit after another
+pub reversed_steps : (b : ℕ) → b < 256 → reverse_bits w8 b ≡ reversed_bits b
+unfolding all tab number byte_cells reversed_bits reverse_bits_onto
+reversed_steps b h = all_eq (reverse_bits w8) reversed_bits 256 refl b h
 
 same_test : (p q : Bool) → ◌≡◌ {A = ℕ} (cond p 1 0) (cond q 1 0) → p ≡ q
 same_test true true e = refl
@@ -43,21 +32,6 @@ code_low b h =
     same_test (eqb (b % 16) 15) (is_code b) (all_eq (λ (k : ℕ). cond (eqb (k % 16) 15) 1 0) (λ (k : ℕ). cond (is_code k) 1 0) 256 refl b h)
 
 module _ (k v : ℕ) where
-  -- after data, F0 and F1 stands any byte
-  pub after_any : v ≤ 0xF1 → after_code k v ≡ Any
-  unfolding after_code
-  after_any h = cond_true Any _ (le_true h)
-
-  -- after F2 stands a bit rate
-  pub after_rate : v ≡ 0xF2 → after_code k v ≡ Rate k
-  unfolding after_code
-  after_rate h = rw h
-
-  -- after F3 stands a count
-  pub after_count_lem : v ≡ 0xF3 → after_code k v ≡ Count k
-  unfolding after_code
-  after_count_lem h = rw h
-
   -- every other code is wrong
   pub after_wrong : 0xF1 < v → v ≢ 0xF2 → v ≢ 0xF3 → after_code k v ≡ Wrong k
   unfolding after_code

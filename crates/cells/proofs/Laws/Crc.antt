@@ -1,36 +1,38 @@
 -- The CRC's register bit by bit and byte by byte, and bytes that are followed by their CRC.
 -- Rests on the laws of rows of bytes.
-use Rattle.std.specs.Prelude.{List, [], ◌∷◌, ◌++◌, true, ◌≡◌, refl, ℕ, zero, suc, ◌+◌, ◌-◌, ◌*◌, ◌/◌, ◌%◌, ◌^◌, ◌<◌, eqb, length, take, get_or}
-use Rattle.std.proofs.Common.{sym, ap, ◌∙◌, add-one, arith, lit<, take-suc}
+use Rattle.std.specs.Prelude.{List, [], ◌∷◌, ◌++◌, true, ◌≡◌, refl, ℕ, zero, suc, ◌+◌, ◌-◌, ◌*◌, ◌/◌, ◌%◌, ◌^◌, ◌<◌, eqb}
+use Rattle.std.proofs.Common.{sym, ap, ◌∙◌, add-one, arith, lit<}
 use Rattle.std.proofs.lemmas.Nat.{xor_lt}
-use Rattle.laws.specs.Lists.{tab}
+use Rattle.std.specs.List.{fold, range_with_len}
+use Rattle.laws.specs.Lists.{tab, tab_from}
 use Rattle.laws.specs.Laws.Tests.{true_eq, eq_true}
 use Rattle.laws.specs.Laws.Tab.{tab_ext}
 use Rattle.laws.specs.Laws.Numbers.{at16_is}
 use Rattle.cells.specs.Stream.{data_byte, data_bytes}
 use Rattle.cells.specs.Mfm.{bit_of}
 use Rattle.cells.specs.Crc.{crc_start, crc_bit, crc_bits, crc_from, crc, crc_follows, polynomial}
-use Rattle.cells.proofs.Laws.Number.{bytes_more}
 
--- the register after one more bit of a byte
-pub crc_bits_more : (s x k : ℕ) → crc_bits s x (k + 1) ≡ crc_bit (crc_bits s x k) (x / 2 ^ (7 - k) % 2)
+-- the register after the bits of a byte one after another, highest first, is that after the byte
+pub bits_in_turn : (s x : ℕ) → fold (λ (v k : ℕ). crc_bit v (x / 2 ^ (7 - k) % 2)) s (range_with_len 0 8) ≡ crc_bits s x 8
 unfolding crc_bits bit_of
-crc_bits_more s x k = rw add-one
+bits_in_turn s x = refl
 
-crc_from_snoc : (s : ℕ) (xs : List ℕ) (x : ℕ) → crc_from s (xs ++ (x ∷ [])) ≡ crc_bits (crc_from s xs) x 8
+-- the register after bytes one after another is that after their list
+pub bytes_in_turn : (s : ℕ) (xs : List ℕ) → fold (λ (v x : ℕ). crc_bits v x 8) s xs ≡ crc_from s xs
 unfolding crc_from
-crc_from_snoc s [] x = refl
-crc_from_snoc s (y ∷ ys) x = crc_from_snoc (crc_bits s y 8) ys x
+bytes_in_turn s [] = refl
+bytes_in_turn s (x ∷ xs) = bytes_in_turn (crc_bits s x 8) xs
 
--- the CRC of no bytes is the register's start
-pub crc_none : (c : List ℕ) (k : ℕ) → crc_start ≡ crc (data_bytes c k 0)
-unfolding crc crc_from data_bytes tab
-crc_none c k = refl
+rule_in_turn : (f : ℕ → ℕ) (n a s : ℕ) → fold (λ (v j : ℕ). crc_bits v (f j) 8) s (range_with_len a n) ≡ crc_from s (tab_from f a n)
+unfolding crc_from
+rule_in_turn f zero a s = refl
+rule_in_turn f (suc n) a s = rule_in_turn f n (a + 1) (crc_bits s (f a) 8) ∙ ap (λ (i : ℕ). crc_from (crc_bits s (f a) 8) (tab_from f i n)) (add-one a)
 
--- the CRC of one more byte of a row of cells
-pub crc_more : (c : List ℕ) (k n : ℕ) → crc (data_bytes c k (n + 1)) ≡ crc_bits (crc (data_bytes c k n)) (data_byte c (k + 16 * n)) 8
-unfolding crc
-crc_more c k n = rw bytes_more (crc_from_snoc crc_start (data_bytes c k n) (data_byte c (k + 16 * n)))
+-- the CRC of a row of cells, byte after byte
+pub cells_in_turn : (c : List ℕ) (k n : ℕ)
+    → fold (λ (v j : ℕ). crc_bits v (data_byte c (k + 16 * j)) 8) crc_start (range_with_len 0 n) ≡ crc (data_bytes c k n)
+unfolding crc data_bytes tab
+cells_in_turn c k n = rule_in_turn (λ (j : ℕ). data_byte c (k + 16 * j)) n 0 crc_start
 
 -- ---- the register has 16 bits
 
@@ -53,15 +55,6 @@ crc_from_lt (x ∷ xs) s h = crc_from_lt xs (crc_bits s x 8) (crc_bits_lt s x 8 
 pub crc_lt : (xs : List ℕ) → crc xs < 2 ^ 16
 unfolding crc
 crc_lt xs = crc_from_lt xs crc_start (lit< tt)
-
--- before the first byte of a list the register is as at first
-pub row_none : (s : ℕ) (xs : List ℕ) → s ≡ crc_from s (take 0 xs)
-unfolding crc_from
-row_none s xs = refl
-
--- the register after one more byte of a list
-pub row_more : (s : ℕ) (xs : List ℕ) (n : ℕ) → n < length xs → crc_from s (take (n + 1) xs) ≡ crc_bits (crc_from s (take n xs)) (get_or xs n 0) 8
-row_more s xs n h = rw (add-one, take-suc xs n 0 h) (crc_from_snoc s (take n xs) (get_or xs n 0))
 
 -- the register after two lists, one after the other
 pub crc_from_append : (s : ℕ) (xs ys : List ℕ) → crc_from s (xs ++ ys) ≡ crc_from (crc_from s xs) ys

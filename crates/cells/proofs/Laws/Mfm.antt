@@ -1,7 +1,10 @@
 -- The cells of a byte and of an item, each of them 0 or 1.
--- Rests on no other law.
-use Rattle.std.specs.Prelude.{Bool, true, false, cond, ◌&&◌, ◌≡◌, refl, ℕ, zero, suc, ◌-◌, ◌%◌, ◌<◌, eqb}
-use Rattle.std.proofs.Common.{mod-lt, zero-lt-suc, arith, lit<}
+-- Rests on the laws of tests.
+use Rattle.std.specs.Prelude.{Option, Some, None, Bool, true, false, cond, ◌&&◌, ◌≡◌, refl, ℕ, zero, suc, ◌-◌, ◌%◌, ◌<◌, eqb}
+use Rattle.std.specs.Option.{unwrap_or, option_eq}
+use Rattle.laws.specs.Laws.Cases.{by_test}
+use Rattle.laws.specs.Laws.Tests.{true≢false, true_eq, eq_true, eq_false}
+use Rattle.std.proofs.Common.{sym, ◌∙◌, mod-lt, zero-lt-suc, arith, lit<}
 use Rattle.cells.specs.Mfm.{bit_of, clock, before, mfm_cell}
 use Rattle.cells.specs.Written.{item_byte, left_out, item_cell}
 use Rattle.cells.specs.declared.Item.{Item}
@@ -35,3 +38,11 @@ pub before_later : (p x k : ℕ) → (k ≡ 0 → ⊥) → bit_of x (k - 1) ≡ 
 unfolding before
 before_later p x zero h = absurd (h refl)
 before_later p x (suc k) h = let e : suc k - 1 ≡ k = omega arith in rw e
+
+-- a cell is the one that is left out, k for one of 16 or none, if it is the one that is named
+pub left_out_named : (o : Option ℕ) (j k : ℕ) → unwrap_or o 16 ≡ k → j < 16 → option_eq eqb o (Some j) ≡ eqb j k
+left_out_named None j k e h = sym (eq_false (λ d. absurd (omega arith)))
+left_out_named (Some x) j k e h =
+    by_test (eqb x j)
+    (λ t. t ∙ sym (eq_true (sym (true_eq t) ∙ e)))
+    (λ t. t ∙ sym (eq_false (λ d. true≢false _ (eq_true (e ∙ sym d)) t)))

@@ -1,14 +1,17 @@
 -- The numbers that cells spell.
 -- Rests on the laws of the cells from a place on.
-use Rattle.std.specs.Prelude.{List, [], ◌∷◌, ◌++◌, ◌≡◌, refl, length}
+use Rattle.std.specs.Prelude.{List, ◌≡◌, refl, length}
 use Rattle.std.proofs.Math.Logic.{⊎_elim}
 use Rattle.std.proofs.Common.{sym, ap, ◌∙◌, eq-or-lt_of_le, le_of_suc-le-suc, not-suc-le-zero, one-mul, zero-lt-suc, pow-suc, lt_of_lt_of_le, add-one, pow_mono}
 use Prim.Native.Nat.{ℕ, zero, suc, ◌+◌, ◌-◌, ◌*◌, ◌/◌, ◌%◌, ◌^◌, ◌≤◌, ◌<◌}
 use Rattle.std.proofs.Math.Nat.{div-eq_of_lt}
 use native.Mathlib.Omega.{arith}
+use Rattle.std.proofs.Common.{bit_or, mod-eq_of_lt}
+use Rattle.std.proofs.lemmas.Nat.{or_shifted}
+use Rattle.std.specs.List.{fold, range_with_len}
 use Rattle.std.proofs.Math.ListN.{get_or}
 use Rattle.std.proofs.Math.Pow.{shr-shr}
-use Rattle.laws.specs.Laws.Tab.{tab_more, eq_tab}
+use Rattle.laws.specs.Laws.Tab.{eq_tab}
 use Rattle.cells.specs.Stream.{number, word, data_byte, data_bytes, from}
 use Rattle.cells.proofs.Laws.Stream.{from_at}
 
@@ -26,6 +29,24 @@ number_lt c bit step k (suc n) = omega (arith, number_lt c bit step k n, bit (k 
 -- at most j cells spell a number below 2 ^ j
 pub number_below : (c : List ℕ) → ((i : ℕ) → get_or c i 0 < 2) → (step k j n : ℕ) → n ≤ j → number c step k n < 2 ^ j
 number_below c bit step k j n h = lt_of_lt_of_le (number_lt c bit step k n) (pow_mono h)
+
+-- cells taken one after another, each below those before it, as code shifts them up in a number below w
+module _ (c : List ℕ) (step k t w : ℕ) (f : ℕ → ℕ) (bit : (j : ℕ) → f j < 2)
+    (is : (j : ℕ) → j < t → f j ≡ get_or c (k + step * j) 0) (fits : 2 ^ t ≤ w) where
+  each_below : (m n v : ℕ) → n + m ≡ t → v < 2 ^ n → v ≡ number c step k n
+      → fold (λ (v j : ℕ). bit_or (v * 2 % w) (f j)) v (range_with_len n m) ≡ number c step k t
+  each_below zero n v e l q = let z : n ≡ t = omega arith in rw z at q
+  each_below (suc m) n v e l q =
+      let p : 2 ^ (n + 1) ≤ 2 ^ t = pow_mono {i = n + 1} {j = t} (omega arith) in
+      let d : 2 ^ (n + 1) ≡ 2 ^ n * 2 = rw add-one (pow-suc 2 n) in
+      let s : v * 2 % w ≡ v * 2 = mod-eq_of_lt (omega arith) in
+      rw (fold, s, or_shifted v 1 (f n) (bit n))
+      (each_below m (n + 1) (v * 2 + f n) (omega arith) (omega (arith, bit n)) (rw (number_more, q, is n (omega arith))))
+
+  -- t of them spell their number
+  pub number_in_turn : fold (λ (v j : ℕ). bit_or (v * 2 % w) (f j)) 0 (range_with_len 0 t) ≡ number c step k t
+  unfolding number
+  number_in_turn = each_below t 0 0 (omega arith) (zero-lt-suc 0) refl
 
 -- equal cells spell equal numbers
 pub number_same : (c d : List ℕ) (step i j n : ℕ) → ((k : ℕ) → k < n → get_or c (i + step * k) 0 ≡ get_or d (j + step * k) 0)
@@ -97,11 +118,6 @@ number_digits c step i w m hw e (suc n) h =
     rw (number_digits c step i w m hw e n (omega arith), e n h, b) (digits_more w m n h)
 
 -- ---- rows of bytes
-
--- one more byte of a row of bytes stands after it
-pub bytes_more : (c : List ℕ) (k n : ℕ) → data_bytes c k (n + 1) ≡ data_bytes c k n ++ (data_byte c (k + 16 * n) ∷ [])
-unfolding data_bytes
-bytes_more c k n = tab_more (λ (j : ℕ). data_byte c (k + 16 * j)) n
 
 -- bytes that are those of a list, one by one, are the list
 pub bytes_list : (c : List ℕ) (k : ℕ) (xs : List ℕ) → ((j : ℕ) → j < length xs → data_byte c (k + 16 * j) ≡ get_or xs j 0)

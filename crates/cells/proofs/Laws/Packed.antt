@@ -9,6 +9,9 @@ use Prim.Native.Nat.{ℕ, zero, suc, ◌+◌, ◌-◌, ◌*◌, ◌/◌, ◌%◌
 use Rattle.std.proofs.Math.Nat.{zero-lt-suc, mul-le-mul_right, pow-suc, mul-add-div_right, mul-add-mod_self_right}
 use native.Mathlib.Omega.{arith}
 use Rattle.std.proofs.Math.Pow.{high}
+use Rattle.std.proofs.Common.{bit_or}
+use Rattle.std.proofs.lemmas.Nat.{or_shifted}
+use Rattle.std.specs.List.{fold, range_with_len}
 use Rattle.cells.specs.Stream.{packed_bits, packed}
 
 shifted : (a n k : ℕ) → k < n → a * 2 ^ n ≡ a * 2 ^ (n - (k + 1)) * 2 * 2 ^ k
@@ -53,16 +56,47 @@ module _ (f : ℕ → ℕ) (bit : (i : ℕ) → f i < 2) where
       let e : 8 * (i / 8) + i % 8 ≡ i = omega arith in
       packed_bits_bit (8 * (i / 8)) 8 (i % 8) (omega arith) ∙ ap f e
 
-module _ (f : ℕ → ℕ) (bit : (i : ℕ) → f i < 2) (i j : ℕ) (h : j < 8) where
-  -- up to eight cells make a number below 256
-  pub packed_fits : packed_bits f i (j + 1) < 256
-  packed_fits = lt_of_lt_of_le (packed_bits_lt f bit i (j + 1)) (pow_mono {i = j + 1} {j = 8} (omega arith))
+-- one more cell r above the j that v has, as code shifts it in: v has it too, and is still small
+module _ (f : ℕ → ℕ) (i j r v : ℕ) (h : j < 8) (bit : r < 2) (l : v < 2 ^ j) where
+  shifted_in : r * 2 ^ j % 256 ≡ r * 2 ^ j
+  shifted_in =
+      let t : r * 2 ^ j ≤ 1 * 2 ^ j = mul-le-mul_right (2 ^ j) (le_of_suc-le-suc bit) in
+      let m : 2 ^ j ≤ 2 ^ 7 = pow_mono {i = j} {j = 7} (omega arith) in
+      mod-eq_of_lt (omega arith)
 
-  -- one more cell, as the code shifts it in
-  pub packed_step : (r v : ℕ) → r ≡ f (i + j) → v ≡ packed_bits f i j → r * 2 ^ j % 256 + v ≡ packed_bits f i (j + 1)
-  packed_step r v er ev =
-      let s : f (i + j) * 2 ^ j < 256 = omega (arith, packed_fits, packed_bits_more f i j) in
-      rw (er, ev, mod-eq_of_lt s, packed_bits_more)
+  -- the number below 2 ^ j is then one below 2 ^ (j + 1)
+  pub packed_less : r * 2 ^ j % 256 + v < 2 ^ (j + 1)
+  packed_less =
+      let t : r * 2 ^ j ≤ 1 * 2 ^ j = mul-le-mul_right (2 ^ j) (le_of_suc-le-suc bit) in
+      rw (shifted_in, add-one) (omega (arith, pow-suc 2 j))
+
+  -- so it fits a byte
+  pub packed_fits : r * 2 ^ j % 256 + v < 256
+  packed_fits = lt_of_lt_of_le packed_less (pow_mono {i = j + 1} {j = 8} (omega arith))
+
+  -- it is the number of the cells before and of this one
+  pub packed_step : r ≡ f (i + j) → v ≡ packed_bits f i j → r * 2 ^ j % 256 + v ≡ packed_bits f i (j + 1)
+  packed_step er ev = rw (shifted_in, packed_bits_more, er, ev)
+
+-- cells taken one after another, each above those before it, as code shifts it in
+module _ (f : ℕ → ℕ) (bit : (i : ℕ) → f i < 2) (i : ℕ) where
+  one_above : (n : ℕ) → n < 8 → bit_or (f (i + n) * 2 ^ n % 256) (packed_bits f i n) ≡ packed_bits f i (n + 1)
+  one_above n h =
+      rw (
+        shifted_in f i n (f (i + n)) (packed_bits f i n) h (bit (i + n)) (packed_bits_lt f bit i n),
+        or_shifted (f (i + n)) n (packed_bits f i n) (packed_bits_lt f bit i n),
+      )
+      (sym (packed_bits_more f i n))
+
+  each_above : (m n : ℕ) → n + m ≡ 8
+      → fold (λ (v j : ℕ). bit_or (f (i + j) * 2 ^ j % 256) v) (packed_bits f i n) (range_with_len n m) ≡ packed_bits f i 8
+  each_above zero n e = let z : n ≡ 8 = omega arith in rw z
+  each_above (suc m) n e = rw (fold, one_above n (omega arith)) (each_above m (n + 1) (omega arith))
+
+  -- eight of them are packed
+  pub packed_in_turn : fold (λ (v j : ℕ). bit_or (f (i + j) * 2 ^ j % 256) v) 0 (range_with_len 0 8) ≡ packed_bits f i 8
+  unfolding packed_bits
+  packed_in_turn = each_above 8 0 refl
 
 -- cells that agree are packed into equal bytes
 pub packed_bits_same : (f g : ℕ → ℕ) (i j n : ℕ) → ((k : ℕ) → k < n → f (i + k) ≡ g (j + k)) → packed_bits f i n ≡ packed_bits g j n

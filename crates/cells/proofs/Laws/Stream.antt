@@ -1,13 +1,13 @@
 -- A side's stream and the cells from a place on: how many there are, and each of them.
 -- Rests on the laws of lists that are given by a rule.
-use Rattle.std.specs.Prelude.{List, ◌≡◌, refl, ℕ, ◌+◌, ◌-◌, ◌*◌, ◌/◌, ◌^◌, ◌≤◌, ◌<◌, length, get_or}
-use Rattle.std.proofs.Common.{◌∙◌, zero-lt-suc, mul-le-mul_left, arith}
-use Rattle.std.proofs.Math.Nat.{zero-div, zero-mod, mod-lt}
+use Rattle.std.specs.Prelude.{List, ◌≡◌, refl, ℕ, ◌+◌, ◌-◌, ◌≤◌, ◌<◌, length, get_or}
+use Rattle.std.proofs.Common.{zero-lt-suc}
+use Rattle.std.proofs.Math.Nat.{mod-lt}
 use Rattle.std.proofs.Math.ListN.{length-drop}
 use Rattle.std.proofs.Math.Seq.{get_or-drop}
-use Rattle.laws.specs.Laws.Tab.{tab_length, tab_in, tab_out, tab_below, get_d_past}
+use Rattle.laws.specs.Laws.Tab.{tab_length, tab_in, tab_below, get_d_past}
 use Rattle.cells.specs.declared.Side.{Side}
-use Rattle.cells.specs.Stream.{byte_place, cell_at, stream, from}
+use Rattle.cells.specs.Stream.{cell_at, stream, from}
 
 module _ (part : List ℕ) (s : Side) where
   -- the stream of a side has as many cells as the side
@@ -19,16 +19,6 @@ module _ (part : List ℕ) (s : Side) where
   pub stream_in : (i : ℕ) → i < s.cells → get_or (stream part s) i 0 ≡ cell_at part s i
   unfolding stream
   stream_in i h = tab_in (cell_at part s) s.cells i h
-
-  -- past the end of the stream a cell counts as 0
-  pub stream_out : (i : ℕ) → s.cells ≤ i → get_or (stream part s) i 0 ≡ 0
-  unfolding stream
-  stream_out i h = tab_out (cell_at part s) s.cells i h
-
-  -- a cell whose byte the track's part does not have is 0
-  pub stream_past : (i : ℕ) → i < s.cells → length part ≤ byte_place s (i / 8) → get_or (stream part s) i 0 ≡ 0
-  unfolding cell_at
-  stream_past i h l = stream_in i h ∙ rw (get_d_past part (byte_place s (i / 8)) l, zero-div, zero-mod)
 
   cell_at_bit : (i : ℕ) → cell_at part s i < 2
   unfolding cell_at
@@ -57,22 +47,6 @@ module _ (c : List ℕ) (i : ℕ) where
   -- where all cells are 0 or 1, those from place i on are
   pub from_bit : ((j : ℕ) → get_or c j 0 < 2) → (k : ℕ) → get_or (from c i) k 0 < 2
   from_bit bit k = rw (from_at k) (bit (i + k))
-
--- the cells from a place on of a side
-module _ (part : List ℕ) (s : Side) (i : ℕ) where
-  -- how many cells of a side there are from place i on
-  pub rest_length : length (from (stream part s) i) ≡ s.cells - i
-  rest_length = rw (from_length (stream part s) i, stream_length part s)
-
-  -- every cell of a side from place i on is 0 or 1
-  pub rest_bit : (k : ℕ) → get_or (from (stream part s) i) k 0 < 2
-  rest_bit k = from_bit (stream part s) i (stream_bit part s) k
-
--- the product of a number of 32 bits and one of 21 has at most 53 bits
-pub product_fits : (a b : ℕ) → a < 2 ^ 32 → b < 2 ^ 21 → a * b < 2 ^ 53
-product_fits a b ha hb =
-    let x : a * b ≤ a * 2097151 = mul-le-mul_left a (omega arith) in
-    omega arith
 
 -- the cells from place 0 on are all cells
 pub from_zero : (c : List ℕ) → from c 0 ≡ c

@@ -1,11 +1,12 @@
 -- The test for a sync byte, and for three in a row.
 -- Rests on the laws of the numbers that cells spell.
-use Rattle.std.specs.Prelude.{List, true, false, ◌&&◌, ◌≡◌, ℕ, ◌+◌, ◌-◌, ◌/◌, ◌%◌, ◌^◌, ◌≤◌, ◌<◌, leb, eqb, length, get_or}
-use Rattle.std.proofs.Common.{sym, ap, ◌∙◌, one-mul}
+use Rattle.std.specs.Prelude.{List, Bool, true, false, ◌&&◌, ◌≡◌, ℕ, zero, suc, ◌+◌, ◌-◌, ◌/◌, ◌%◌, ◌^◌, ◌≤◌, ◌<◌, leb, eqb, length, get_or}
+use Rattle.std.proofs.Common.{refl, sym, ap, ◌∙◌, one-mul}
 use native.Mathlib.Omega.{arith}
 use borrow.Author.Tests.{le-leb, lt-leb, leb-true, eq-eqb, ne_eqb, eqb-true}
-use Rattle.laws.specs.Laws.Cases.{by_order}
-use Rattle.laws.specs.Laws.Tests.{and_left, and_right}
+use Rattle.std.specs.List.{list_all, range_with_len}
+use Rattle.laws.specs.Laws.Cases.{by_order, by_test}
+use Rattle.laws.specs.Laws.Tests.{true≢false, and_left, and_right}
 use Rattle.cells.specs.Stream.{word, number, from}
 use Rattle.cells.specs.Sync.{sync_word, sync_at, three_sync}
 use Rattle.cells.proofs.Laws.Stream.{from_length}
@@ -94,3 +95,23 @@ three_cell c bit t e h =
     cell : (k : ℕ) → sync_at c k ≡ true → k + e % 16 ≡ e → e % 16 < 16 → get_or c e 0 ≡ sync_word / 2 ^ (16 - (e % 16 + 1)) % 2
     cell k s p l =
         ap (λ (n : ℕ). get_or c n 0) (sym p) ∙ number_cell c bit k 16 (e % 16) l ∙ ap (λ (w : ℕ). w / 2 ^ (16 - (e % 16 + 1)) % 2) (sync_word_lem c k s)
+
+-- cell k + j is cell j of a sync byte
+abbrev pub sync_cell : List ℕ → ℕ → ℕ → Bool
+sync_cell c k j = eqb (get_or c (k + j) 0) (sync_word / 2 ^ (15 - j) % 2)
+
+-- 16 cells that are left, cell by cell
+module _ (c : List ℕ) (k : ℕ) (bit : (i : ℕ) → get_or c i 0 < 2) (h : k + 16 ≤ length c) where
+  -- where the first n cells are those of a sync byte, one is found if the m others are so too
+  cells_after : (m n : ℕ) → n + m ≡ 16 → number c 1 k n ≡ sync_word / 2 ^ (16 - n)
+      → list_all (sync_cell c k) (range_with_len n m) ≡ sync_at c k
+  cells_after zero n e q = let l : n ≡ 16 = omega arith in sym (sync_all c k h (rw l at q))
+  cells_after (suc m) n e q =
+      by_test (sync_cell c k n)
+      (λ t. rw t (cells_after m (n + 1) (omega arith) (sync_more c k n (omega arith) q (eqb-true _ _ t))))
+      (λ t. rw t (sym (sync_differs c k bit h n (omega arith) (λ d. true≢false _ (eq-eqb _ _ d) t))))
+
+  -- a sync byte is found if each of the 16 cells is that of a sync byte
+  pub sync_cells_listed : list_all (sync_cell c k) (range_with_len 0 16) ≡ sync_at c k
+  unfolding number
+  sync_cells_listed = cells_after 16 0 refl refl

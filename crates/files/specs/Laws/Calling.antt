@@ -5,3 +5,4 @@ pub mod Fresh
 pub mod Changed
 pub mod SoundDisk
 pub mod Items
+pub mod ItemSplit

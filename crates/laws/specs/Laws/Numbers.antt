@@ -1,17 +1,18 @@
 -- Numbers in bytes, highest or lowest byte first: what was written is read, the bytes written out, and bytes again from the number that they are read as.
 -- Rests on the laws of lists given by a rule, and of what is written into a list.
 use Rattle.std.specs.Prelude.{◌≡◌, refl, List, [], ◌∷◌, ◌++◌, ℕ, zero, suc, ◌+◌, ◌-◌, ◌*◌, ◌/◌, ◌%◌, ◌^◌, ◌<◌, ◌≤◌, length, get_or, take, drop}
-use Rattle.std.proofs.Common.{◌∙◌, ap₂, add_assoc, add-zero, zero-add, div-one, not-suc-le-zero, pow-add, shr-shr, get_or-append-add}
+use Rattle.std.proofs.Common.{◌∙◌, ap₂, add_assoc, add-zero, zero-add, div-one, not-suc-le-zero, pow-add, pow-suc, shr-shr, get_or-append-add}
 use Rattle.std.proofs.Math.Path.{ap, sym}
 use native.Mathlib.Omega.{arith}
 use Rattle.std.proofs.Math.ListN.{get_or-append}
+use Rattle.std.specs.Int.{byte_at, bytes_high_first}
 use Rattle.std.proofs.lemmas.Nat.{mod-pow-add}
 use Rattle.laws.specs.Lists.{tab, element_at, window}
 use Rattle.laws.specs.Changes.{overlay}
 use Rattle.laws.specs.Numbers.{big_endian, high_first, low_first, high_byte, low_byte, at16, at32}
 use Rattle.laws.specs.Laws.Cases.{by_equal}
 use Rattle.laws.specs.Laws.Overlay.{overlay_in}
-use Rattle.laws.specs.Laws.Tab.{tab_length, tab_in, tab_ext, window_part}
+use Rattle.laws.specs.Laws.Tab.{tab_length, tab_in, tab_ext, eq_tab, window_part}
 
 -- ---- rows that agree
 
@@ -84,6 +85,33 @@ high_row2 v = rw (div-one v)
 pub high_row4 : (v : ℕ) → v / 16777216 % 256 ∷ v / 65536 % 256 ∷ v / 256 % 256 ∷ v % 256 ∷ [] ≡ tab (high_byte 4 v) 4
 unfolding tab high_byte
 high_row4 v = rw (div-one v)
+
+byte_high : (j v : ℕ) → byte_at j v ≡ v / 2 ^ (8 * j) % 256
+byte_high zero v = ap (λ (x : ℕ). x % 256) (sym (div-one v))
+byte_high (suc j) v = ap (λ (x : ℕ). v / x % 256) (power (suc j))
+  where
+    power : (i : ℕ) → 256 ^ i ≡ 2 ^ (8 * i)
+    power zero = refl
+    power (suc i) = let e : 8 * suc i ≡ 8 + 8 * i = omega arith in rw (pow-suc 256 i, e, pow-add 2 8 (8 * i), power i) (omega arith)
+
+-- the bytes of a number, highest first, as the library gives them
+pub high_bytes : (n v : ℕ) → bytes_high_first n v ≡ tab (high_byte n v) n
+unfolding high_byte
+high_bytes n v = eq_tab (bytes_high_first n v) (high_byte n v) n (long n) (λ k h. at n k h ∙ byte_high (n - (k + 1)) v)
+  where
+    long : (m : ℕ) → length (bytes_high_first m v) ≡ m
+    long zero = refl
+    long (suc m) = ap suc (long m)
+
+    at : (m k : ℕ) → k < m → get_or (bytes_high_first m v) k 0 ≡ byte_at (m - (k + 1)) v
+    at zero k h = absurd (omega arith)
+    at (suc m) zero h = ap (λ (x : ℕ). byte_at x v) (omega arith)
+    at (suc m) (suc k) h = at m k (omega arith) ∙ ap (λ (x : ℕ). byte_at x v) (omega arith)
+
+-- the last n of more bytes of a number are its n bytes
+pub high_bytes_last : (m n v : ℕ) → drop m (bytes_high_first (m + n) v) ≡ tab (high_byte n v) n
+high_bytes_last zero n v = let e : zero + n ≡ n = omega arith in rw e (high_bytes n v)
+high_bytes_last (suc m) n v = let e : suc m + n ≡ suc (m + n) = omega arith in rw e (high_bytes_last m n v)
 
 -- the two bytes of a number, lowest first, written out
 pub low_row2 : (v : ℕ) → v % 256 ∷ v / 256 % 256 ∷ [] ≡ tab (low_byte v) 2

@@ -9,11 +9,13 @@ use native.Mathlib.Omega.{arith}
 use Rattle.laws.specs.Options.{or_else, first_some}
 use Rattle.laws.specs.Laws.Cases.{by_equal}
 
-or_absent : {A : Type 0} (x y : Option A) → x ≡ none → or_else x y ≡ y
+-- where the first is absent it is the second
+pub or_absent : {A : Type 0} (x y : Option A) → x ≡ none → or_else x y ≡ y
 unfolding or_else
 or_absent x y e = rw e
 
-or_there : {A : Type 0} (x y : Option A) (a : A) → x ≡ some a → or_else x y ≡ some a
+-- where the first is there it is the first
+pub or_there : {A : Type 0} (x y : Option A) (a : A) → x ≡ some a → or_else x y ≡ some a
 unfolding or_else
 or_there x y a e = rw e
 

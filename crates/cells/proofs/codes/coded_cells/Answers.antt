@@ -1,5 +1,5 @@
 -- `coded_cells` meets its contract: the first k bytes are read, their n cells stand in the buffer, and x is expected.
--- Rests on: the laws in Codes; the contracts of side_byte, append_given, expected_after, cells_at_end and buffer_side.
+-- Rests on: the laws in Codes; the contracts of Side::byte, append_given, expected_after, cells_at_end and buffer_side.
 -- Assumes nothing.
 use mathlib.Core.Path.{refl, sym, ap, ◌∙◌}
 use native.Mathlib.Omega.{arith}
@@ -25,7 +25,7 @@ loop-k-preserved c = (
   rw c.append_given-n.ensures.1 c.loop-k.invariant.2,
   c.append_given-n.ensures.1 ∙ c.loop-k.invariant.3,
   rw (c.append_given-n.ensures.0, c.expected_after-x.ensures)
-      (cells_more _ _ _ _ _ _ c.side_byte-b.ensures (omega arith) c.loop-k.invariant.4),
+      (cells_more _ _ _ _ _ _ c.byte-b.ensures (omega arith) c.loop-k.invariant.4),
 )
 
 pub returns : goal.returns

@@ -1,18 +1,19 @@
 -- `joined` meets its contract.
 -- Rests on: the laws in CodesAppended.
 -- Assumes nothing.
-use Prim.Native.Nat.{◌+◌, ◌*◌, ◌%◌, ◌^◌, ◌<◌}
+use Prim.Native.Nat.{ℕ, ◌+◌, ◌*◌, ◌%◌, ◌^◌, ◌<◌}
 use native.Mathlib.Omega.{arith}
 use Rattle.cells.proofs.Laws.CodesAppended.{joined_fits, joined_shifted}
 use Rattle.cells.proofs.codes.joined.Goals as goal
 
-small : (c : goal.Start) → c.args.old % (1 * 2 ^ c.args.k % 2 ^ 32) + c.args.v * 2 ^ c.args.k % 2 ^ 32 < 2 ^ 16
-small c =
-    let e = joined_shifted c.args.old c.args.v c.args.k (omega arith) c.requires in
-    rw e (joined_fits c.args.old c.args.v c.args.k (omega arith) c.requires)
+small : (old v k : ℕ) → v < 256 → k < 8 → old % (1 * 2 ^ k % 2 ^ 32) + v * 2 ^ k % 2 ^ 32 < 2 ^ 16
+small old v k h l = rw (joined_shifted old v k h l) (joined_fits old v k h l)
 
 pub overflow_add-result : goal.overflow_add-result
-overflow_add-result c = omega (arith, small c)
+overflow_add-result c = omega (arith, small c.from.result c.from-2.result c.args.k (omega arith) c.requires)
 
 pub returns : goal.returns
-returns c = (joined_shifted _ _ _ (omega arith) c.requires, small c)
+returns c = (
+  rw (← c.from.ensures, ← c.from-2.ensures) (joined_shifted _ _ _ (omega arith) c.requires),
+  small c.from.result c.from-2.result c.args.k (omega arith) c.requires,
+)

@@ -1,19 +1,15 @@
--- `cells::crc_byte` meets its contract: v is the register after the first k bits.
+-- `cells::crc_byte` meets its contract.
 -- Rests on: the laws in Crc; the contract of crc_bit.
 -- Assumes nothing.
-use mathlib.Core.Path.{ap, ◌∙◌}
-use native.Mathlib.Omega.{arith}
+use mathlib.Core.Path.{refl, ◌∙◌}
+use Prim.Native.Nat.{◌-◌, ◌/◌, ◌%◌, ◌^◌}
 use borrow.Author.Rules.{rules}
-use Rattle.cells.specs.Crc.{crc_bits}
-use Rattle.cells.proofs.Laws.Crc.{crc_bits_more}
+use Rattle.std.proofs.lemmas.Iterator.{YieldsList-from_range}
+use Rattle.std.proofs.lemmas.Iterator.Consumers.{fold_from_yields_List}
+use Rattle.cells.specs.Crc.{crc_bit}
+use Rattle.cells.proofs.Laws.Crc.{bits_in_turn}
 use Rattle.cells.proofs.crc.crc_byte.Goals as goal
 
-pub loop-k-init : goal.loop-k-init
-unfolding crc_bits
-loop-k-init c = search rules
-
-pub loop-k-preserved : goal.loop-k-preserved
-loop-k-preserved c = (omega arith, rw (crc_bits_more, ← c.loop-k.invariant.1) c.crc_bit-v.ensures)
-
 pub returns : goal.returns
-returns c = c.loop-k.invariant.1 ∙ ap (crc_bits _ _) (omega arith)
+returns c = fold_from_yields_List _ (λ v k. crc_bit v (c.args.x / 2 ^ (7 - k) % 2)) _ _ c.fold.ensures.ran (YieldsList-from_range 0 8 8 refl refl)
+    (λ a x b q k. search rules) ∙ bits_in_turn c.args.s c.args.x

@@ -1,19 +1,14 @@
--- `cells::crc_row` meets its contract: v is the register after the first i bytes.
+-- `cells::crc_row` meets its contract.
 -- Rests on: the laws in Crc; the contract of crc_byte.
 -- Assumes nothing.
-use mathlib.Core.Path.{◌≡◌, ◌∙◌}
-use native.Mathlib.Omega.{arith}
-use lib.ListN.{length}
-use lib.Seq.{take-length}
-use Rattle.cells.proofs.Laws.Crc.{row_none, row_more}
+use mathlib.Core.Path.{◌∙◌}
+use borrow.Author.Rules.{rules}
+use Rattle.std.proofs.lemmas.Iterator.{YieldsList-from_slice}
+use Rattle.std.proofs.lemmas.Iterator.Consumers.{fold_from_yields_List}
+use Rattle.cells.specs.Crc.{crc_bits}
+use Rattle.cells.proofs.Laws.Crc.{bytes_in_turn}
 use Rattle.cells.proofs.crc.crc_row.Goals as goal
 
-pub loop-i-init : goal.loop-i-init
-loop-i-init c = (omega arith, row_none _ c.args.row.now)
-
-pub loop-i-preserved : goal.loop-i-preserved
-loop-i-preserved c = (omega arith, rw (row_more _ c.args.row.now c.loop-i.i (omega arith), ← c.loop-i.invariant.1) c.crc_byte-v.ensures)
-
 pub returns : goal.returns
-returns c = let e : c.loop-i.i ≡ length c.args.row.now = omega arith in
-    c.loop-i.invariant.1 ∙ rw (e, take-length c.args.row.now)
+returns c = fold_from_yields_List _ (λ v x. crc_bits v x 8) _ _ c.fold.ensures.ran (YieldsList-from_slice c.args.row.now (cc)) (λ a x b q k. search rules)
+    ∙ bytes_in_turn _ _

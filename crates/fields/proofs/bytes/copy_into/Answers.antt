@@ -1,27 +1,15 @@
--- `fields::copy_into` meets its contract: the first i bytes are written.
--- Rests on: the laws in laws::Overlay; the contract of room.
+-- `fields::copy_into` meets its contract: the part that lies in dst is written over.
+-- Rests on: the law part_over.
 -- Assumes nothing.
-use mathlib.Core.Path.{refl}
-use native.Mathlib.Omega.{arith}
-use native.Mathlib.Nat.{zero-add}
-use lib.ListN.{length-set}
+use Rattle.std.proofs.Common.{arith, rules}
+use Rattle.std.proofs.lemmas.List.{places}
 use Rattle.laws.specs.Lists.{element_at}
 use Rattle.laws.specs.Changes.{put}
-use Rattle.laws.specs.Laws.Overlay.{overlay_done, overlay_none, overlay_more}
+use Rattle.fields.proofs.Parts.{part_over}
 use Rattle.fields.proofs.bytes.copy_into.Goals as goal
 
-pub loop-i-init : goal.loop-i-init
-loop-i-init c = (omega arith, c.room-n.ensures, refl, overlay_none _ _ _)
-
-pub loop-i-preserved : goal.loop-i-preserved
-unfolding element_at
-loop-i-preserved c = (
-  omega arith,
-  c.loop-i.invariant.1,
-  simp length-set c.loop-i.invariant.2,
-  overlay_more _ _ _ _ _ _ (omega arith) c.loop-i.invariant.3 (rw zero-add),
-)
-
 pub returns : goal.returns
-unfolding put
-returns c = overlay_done _ _ _ _ _ _ _ (omega arith) c.loop-i.invariant.1 c.loop-i.invariant.3
+unfolding put element_at
+returns c =
+    part_over c.args.dst.now c.args.at _ c.min-start.result c.min-end.result _ c.copy_from_slice.new.self c.min-start.ensures (omega arith)
+    (search (rules, places)) (λ k h. rw c.copy_from_slice.ensures.after (search (rules, places)))

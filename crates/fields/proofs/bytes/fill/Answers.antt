@@ -1,22 +1,13 @@
--- `fields::fill` meets its contract: the first i bytes are written.
--- Rests on: the laws in laws::Overlay; the contract of room.
+-- `fields::fill` meets its contract: the part that lies in dst is written over.
+-- Rests on: the law part_over.
 -- Assumes nothing.
-use mathlib.Core.Path.{refl}
-use native.Mathlib.Omega.{arith}
-use lib.ListN.{length-set}
-use Rattle.laws.specs.Laws.Overlay.{overlay_done, overlay_none, overlay_more}
+use Rattle.std.proofs.Common.{arith, rules}
+use Rattle.std.proofs.lemmas.List.{places}
+use Rattle.fields.proofs.Parts.{part_over}
 use Rattle.fields.proofs.bytes.fill.Goals as goal
 
-pub loop-i-init : goal.loop-i-init
-loop-i-init c = (omega arith, c.room-m.ensures, refl, overlay_none _ _ _)
-
-pub loop-i-preserved : goal.loop-i-preserved
-loop-i-preserved c = (
-  omega arith,
-  c.loop-i.invariant.1,
-  simp length-set c.loop-i.invariant.2,
-  overlay_more _ _ _ _ _ _ (omega arith) c.loop-i.invariant.3 refl,
-)
-
 pub returns : goal.returns
-returns c = overlay_done _ _ _ _ _ _ _ (omega arith) c.loop-i.invariant.1 c.loop-i.invariant.3
+returns c =
+    let full = c.fill.ensures.after (λ y e. e) in
+    part_over c.args.dst.now c.args.at c.args.n c.min-start.result c.min-end.result _ c.fill.new.self c.min-start.ensures (omega arith)
+    (search (rules, places)) (λ k h. rw full (search (rules, places)))

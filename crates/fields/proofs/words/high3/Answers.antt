@@ -1,11 +1,14 @@
 -- `fields::high3` meets its contract.
--- Rests on: the contracts of byte and wide.
+-- Rests on: the laws in laws::Numbers; the contract of bytes_at.
 -- Assumes nothing.
-use native.Mathlib.Omega.{arith}
-use Rattle.laws.specs.Lists.{element_at}
+use Rattle.std.proofs.Common.{arith}
+use Rattle.laws.specs.Lists.{element_at, tab, window}
 use Rattle.laws.specs.Numbers.{big_endian, high_first}
+use Rattle.laws.specs.Laws.Numbers.{high_small}
 use Rattle.fields.proofs.words.high3.Goals as goal
 
 pub returns : goal.returns
-unfolding high_first big_endian element_at
-returns c = (omega arith, omega arith)
+unfolding high_first big_endian window tab element_at
+returns c =
+    let e = rw c.bytes_at.ensures at c.from_be_bytes.ensures in
+    (omega arith, omega (arith, high_small c.args.s.now c.args.at 3 (λ i. (c.type_inv.s i).fits)))

@@ -1,11 +1,11 @@
 -- `fields::high4` meets its contract.
--- Rests on: the contracts of high3, byte and wide.
+-- Rests on: the contract of bytes_at.
 -- Assumes nothing.
-use native.Mathlib.Omega.{arith}
-use Rattle.laws.specs.Lists.{element_at}
+use Rattle.std.proofs.Common.{arith}
+use Rattle.laws.specs.Lists.{element_at, tab, window}
 use Rattle.laws.specs.Numbers.{big_endian, high_first}
 use Rattle.fields.proofs.words.high4.Goals as goal
 
 pub returns : goal.returns
-unfolding high_first big_endian element_at
-returns c = omega arith
+unfolding high_first big_endian window tab element_at
+returns c = let e = rw c.bytes_at.ensures at c.from_be_bytes.ensures in omega arith

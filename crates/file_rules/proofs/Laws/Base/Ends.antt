@@ -1,7 +1,7 @@
 -- What a sound disk has: its directory ends within the disk.
 -- Rests on what a sound disk has (Sound) and on counts (laws, Count): each block of the directory stands once in the map, so it has no more blocks than the
 -- disk.
-use Rattle.std.specs.Prelude.{◌≡◌, refl, ◌≢◌, true, false, not, eqb}
+use Rattle.std.specs.Prelude.{Some, None, ◌≡◌, refl, ◌≢◌, true, false, not, eqb}
 use Rattle.std.proofs.Common.{sym, ap, ◌∙◌, arith}
 use Rattle.std.proofs.Math.Option.{none, some}
 use Prim.Native.Nat.{ℕ, zero, suc, ◌+◌, ◌≤◌}
@@ -14,7 +14,6 @@ use Rattle.laws.specs.Laws.All.{all_at}
 use Rattle.laws.specs.Laws.Lowest.{lowest_all}
 use Rattle.laws.specs.Laws.Count.{count_yes, count_no, sum_cong, sum_change, sum_none}
 use Rattle.sector_rules.specs.Replies.{reply_with}
-use Rattle.sector_rules.specs.declared.Fault.TheVariants.{At, Sound}
 use Rattle.sector_rules.specs.Faults.{fault_below, refusal_at}
 use Rattle.sector_rules.specs.Geometry.{blocks}
 use Rattle.file_rules.specs.declared.Record.{Record}
@@ -90,7 +89,7 @@ unfolding refusal10 fault_below
 files_right d e =
     by_order (file_fault d) slot_count
     (λ h.
-    let q : some (reply_with 10 (file_fault d) 0 0) ≡ none = sym (ap (refusal_at 10) (cond_true (At (file_fault d)) Sound (lt_true h))) ∙ e in
+    let q : some (reply_with 10 (file_fault d) 0 0) ≡ none = sym (ap (refusal_at 10) (cond_true (Some (file_fault d)) None (lt_true h))) ∙ e in
     let z : ◌≡◌ {A = ℕ} 0 1 = cc in absurd (omega arith))
     (λ h. h)
 

@@ -1,6 +1,6 @@
 -- The disk header by its bytes: disks that agree in those that 8 judges are judged alike, and a header that is written passes 8.
 -- Rests on the laws of numbers in bytes (laws, Numbers) and on the lengths of the placement's tables (sector_rules, Laws.Base.Geometry).
-use Rattle.std.specs.Prelude.{◌≡◌, true, length, get_or}
+use Rattle.std.specs.Prelude.{None, ◌≡◌, true, length, get_or}
 use Rattle.std.proofs.Math.Path.{refl, ap, ap₂}
 use Rattle.std.proofs.Common.{sym, ◌∙◌, lit<, lit≤}
 use mathlib.Core.List.{List}
@@ -14,7 +14,6 @@ use Rattle.laws.specs.Laws.Numbers.{high2_at, high4_at}
 use Rattle.laws.specs.Laws.Same.{eq_same}
 use Rattle.laws.specs.Laws.Tab.{tab_ext, tab_self}
 use Rattle.laws.specs.Laws.Tests.{lt_true, le_true, eq_true, and_true}
-use Rattle.sector_rules.specs.declared.Fault.TheVariants.{Sound}
 use Rattle.sector_rules.specs.Faults.{refusal_at}
 use Rattle.sector_rules.specs.Geometry.{track_offset, track_sectors, side_place, backward}
 use Rattle.sector_rules.proofs.Laws.Base.Geometry.{side_place_length, backward_length}
@@ -26,7 +25,7 @@ use Rattle.file_rules.specs.Sizes.{block_bytes, slot_bytes, good_sectors, whole_
 use Rattle.file_rules.specs.Written.{fixed_byte, disk_header_byte}
 
 -- a header without fault is not refused
-pub header_none : (d : Disk) → disk_header_fault d ≡ Sound → refusal8 d ≡ none
+pub header_none : (d : Disk) → disk_header_fault d ≡ None → refusal8 d ≡ none
 unfolding refusal8
 header_none d e = ap (refusal_at 8) e
 
@@ -108,7 +107,7 @@ module _ (args : FormatArguments) (updates word end : ℕ) where
   unfolding bytes_are tab disk_signature disk_header_byte fixed_byte patch same
   signature_at = refl
 
-  dimensions_at : dimensions_fault (λ (b : ℕ). written) ≡ Sound
+  dimensions_at : dimensions_fault (λ (b : ℕ). written) ≡ None
   unfolding dimensions_fault at16 big_endian disk_header_byte fixed_byte patch high_byte
   dimensions_at = refl
 
@@ -135,7 +134,7 @@ module _ (args : FormatArguments) (updates word end : ℕ) where
 
   -- a disk that has its letters, and its bytes 24 to 75, passes 8, whatever stands in the others
   pub header_passes : 1 ≤ end → end < 1572864 → (d : Disk) → ((o : ℕ) → o < 4 → d 0 o ≡ written o) → ((o : ℕ) → 24 ≤ o → o < 76 → d 0 o ≡ written o)
-      → disk_header_fault d ≡ Sound
+      → disk_header_fault d ≡ None
   unfolding disk_header_fault
   header_passes a b d letters fields =
       judged_alike d (λ (b : ℕ). written) letters fields

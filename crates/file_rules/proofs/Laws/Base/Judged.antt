@@ -1,6 +1,6 @@
 -- What a reply of check, or of the first track, tells of the disk: done, 9, 19 or 11.
 -- Rests on calls that judge a disk first (OnSound), on what a sound disk has (Sound) and on the first track (Track).
-use Rattle.std.specs.Prelude.{◌≡◌, refl, ◌≢◌, true, false, List, length, take}
+use Rattle.std.specs.Prelude.{Some, None, ◌≡◌, refl, ◌≢◌, true, false, List, length, take}
 use Rattle.std.proofs.Math.Path.{sym, ap, subst}
 use Rattle.std.proofs.Common.{◌∙◌, arith}
 use Rattle.std.proofs.Math.Bool.{Bool}
@@ -11,8 +11,7 @@ use Rattle.laws.specs.Laws.Cases.{by_order, by_equal, by_test, by_cond}
 use Rattle.laws.specs.Laws.Tests.{lt_true, lt_false, cond_true, cond_false}
 use Rattle.laws.specs.Laws.Lowest.{lowest_hit, lowest_here}
 use Rattle.sector_rules.specs.declared.Reply.{Reply}
-use Rattle.sector_rules.specs.declared.Fault.{Fault}
-use Rattle.sector_rules.specs.declared.Fault.TheVariants.{At, Sound}
+use Rattle.sector_rules.specs.Faults.{Fault}
 use Rattle.sector_rules.specs.Faults.{fault_below, refusal_at}
 use Rattle.sector_rules.specs.Geometry.{blocks, image_bytes}
 use Rattle.sector_rules.specs.Replies.{reply_with, done, refusal}
@@ -38,8 +37,8 @@ Numbered n none = Unit {0}
 Numbered n (some r) = r.number ≡ n
 
 at_number : (n : ℕ) (f : Fault) → Numbered n (refusal_at n f)
-at_number n (At o) = refl
-at_number n Sound = tt
+at_number n (Some o) = refl
+at_number n None = tt
 
 other_number : (n : ℕ) (a : Option Reply) (r : Reply) → Numbered n a → r.number ≢ n → a ≢ some r
 other_number n a r p q e = q (subst (Numbered n) e p)
@@ -65,12 +64,12 @@ some_same q r e = cc
 -- where no record is wrong 9 is not found
 pub nine_absent : (d : Disk) → map_fault d ≡ blocks → refusal9 d ≡ none
 unfolding refusal9 fault_below
-nine_absent d e = ap (refusal_at 9) (cond_false (At (map_fault d)) Sound (lt_false {a = map_fault d} {b = blocks} (omega (arith, e))))
+nine_absent d e = ap (refusal_at 9) (cond_false (Some (map_fault d)) None (lt_false {a = map_fault d} {b = blocks} (omega (arith, e))))
 
 -- where one is, 9 names the lowest block with such a record
 pub nine_present : (d : Disk) (b : ℕ) → b < blocks → map_fault d ≡ b → refusal9 d ≡ some (reply_with 9 b 0 0)
 unfolding refusal9 fault_below
-nine_present d b l e = ap (λ (m : ℕ). refusal_at 9 (fault_below blocks m)) e ∙ ap (refusal_at 9) (cond_true (At b) Sound (lt_true l))
+nine_present d b l e = ap (λ (m : ℕ). refusal_at 9 (fault_below blocks m)) e ∙ ap (refusal_at 9) (cond_true (Some b) None (lt_true l))
 
 -- ---- check
 
@@ -152,10 +151,10 @@ module _ (image : List ℕ) where
       by_order (map_fault d) blocks
       (λ h.
       let same : some (reply_with 9 (map_fault d) 0 0) ≡ some (reply_with 9 b 0 0) =
-      sym (ap (refusal_at 9) (cond_true (At (map_fault d)) Sound (lt_true h))) ∙ nine_given b e in
+      sym (ap (refusal_at 9) (cond_true (Some (map_fault d)) None (lt_true h))) ∙ nine_given b e in
       let at : map_fault d ≡ b = ap (λ (x : Reply). x.first) (some_same _ _ same) in
       ap wrong (sym at) ∙ lowest_hit wrong blocks h)
-      (λ h. none_some (reply_with 9 b 0 0) (sym (ap (refusal_at 9) (cond_false (At (map_fault d)) Sound (lt_false h))) ∙ nine_given b e))
+      (λ h. none_some (reply_with 9 b 0 0) (sym (ap (refusal_at 9) (cond_false (Some (map_fault d)) None (lt_false h))) ∙ nine_given b e))
 
   -- where the header is right and the record of block 0 is wrong, 9 names it
   pub nine_at_zero : length image ≡ image_bytes → refusal8 d ≡ none → record_fault 0 (record_at d 0) ≡ true → check image ≡ reply_with 9 0 0 0

@@ -1,6 +1,6 @@
 -- What a sound disk has: no refusal, block 0 as the system's and so no file in it. A disk that is not sound gets a refusal's number.
 -- Rests on the definitions of 8, 9, 19, 10 and 11 and on the lowest number that passes a test (laws, Lowest).
-use Rattle.std.specs.Prelude.{◌≡◌, refl, ◌≢◌, Bool, true, false, ℕ, ◌<◌}
+use Rattle.std.specs.Prelude.{Some, None, ◌≡◌, refl, ◌≢◌, Bool, true, false, ℕ, ◌<◌}
 use Rattle.std.proofs.Common.{sym, ap, ◌∙◌, arith}
 use Rattle.std.proofs.Math.Option.{Option, none, some}
 use Rattle.laws.specs.Below.{lowest}
@@ -10,8 +10,7 @@ use Rattle.laws.specs.Laws.Tests.{lt_true, true≢false, cond_true}
 use Rattle.laws.specs.Laws.Lowest.{lowest_all, lowest_hit}
 use Rattle.sector_rules.specs.Replies.{reply_with}
 use Rattle.sector_rules.specs.declared.Reply.{Reply}
-use Rattle.sector_rules.specs.declared.Fault.{Fault}
-use Rattle.sector_rules.specs.declared.Fault.TheVariants.{At, Sound}
+use Rattle.sector_rules.specs.Faults.{Fault}
 use Rattle.sector_rules.specs.Faults.{fault_below, refusal_at}
 use Rattle.sector_rules.specs.Geometry.{blocks}
 use Rattle.file_rules.specs.Disk.{Disk}
@@ -52,7 +51,7 @@ unfolding refusal9 fault_below map_fault
 first_passed d e =
     by_order (map_fault d) blocks
     (λ h.
-    let q : some (reply_with 9 (map_fault d) 0 0) ≡ none = sym (ap (refusal_at 9) (cond_true (At (map_fault d)) Sound (lt_true h))) ∙ e in
+    let q : some (reply_with 9 (map_fault d) 0 0) ≡ none = sym (ap (refusal_at 9) (cond_true (Some (map_fault d)) None (lt_true h))) ∙ e in
     let z : ◌≡◌ {A = ℕ} 0 1 = cc in absurd (omega arith))
     (λ h. system_only (record_at d 0) (lowest_all (λ (j : ℕ). record_fault j (record_at d j)) blocks h 0 (omega arith)))
 
@@ -121,8 +120,8 @@ other_or n (some r) b p q = p
 
 -- and one with this number that names a place
 pub other_at : (n k : ℕ) → k ≢ n → (f : Fault) → OtherNumber n (refusal_at k f)
-other_at n k h (At o) = h
-other_at n k h Sound = tt
+other_at n k h (Some o) = h
+other_at n k h None = tt
 
 -- and 11
 pub other_eleven : (n : ℕ) (d : Disk) → 11 ≢ n → OtherNumber n (refusal11 d)

@@ -1,6 +1,6 @@
 -- The inner model's disk passes every judgement: 8 (header), 9 (map), 19 (good word), 10 (files), 11 (free word).
 -- Rests on what is read of the disk (Reads).
-use Rattle.std.specs.Prelude.{◌≡◌, true, false, cond, ◌&&◌, ℕ, suc, ◌+◌, ◌≤◌, ◌<◌, ltb}
+use Rattle.std.specs.Prelude.{Some, None, ◌≡◌, true, false, cond, ◌&&◌, ℕ, suc, ◌+◌, ◌≤◌, ◌<◌, ltb}
 use Rattle.std.proofs.Math.Path.{refl, sym, ap, ap₂}
 use Rattle.std.proofs.Common.{◌∙◌, subst, arith}
 use Rattle.std.proofs.Math.Bool.{not}
@@ -16,7 +16,6 @@ use Rattle.laws.specs.Laws.Tests.{and_false_right}
 use Rattle.laws.specs.Laws.All.{all_is}
 use Rattle.laws.specs.Laws.Lowest.{lowest_none}
 use Rattle.laws.specs.Laws.Count.{count_cong, count_one}
-use Rattle.sector_rules.specs.declared.Fault.TheVariants.{At, Sound}
 use Rattle.sector_rules.specs.Faults.{fault_below, refusal_at}
 use Rattle.sector_rules.specs.Geometry.{blocks}
 use Rattle.file_rules.specs.declared.Record.{Record}
@@ -44,7 +43,7 @@ module _ (m : Inner) (v : Inv m) where
 
   -- ---- judgement 8
 
-  header_right : disk_header_fault d ≡ Sound
+  header_right : disk_header_fault d ≡ None
   unfolding header
   header_right =
       header_passes _ _ _ (suc m.peak) (omega arith) (omega (arith, v.peak_most)) d
@@ -163,7 +162,7 @@ module _ (m : Inner) (v : Inv m) where
 
   nine_right : refusal9 d ≡ none
   unfolding refusal9 fault_below
-  nine_right = ap (refusal_at 9) (cond_false (At (map_fault d)) Sound (lt_false {a = map_fault d} {b = blocks} (omega (arith, map_right))))
+  nine_right = ap (refusal_at 9) (cond_false (Some (map_fault d)) None (lt_false {a = map_fault d} {b = blocks} (omega (arith, map_right))))
 
   nineteen_right : refusal19 d ≡ none
   unfolding refusal19 good_right
@@ -171,7 +170,7 @@ module _ (m : Inner) (v : Inv m) where
 
   ten_right : refusal10 d ≡ none
   unfolding refusal10 fault_below
-  ten_right = ap (refusal_at 10) (cond_false (At (file_fault d)) Sound (lt_false {a = file_fault d} {b = slot_count} (omega (arith, files_right))))
+  ten_right = ap (refusal_at 10) (cond_false (Some (file_fault d)) None (lt_false {a = file_fault d} {b = slot_count} (omega (arith, files_right))))
 
   eleven_right : refusal11 d ≡ none
   unfolding refusal11 free_right free_word

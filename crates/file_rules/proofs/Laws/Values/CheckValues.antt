@@ -1,7 +1,7 @@
 -- 9 and 10 by value: the proof of check_values (CheckValues.antt).
 -- Rests on: the laws of the disk in block order (Base/Disk), that a written header passes 8 (Base/Header), and that a format is accepted (OnImages/Run);
 -- all else is computed.
-use Rattle.std.specs.Prelude.{true, ◌≢◌, List, [], ◌≡◌, refl, ℕ, suc, ◌-◌, ◌≤◌, ◌<◌, ltb, set}
+use Rattle.std.specs.Prelude.{None, true, ◌≢◌, List, [], ◌≡◌, refl, ℕ, suc, ◌-◌, ◌≤◌, ◌<◌, ltb, set}
 use Rattle.std.proofs.Common.{sym, ap, ◌∙◌, subst, arith, lit<, lit≤}
 use Rattle.laws.specs.Below.{lowest, count, all}
 use Rattle.laws.specs.Changes.{upd, patch}
@@ -13,7 +13,6 @@ use Rattle.laws.specs.Numbers.{at16, at32, big_endian, high_byte, quotient_up}
 use Rattle.laws.specs.Options.{or_else}
 use Rattle.sector_rules.specs.declared.Reply.{Reply}
 use Rattle.sector_rules.specs.Faults.{fault_below}
-use Rattle.sector_rules.specs.declared.Fault.TheVariants.{Sound}
 use Rattle.sector_rules.specs.Geometry.{sector_bytes, blocks}
 use Rattle.sector_rules.specs.Replies.{done, reply_with}
 use Rattle.file_rules.specs.declared.Record.{Record}
@@ -89,7 +88,7 @@ unfoldable reply_after_header : Disk → Reply
 reply_after_header d = unless (or_else (or_else (refusal9 d) (refusal19 d)) (or_else (refusal10 d) (refusal11 d))) (λ (r : Reply). r) done
 
 -- where the header is right, they decide
-past_header : (d : Disk) → disk_header_fault d ≡ Sound → judged_reply d ≡ reply_after_header d
+past_header : (d : Disk) → disk_header_fault d ≡ None → judged_reply d ≡ reply_after_header d
 unfolding judged_reply reply_after_header disk_refusal start_refusal or_else
 past_header d e = rw (header_none d e) refl
 
@@ -104,7 +103,7 @@ fresh_header_lem args = (with_is (fresh_header args) (fresh_owner args) (λ (r :
 
 -- a disk with letters and fields of a fresh header passes 8
 fresh_passes : (args : FormatArguments) (d : Disk) → ((o : ℕ) → o < 4 → d 0 o ≡ fresh_header args o)
-    → ((o : ℕ) → 24 ≤ o → o < 76 → d 0 o ≡ fresh_header args o) → disk_header_fault d ≡ Sound
+    → ((o : ℕ) → 24 ≤ o → o < 76 → d 0 o ≡ fresh_header args o) → disk_header_fault d ≡ None
 fresh_passes args = header_passes args 0 (free_sectors (blocks - 2 - count_listed args.bad)) 1 (lit≤ tt) (lit< tt)
 
 -- bytes that 8 judges are those of a fresh disk
@@ -140,7 +139,7 @@ passable_set args d p v k w =
     record { inside = set_nothing_outside d p v (omega (arith, k.0)) w.inside; judged = judged_stays args d p v k w.judged }
 
 -- it passes 8
-pub passable_passes : (args : FormatArguments) (d : Disk) → Passable args d → disk_header_fault d ≡ Sound
+pub passable_passes : (args : FormatArguments) (d : Disk) → Passable args d → disk_header_fault d ≡ None
 passable_passes args d w = fresh_passes args d w.judged.0 w.judged.1
 
 -- what check says of an image of which such a byte is another
@@ -201,7 +200,7 @@ unfolding model_disk
 model_nothing_outside m = with_nothing_outside _ _ _
 
 -- the header of a model's disk is right, while its directory is short enough for the header's words
-model_header_lem : (m : Model) → m.peak < 1572863 → disk_header_fault (model_disk m) ≡ Sound
+model_header_lem : (m : Model) → m.peak < 1572863 → disk_header_fault (model_disk m) ≡ None
 unfolding model_disk model_header
 model_header_lem m h =
     let head = (with_is (model_header m) _ _).head in
@@ -226,7 +225,7 @@ unfolding dir_bytes record_at number_at listed
     parts_right dir_end all within is_part quotient_up held
 other_found title number = refl
 
-two_files_header : (args : FormatArguments) → disk_header_fault (model_disk (two_files args reel_one reel_capitals)) ≡ Sound
+two_files_header : (args : FormatArguments) → disk_header_fault (model_disk (two_files args reel_one reel_capitals)) ≡ None
 unfolding two_files
 two_files_header args = model_header_lem (two_files args reel_one reel_capitals) (lit< tt)
 

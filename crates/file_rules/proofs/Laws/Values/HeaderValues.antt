@@ -1,6 +1,6 @@
 -- The disk header by value: the proof of disk_header_values (HeaderValues.antt).
 -- Rests on: that a format is accepted (OnImages/Run), the beginning of block 0 (Base/Disk), disks that are judged alike (Base/Header); all else is computed.
-use Rattle.std.specs.Prelude.{Bool, true, false, cond, ◌&&◌, List, [], ◌∷◌, ◌++◌, ◌≢◌, ◌≡◌, ℕ, ◌+◌, ◌≤◌, ◌<◌, leb, length, get_or, set, take, drop}
+use Rattle.std.specs.Prelude.{Some, None, Bool, true, false, cond, ◌&&◌, List, [], ◌∷◌, ◌++◌, ◌≢◌, ◌≡◌, ℕ, ◌+◌, ◌≤◌, ◌<◌, leb, length, get_or, set, take, drop}
 use Rattle.std.proofs.Math.Option.{none, some}
 use Rattle.std.proofs.Math.Path.{refl, ap}
 use Rattle.std.proofs.Common.{sym, ap₂, ◌∙◌, arith, lit≤, length-append}
@@ -12,8 +12,7 @@ use Rattle.laws.specs.Numbers.{at16, big_endian, high_byte}
 use Rattle.laws.specs.Below.{count}
 use Rattle.laws.specs.Changes.{patch}
 use Rattle.laws.specs.Options.{or_else}
-use Rattle.sector_rules.specs.declared.Fault.{Fault}
-use Rattle.sector_rules.specs.declared.Fault.TheVariants.{At, Sound}
+use Rattle.sector_rules.specs.Faults.{Fault}
 use Rattle.sector_rules.specs.declared.Reply.{Reply}
 use Rattle.sector_rules.specs.Faults.{refusal_at, fault_below}
 use Rattle.sector_rules.specs.Geometry.{sector_bytes, blocks, image_bytes, side_place, backward}
@@ -37,19 +36,19 @@ use Rattle.file_rules.specs.Written.{fixed_byte, disk_header_byte, disk_with}
 use Rattle.file_rules.specs.HeaderValues.{title, disk_header, disk_field_named, DiskHeaderValues}
 
 abbrev fault_place : Fault → ℕ
-fault_place (At o) = o
-fault_place Sound = 96
+fault_place (Some o) = o
+fault_place None = 96
 
 by_fault : (f g h : Fault) (a b : Bool)
     → place_named 8 96 (unless (or_else (or_else (refusal_at 8 f) (or_else (refusal_at 9 g) (cond a none (some (refusal 19)))))
     (or_else (refusal_at 10 h) (cond b none (some (refusal 11))))) (λ (r : Reply). r) done) ≡ fault_place f
 unfolding place_named unless or_else
-by_fault (At o) g h a b = refl
-by_fault Sound (At o) h a b = refl
-by_fault Sound Sound h false b = refl
-by_fault Sound Sound (At o) true b = refl
-by_fault Sound Sound Sound true true = refl
-by_fault Sound Sound Sound true false = refl
+by_fault (Some o) g h a b = refl
+by_fault None (Some o) h a b = refl
+by_fault None None h false b = refl
+by_fault None None (Some o) true b = refl
+by_fault None None None true true = refl
+by_fault None None None true false = refl
 
 named_is : (image : List ℕ) → length image ≡ image_bytes → place_named 8 96 (check image) ≡ fault_place (disk_header_fault (disk_of image))
 unfolding check on_sound image_right disk_refusal start_refusal refusal8 refusal9 refusal19 refusal10 refusal11

@@ -1,13 +1,12 @@
 -- The first track by value: the proof of first_track_values (TrackValues.antt).
 -- Rests on: what the first track is enough for (Base/Track); CheckValues beside it; the laws of the disk in block order (Base/Disk).
-use Rattle.std.specs.Prelude.{List, [], ◌∷◌, ◌≢◌, ◌≡◌, refl, ℕ, ◌≤◌, length, set, take}
+use Rattle.std.specs.Prelude.{None, List, [], ◌∷◌, ◌≢◌, ◌≡◌, refl, ℕ, ◌≤◌, length, set, take}
 use Rattle.std.proofs.Common.{ap, ◌∙◌, arith, lit<, lit≤}
 use Rattle.laws.specs.Below.{lowest, count}
 use Rattle.laws.specs.Changes.{upd, patch}
 use Rattle.laws.specs.Laws.Tests.{eq_false, cond_false}
 use Rattle.laws.specs.Numbers.{at16, big_endian, high_byte}
 use Rattle.laws.specs.Options.{or_else}
-use Rattle.sector_rules.specs.declared.Fault.TheVariants.{Sound}
 use Rattle.sector_rules.specs.Faults.{fault_below}
 use Rattle.sector_rules.specs.Geometry.{image_bytes}
 use Rattle.sector_rules.specs.Replies.{reply_with}
@@ -43,7 +42,7 @@ unfoldable track_after_header : Disk → FirstTrack
 track_after_header d = unless (or_else (or_else (refusal9 d) (refusal19 d)) (refusal11 d)) refused_track (counted d)
 
 -- where the header is right, they decide
-past_header : (d : Disk) → disk_header_fault d ≡ Sound → judged_first d ≡ track_after_header d
+past_header : (d : Disk) → disk_header_fault d ≡ None → judged_first d ≡ track_after_header d
 unfolding judged_first track_after_header start_refusal or_else
 past_header d e = rw (header_none d e) refl
 

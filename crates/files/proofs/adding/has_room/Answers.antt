@@ -3,7 +3,6 @@
 -- opens_block.
 -- Assumes nothing.
 use mathlib.Core.Path.{sym, ◌∙◌}
-use Rattle.files.specs.Laws.Loading.Loaded.{free_loaded}
 use Rattle.files.specs.Laws.Calling.SoundDisk.{room_none, room_opens, room_keeps}
 use Rattle.files.proofs.adding.has_room.Goals as goal
 
@@ -12,8 +11,8 @@ returns-then-size-gt-IMAGE_BYTES c = room_none _ _ _ c.if-size-gt-IMAGE_BYTES.tr
 
 pub returns-then-opens_block : goal.returns-then-opens_block
 returns-then-opens_block c = room_opens _ _ _ _ _ (sym c.opens_block.ensures ∙ c.if-opens_block.true) c.blocks_for-wanted.ensures.0
-    (c.count_free-free.ensures.0 ∙ free_loaded _ _ c.requires)
+    c.count_free-free.ensures.0
 
 pub returns : goal.returns
 returns c = room_keeps _ _ _ _ _ (sym c.opens_block.ensures ∙ c.if-opens_block.false) c.blocks_for-wanted.ensures.0
-    (c.count_free-free.ensures.0 ∙ free_loaded _ _ c.requires)
+    c.count_free-free.ensures.0

@@ -1,17 +1,16 @@
--- `call_items` meets its contract: the items before place p are done and left the image; no item is wrong, and item n begins there.
+-- `call_items` meets its contract: the items before the list that is left are done and left the image; no item is wrong, and item n begins it.
+use Rattle.std.specs.Prelude.{None}
 use mathlib.Core.Path.{◌≡◌}
-use Prim.Native.Nat.{◌+◌, ◌-◌, ◌≤◌}
+use Prim.Native.Nat.{◌+◌, ◌≤◌}
 use lib.ListN.{length}
-use Rattle.sector_rules.specs.declared.Fault.TheVariants.{Sound}
-use Rattle.file_rules.specs.Items.{read_items}
+use Rattle.file_rules.specs.Items.{read_items, items_from}
 use Rattle.file_rules.specs.Batch.{batch_of}
-use Rattle.files.specs.Laws.Calling.Items.{items_at, list_fault}
-use Rattle.files.specs.Laws.Calling.Items.{in_turn}
+use Rattle.files.specs.Laws.Calling.Items.{list_fault, in_turn}
 use Rattle.files.proofs.batching.call_items.Given as goal
 
-abbrev pub invariant-loop-p : goal.invariant-loop-p
-invariant-loop-p l = (l.p ≤ length l.list) × (l.n ≤ l.p + 1) × (length l.image ≡ length l.initial.image)
-    × (list_fault (items_at l.n l.p l.list) ≡ Sound) × (batch_of l.initial.image (read_items l.list) ≡ in_turn l.image l.n (items_at l.n l.p l.list))
+abbrev pub invariant-loop-item : goal.invariant-loop-item
+invariant-loop-item l = (l.n + length l.rest ≤ length l.list + 1) × (length l.image ≡ length l.initial.image)
+    × (list_fault (items_from l.n 0 l.rest) ≡ None) × (batch_of l.initial.image (read_items l.list) ≡ in_turn l.image l.n (items_from l.n 0 l.rest))
 
-abbrev pub decreases-loop-p : goal.decreases-loop-p
-decreases-loop-p l = length l.list - l.p
+abbrev pub decreases-loop-item : goal.decreases-loop-item
+decreases-loop-item l = length l.rest

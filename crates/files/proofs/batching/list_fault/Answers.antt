@@ -1,40 +1,38 @@
--- `list_fault` meets its contract: no item before place p is wrong, and item n begins there.
--- Rests on: the laws in Calling/Items; the contracts of item_right and item_size.
+-- `list_fault` meets its contract: no item before the list that is left is wrong, and item n begins it.
+-- Rests on: the laws in Calling/Items; the contract of split_item.
 -- Assumes nothing.
-use mathlib.Core.Path.{sym, ◌∙◌}
-use Prim.Native.Nat.{◌+◌, ◌≤◌}
-use native.Mathlib.Omega.{arith}
+use mathlib.Core.Path.{◌≡◌, sym, ap, ◌∙◌}
+use mathlib.Core.List.{List}
+use Prim.Native.Nat.{ℕ, ◌+◌, ◌<◌}
 use lib.ListN.{length}
-use Rattle.files.specs.Laws.Calling.Items.{fault_start, fault_end, fault_at, fault_next, next_within}
+use native.Mathlib.Omega.{arith}
+use Rattle.std.proofs.Common.{rules, tests}
+use Rattle.file_rules.specs.Items.{items_from}
+use Rattle.files.specs.Laws.Calling.Items.{list_fault, fault_start, fault_end, fault_at, fault_next, next_shorter}
 use Rattle.files.proofs.batching.list_fault.Goals as goal
 
--- the next item ends within the list
-within : (c : goal.After-item_size-p) → (1 ≤ c.item_size-p.result) × (c.loop-p.p + c.item_size-p.result ≤ length c.args.list.now)
-within c =
-    next_within c.loop-p.n c.loop-p.p c.args.list.now (omega arith)
-    (sym c.item_right.ensures ∙ c.if-not-item_right.false) _ c.item_size-p.ensures
+pub loop-rest-init : goal.loop-rest-init
+loop-rest-init c = (omega arith, fault_start _)
 
-pub loop-p-init : goal.loop-p-init
-loop-p-init c = (omega arith, omega arith, fault_start _)
+pub returns-in-None : goal.returns-in-None
+returns-in-None c =
+    let left : 0 < length c.loop-rest.rest.now = search (rules, tests) in
+    sym (c.loop-rest.invariant.1 ∙ fault_at c.loop-rest.n c.loop-rest.rest.now left c.in-None.ensures)
 
-pub returns-then-not-item_right : goal.returns-then-not-item_right
-returns-then-not-item_right c = sym (c.loop-p.invariant.2 ∙ fault_at c.loop-p.n c.loop-p.p c.args.list.now (omega arith) (sym c.item_right.ensures
-    ∙ c.if-not-item_right.true))
+pub overflow_add-n : goal.overflow_add-n
+overflow_add-n c = omega (arith, c.loop-rest.invariant.0, next_shorter c.loop-rest.n c.loop-rest.rest.now c.in-Some.ensures.0)
 
-pub overflow_add-p : goal.overflow_add-p
-overflow_add-p c = omega (arith, (within c).0, (within c).1)
+pub loop-rest-smaller : goal.loop-rest-smaller
+loop-rest-smaller c = omega (arith, ap length c.in-Some.ensures.2, next_shorter c.loop-rest.n c.loop-rest.rest.now c.in-Some.ensures.0)
 
-pub loop-p-smaller : goal.loop-p-smaller
-loop-p-smaller c = omega (arith, (within c).0, (within c).1)
-
-pub loop-p-preserved : goal.loop-p-preserved
-loop-p-preserved c = (
-  omega (arith, (within c).1),
-  omega (arith, (within c).0),
-  c.loop-p.invariant.2 ∙ fault_next c.loop-p.n c.loop-p.p c.args.list.now (omega arith)
-      (sym c.item_right.ensures ∙ c.if-not-item_right.false)
-      _ c.item_size-p.ensures,
+pub loop-rest-preserved : goal.loop-rest-preserved
+loop-rest-preserved c = (
+  omega (arith, c.loop-rest.invariant.0, ap length c.in-Some.ensures.2, next_shorter c.loop-rest.n c.loop-rest.rest.now c.in-Some.ensures.0),
+  c.loop-rest.invariant.1 ∙ fault_next c.loop-rest.n c.loop-rest.rest.now c.in-Some.ensures.0
+      ∙ ap (λ (m : List ℕ). list_fault (items_from (c.loop-rest.n + 1) 0 m)) (sym c.in-Some.ensures.2),
 )
 
 pub returns : goal.returns
-returns c = sym (c.loop-p.invariant.2 ∙ fault_end _ _ _ (omega arith))
+returns c =
+    let none : length c.loop-rest.rest.now ≡ 0 = search (rules, tests) in
+    sym (c.loop-rest.invariant.1 ∙ fault_end c.loop-rest.n c.loop-rest.rest.now none)

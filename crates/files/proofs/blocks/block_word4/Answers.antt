@@ -1,9 +1,9 @@
 -- `block_word4` meets its contract.
--- Rests on: the laws in laws::Numbers; the contract of wide.
+-- Rests on: the laws in laws::Numbers; the contract of block_byte.
 -- Assumes nothing.
-use borrow.Author.Rules.{rules}
+use Rattle.std.proofs.Common.{arith}
 use Rattle.laws.specs.Laws.Numbers.{at32_is}
 use Rattle.files.proofs.blocks.block_word4.Goals as goal
 
 pub returns : goal.returns
-returns c = rw at32_is (search rules)
+returns c = rw at32_is (omega arith)

@@ -1,22 +1,38 @@
--- `load_chains` meets its contract: the last i blocks are chained.
--- Rests on: the laws in Loading/Chains; the contracts of map_record and bearer.
+-- `load_chains` meets its contract: the blocks from b on are chained.
+-- Rests on: the laws in Loading/Chains; the contracts of loaded_record and bearer.
 -- Assumes nothing.
-use mathlib.Core.Path.{◌≡◌}
-use Prim.Native.Nat.{◌-◌}
-use Rattle.sector_rules.specs.Geometry.{blocks}
-use Rattle.files.specs.Laws.Loading.Chains.{chain_more}
-use native.Mathlib.Omega.{arith}
+use Rattle.std.proofs.Common.{◌≡◌, arith, sym, ◌∙◌, ap}
+use Rattle.files.specs.Laws.Loading.Chains.{bearer, bearer_told, chain_more, chain_skip}
 use Rattle.files.proofs.chains.load_chains.Goals as goal
 
-pub loop-i-init : goal.loop-i-init
-loop-i-init c = (omega arith, c.requires)
+pub loop-b-init : goal.loop-b-init
+loop-b-init c = (omega arith, c.requires)
 
-pub loop-i-preserved : goal.loop-i-preserved
-loop-i-preserved c = (
+pub offset_bounds-chains-f : goal.offset_bounds-chains-f
+offset_bounds-chains-f c = record { fits = omega (arith, (bearer_told _ _ (sym c.in-Some.ensures)).0) }
+
+pub bounds-chains-f : goal.bounds-chains-f
+bounds-chains-f c = (bearer_told _ _ (sym c.in-Some.ensures)).0
+
+pub offset_bounds-chains-f-in-Some : goal.offset_bounds-chains-f-in-Some
+offset_bounds-chains-f-in-Some c = record { fits = omega (arith, (bearer_told _ _ (sym c.in-Some.ensures)).0) }
+
+pub bounds-chains-f-in-Some : goal.bounds-chains-f-in-Some
+bounds-chains-f-in-Some c = (bearer_told _ _ (sym c.in-Some.ensures)).0
+
+pub loop-b-preserved-in-Some : goal.loop-b-preserved-in-Some
+loop-b-preserved-in-Some c = (
   omega arith,
-  chain_more _ _ _ _ _ _ (omega arith) (omega arith) (omega arith) c.loop-i.invariant.1 _
-      (rw c.map_record-m.ensures at c.bearer-f.ensures),
+  chain_more _ _ _ _ _ (omega arith) (omega arith) c.loop-b.invariant.1 _
+      (ap bearer (sym c.loaded_record.ensures) ∙ sym c.in-Some.ensures),
+)
+
+pub loop-b-preserved : goal.loop-b-preserved
+loop-b-preserved c = (
+  omega arith,
+  chain_skip _ _ _ _ _ (omega arith) (omega arith) c.loop-b.invariant.1
+      (ap bearer (sym c.loaded_record.ensures) ∙ sym c.bearer.ensures ∙ c.in_default.is),
 )
 
 pub returns : goal.returns
-returns c = let e : blocks - c.loop-i.i ≡ 0 = omega arith in rw e at c.loop-i.invariant.1
+returns c = let e : c.loop-b.b ≡ 0 = omega arith in rw e at c.loop-b.invariant.1

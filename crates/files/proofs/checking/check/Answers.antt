@@ -1,27 +1,17 @@
 -- `check` meets its contract.
--- Rests on: the laws in Judging/Verdict and file_rules::Base/OnSound; the contracts of sectors::refused,
--- load_map, judge and sectors::done.
+-- Rests on: the laws in Judging/SoundImage; the contract of sound_disk.
 -- Assumes nothing.
-use mathlib.Core.Path.{refl, sym, ◌∙◌}
+use Rattle.std.proofs.lemmas.Result.{err_from_is_err_and}
+use mathlib.Core.Path.{sym}
 use Rattle.file_rules.specs.Calls.{check}
-use Rattle.file_rules.proofs.Laws.Base.OnSound.{sound_length, sound_refused, sound_passed}
-use Rattle.files.specs.Laws.Judging.Verdict.{verdict_some, verdict_none}
+use Rattle.files.specs.Laws.Judging.SoundImage.{not_sound, sound_acts}
 use Rattle.files.proofs.checking.check.Goals as goal
 
-pub returns-then-image-ne-IMAGE_BYTES : goal.returns-then-image-ne-IMAGE_BYTES
+pub returns-in_err-sound_disk : goal.returns-in_err-sound_disk
 unfolding check
-returns-then-image-ne-IMAGE_BYTES c = c.refused.ensures ∙ sym (sound_length _ _ _ c.if-image-ne-IMAGE_BYTES.true)
+returns-in_err-sound_disk c = let p = err_from_is_err_and c.from_residual.result c.from_residual.ensures.1 in
+    rw (p.1, p.2) (sym (not_sound _ _ _ _ c.in_err-sound_disk.ensures))
 
-pub load_map-requires : goal.load_map-requires
-load_map-requires c = refl
-
-pub returns-in-Refused : goal.returns-in-Refused
+pub returns : goal.returns
 unfolding check
-returns-in-Refused c = sym
-    (sound_refused _ _ _ c.if-image-ne-IMAGE_BYTES.false _ (verdict_some _ _ (sym c.in-Refused.is ∙ c.judge.ensures)))
-
-pub returns-in-Passed : goal.returns-in-Passed
-unfolding check
-returns-in-Passed c = c.done.ensures ∙
-    sym (sound_passed _ _ _ c.if-image-ne-IMAGE_BYTES.false
-    (verdict_none _ (sym c.in-Passed.is ∙ c.judge.ensures)))
+returns c = sym (sound_acts _ _ _ _ c.in_ok-sound_disk.ensures c.in_ok-sound_disk.field-0.sound)

@@ -11,8 +11,8 @@ use Rattle.files.proofs.checking.is_listed.Goals as goal
 pub returns-then-f-end : goal.returns-then-f-end
 returns-then-f-end c = c.held_slot.ensures ∙
     sym (ap
-    (λ (b : Bool). b && held (disk_of c.args.image.now) c.args.f)
+    (λ (b : Bool). b && held (disk_of c.args.dir.now.disk.now.image.now) c.args.f)
     (lt_true c.if-f-end.true))
 
-pub returns : goal.returns
-returns c = sym (ap (λ (b : Bool). b && held (disk_of c.args.image.now) c.args.f) (lt_false c.if-f-end.false))
+pub returns-else-f-end : goal.returns-else-f-end
+returns-else-f-end c = let e = lt_false c.if-f-end.false in e ∙ sym (ap (λ (b : Bool). b && held (disk_of c.args.dir.now.disk.now.image.now) c.args.f) e)

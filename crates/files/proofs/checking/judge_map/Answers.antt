@@ -1,11 +1,17 @@
 -- `judge_map` meets its contract.
--- Rests on: the laws in Judging/Sound; the contracts of map_fault and sectors::refused.
+-- Rests on: the laws in Judging/Sound and laws::FirstBelow; the contract of map_fault.
 -- Assumes nothing.
+use Rattle.std.proofs.Common.{◌∙◌, sym, arith}
+use Rattle.laws.specs.Laws.FirstBelow.{first_lowest, none_lowest}
 use Rattle.files.specs.Laws.Judging.Sound.{refused_map, passed_map}
 use Rattle.files.proofs.checking.judge_map.Goals as goal
 
-pub returns-then-b-lt-BLOCKS : goal.returns-then-b-lt-BLOCKS
-returns-then-b-lt-BLOCKS c = rw c.refused.ensures (refused_map _ _ c.map_fault-b.ensures.0 c.if-b-lt-BLOCKS.true)
+pub returns-in-Some : goal.returns-in-Some
+returns-in-Some c =
+    let e = first_lowest _ _ _ (sym c.map_fault.ensures ∙ c.in-Some.is) in
+    refused_map _ _ (sym e.1) e.0
 
-pub returns : goal.returns
-returns c = passed_map _ _ c.map_fault-b.ensures.0 c.if-b-lt-BLOCKS.false
+pub returns-in-None : goal.returns-in-None
+returns-in-None c =
+    let e = none_lowest _ _ (sym c.map_fault.ensures ∙ c.in-None.is) in
+    passed_map _ _ (sym e) (omega arith)

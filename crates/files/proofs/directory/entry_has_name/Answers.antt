@@ -1,36 +1,28 @@
--- `entry_has_name` meets its contract: the first i bytes are equal once they are lowered.
--- Rests on: the laws in Loading/Slots; the contracts of name_length, fields::byte and bytes_agree.
+-- `entry_has_name` meets its contract: names of one length, compared byte by byte.
+-- Rests on: the laws in laws::Ranges and Loading/Slots; the contracts of name_length, fields::byte and lowered_byte.
 -- Assumes nothing.
-use mathlib.Core.Path.{sym, ap, ◌∙◌}
-use native.Mathlib.Omega.{arith}
-use borrow.Author.Count.{below_none, below_more}
+use mathlib.Core.Path.{sym, ◌∙◌}
+use Prim.Native.Nat.{ℕ, ◌+◌}
+use lib.Dec.{eqb}
+use Rattle.std.proofs.Common.{rules, tests}
+use Rattle.std.proofs.lemmas.Iterator.{YieldsList-from_slice}
+use Rattle.std.proofs.lemmas.Iterator.Consumers.{YieldsList-from_enumerate, YieldsList-at}
+use Rattle.std.proofs.lemmas.Iterator.Search.{all_from_yields_List}
 use Rattle.laws.specs.Lists.{element_at}
-use Rattle.laws.specs.Laws.Tests.{eq_true, true_eq, true≢false}
+use Rattle.laws.specs.Laws.Tests.{eq_false}
+use Rattle.laws.specs.Laws.Ranges.{all_enumerated}
 use Rattle.file_rules.specs.Directory.{lowered}
-use Rattle.files.specs.Laws.Loading.Slots.{name_other_length, name_other, name_equal}
+use Rattle.files.specs.Laws.Loading.Slots.{name_other_length, name_compared}
 use Rattle.files.proofs.directory.entry_has_name.Goals as goal
 
 pub returns-then-name_length-name : goal.returns-then-name_length-name
-returns-then-name_length-name c = name_other_length _ _ _ (λ e. c.if-name_length-name.true (c.name_length.ensures ∙ e))
-
-pub loop-i-init : goal.loop-i-init
-loop-i-init c = (omega arith, below_none _)
-
-pub returns-then-not-bytes_agree : goal.returns-then-not-bytes_agree
 unfolding element_at
-returns-then-not-bytes_agree c = name_other c.args.image.now c.args.at c.args.name.now
-    (sym c.name_length.ensures ∙ c.if-name_length-name.false) c.loop-i.i (omega arith)
-    (λ e.
-    true≢false _ (eq_true (ap lowered c.byte.ensures ∙ e)) (sym c.bytes_agree.ensures ∙ c.if-not-bytes_agree.true))
+returns-then-name_length-name c =
+    let test = λ (p : ℕ × ℕ). eqb (lowered (element_at c.args.image.now (c.args.at + 16) p.0)) (lowered p.1) in
+    all_from_yields_List test _ _ c.all.result c.all.ensures.ran
+    (YieldsList-from_enumerate (YieldsList-at c.enumerate.ensures.source (YieldsList-from_slice c.args.name.now (cc))) (cc)) (λ x b q k. search (rules, tests))
+    ∙ all_enumerated test c.args.name.now 0
+    ∙ name_compared c.args.image.now c.args.at c.args.name.now (sym c.name_length.ensures ∙ c.if-name_length-name.true)
 
-pub loop-i-preserved : goal.loop-i-preserved
-unfolding element_at
-loop-i-preserved c = (
-  omega arith,
-  below_more _ _ c.loop-i.invariant.1
-      (sym (ap lowered c.byte.ensures) ∙ true_eq (sym c.bytes_agree.ensures ∙ c.if-not-bytes_agree.false)),
-)
-
-pub returns : goal.returns
-returns c = name_equal _ _ _ (sym c.name_length.ensures ∙ c.if-name_length-name.false)
-    (λ k h. c.loop-i.invariant.1 k (omega arith))
+pub returns-else-name_length-name : goal.returns-else-name_length-name
+returns-else-name_length-name c = eq_false c.if-name_length-name.false ∙ name_other_length _ _ _ (λ e. c.if-name_length-name.false (c.name_length.ensures ∙ e))

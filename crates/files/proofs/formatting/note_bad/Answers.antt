@@ -1,28 +1,21 @@
--- `note_bad` meets its contract: the entries below i are tallied.
--- Rests on: the laws in Loading/Tally and Calling/BadNoted; the contracts of block_number and more.
+-- `note_bad` meets its contract: the entries before this one are noted.
+-- Rests on: the laws in Calling/BadNoted.
 -- Assumes nothing.
 use mathlib.Core.Path.{◌≡◌}
 use native.Mathlib.Omega.{arith}
 use lib.ListN.{length}
-use Rattle.files.specs.Laws.Loading.Tally.{tally_more}
-use Rattle.files.specs.Laws.Calling.BadNoted.{entry_block}
+use Rattle.files.specs.Laws.Calling.BadNoted.{entry_block, noted_start, noted_next}
 use Rattle.files.proofs.formatting.note_bad.Goals as goal
 
-pub loop-i-init : goal.loop-i-init
-loop-i-init c = (omega arith, c.requires.1)
+pub loop-b-init : goal.loop-b-init
+loop-b-init c = noted_start _
 
-pub bounds-noted-b : goal.bounds-noted-b
-bounds-noted-b c = omega (arith, c.block_number-b.ensures, entry_block c.args.bad.now c.requires.0 c.loop-i.i (omega arith))
-
-pub bounds-noted-b-in-loop-i : goal.bounds-noted-b-in-loop-i
-bounds-noted-b-in-loop-i c = omega (arith, c.block_number-b.ensures, entry_block c.args.bad.now c.requires.0 c.loop-i.i (omega arith))
-
-pub loop-i-preserved : goal.loop-i-preserved
-loop-i-preserved c = (
-  omega arith,
-  tally_more _ _ _ _ c.loop-i.invariant.1 _ c.block_number-b.ensures _
-      (omega (arith, c.block_number-b.ensures, entry_block c.args.bad.now c.requires.0 c.loop-i.i (omega arith))) c.more.ensures,
-)
+pub loop-b-preserved : goal.loop-b-preserved
+loop-b-preserved c = noted_next _ c.args.bad.now _ _ c.loop-b.invariant c.from.ensures
+    (omega (arith, c.from.ensures, entry_block c.args.bad.now c.requires c.loop-b.b-index (omega arith)))
 
 pub returns : goal.returns
-returns c = let e : c.loop-i.i ≡ length c.args.bad.now = omega arith in rw e at c.loop-i.invariant.1
+returns c = let e : c.loop-b.b-index ≡ length c.args.bad.now = omega arith in rw e at c.loop-b.invariant
+
+pub bounds-noted-from : goal.bounds-noted-from
+bounds-noted-from c = omega (arith, c.from.ensures, entry_block c.args.bad.now c.requires c.loop-b.b-index (omega arith))

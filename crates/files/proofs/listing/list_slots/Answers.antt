@@ -11,18 +11,16 @@ use Rattle.files.proofs.listing.list_slots.Goals as goal
 
 pub loop-k-init : goal.loop-k-init
 unfolding entries
-loop-k-init c = (omega arith, refl, refl, entries_none (disk_of c.args.image.now) _)
+loop-k-init c = (omega arith, refl, refl, entries_none (disk_of c.args.dir.now.disk.now.image.now) _)
 
 pub list_slot-c-requires : goal.list_slot-c-requires
 list_slot-c-requires c = (
-  c.requires.0,
   omega arith,
-  c.requires.2,
   omega (
     arith,
-    c.requires.3,
+    c.requires.1,
     c.loop-k.invariant.2,
-    entries_room (disk_of c.args.image.now) c.args.end c.loop-k.k
+    entries_room (disk_of c.args.dir.now.disk.now.image.now) c.args.end c.loop-k.k
         (omega arith),
   ),
 )

@@ -1,24 +1,18 @@
--- `name_hash` meets its contract: the hash of the first i bytes.
--- Rests on: the laws in Loading/NameHashes; the contracts of name_length, fields::byte, lowered_byte and wide.
+-- `name_hash` meets its contract: the hash of the bytes before this one.
+-- Rests on: the laws in Loading/NameHashes; the contract of lowered_byte.
 -- Assumes nothing.
-use mathlib.Core.Path.{◌≡◌, refl, ap, ◌∙◌}
+use mathlib.Core.Path.{◌≡◌, ◌∙◌}
+use lib.ListN.{length}
 use native.Mathlib.Omega.{arith}
-use Rattle.file_rules.specs.Directory.{lowered}
-use Rattle.files.specs.Laws.Loading.NameHashes.{row_hash, hash_more, hash_row}
+use Rattle.files.specs.Laws.Loading.NameHashes.{hash_start, hash_more, hash_whole}
 use Rattle.files.proofs.names.name_hash.Goals as goal
 
-pub loop-i-init : goal.loop-i-init
-unfolding row_hash
-loop-i-init c = (omega arith, omega arith, refl)
+pub loop-x-init : goal.loop-x-init
+loop-x-init c = (omega arith, hash_start _)
 
-pub loop-i-preserved : goal.loop-i-preserved
-loop-i-preserved c = (
-  omega arith,
-  omega arith,
-  hash_more _ _ _ _ _ c.loop-i.invariant.2
-      (c.wide.ensures.0 ∙ c.lowered_byte.ensures ∙ ap lowered c.byte.ensures),
-)
+pub loop-x-preserved : goal.loop-x-preserved
+loop-x-preserved c = (omega arith, hash_more c.args.name.now c.loop-x.x-index _ _ c.loop-x.invariant.1 (c.from.ensures ∙ c.lowered_byte.ensures))
 
 pub returns : goal.returns
-returns c = let e : c.loop-i.i ≡ c.name_length-n.result = omega arith in
-    (hash_row _ _ _ _ c.name_length-n.ensures (rw e at c.loop-i.invariant.2), c.loop-i.invariant.1)
+returns c = let e : c.loop-x.x-index ≡ length c.args.name.now = omega arith in
+    ((rw e at c.loop-x.invariant.1) ∙ hash_whole c.args.name.now, c.loop-x.invariant.0)

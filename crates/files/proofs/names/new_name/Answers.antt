@@ -1,22 +1,22 @@
--- `new_name` meets its contract: no slot below j is held and has the name.
--- Rests on: the laws in laws::All; the contract of slot_has_name.
+-- `new_name` meets its contract: no number below k is that of a held slot with the name.
+-- Rests on: the laws in laws::Ranges; the contract of slot_has_name.
 -- Assumes nothing.
-use mathlib.Core.Path.{sym, ap, ◌∙◌}
-use mathlib.Core.Bool.{not}
+use mathlib.Core.Path.{ap, ◌∙◌}
+use mathlib.Core.Bool.{not, ◌&&◌}
+use Prim.Native.Nat.{ℕ}
 use native.Mathlib.Omega.{arith}
-use borrow.Author.Count.{below_none, below_more}
-use Rattle.laws.specs.Laws.All.{all_is, all_false}
+use Rattle.std.proofs.Common.{rules, tests}
+use Rattle.std.proofs.lemmas.Iterator.{YieldsList-from_range}
+use Rattle.std.proofs.lemmas.Iterator.Search.{any_from_yields_List}
+use Rattle.laws.specs.Laws.Ranges.{none_listed}
+use Rattle.file_rules.specs.Disk.{disk_of}
+use Rattle.file_rules.specs.Directory.{name_eq, slot_name, held}
 use Rattle.files.proofs.names.new_name.Goals as goal
 
-pub loop-j-init : goal.loop-j-init
-loop-j-init c = (omega arith, below_none _)
-
-pub returns-then-slot_has_name : goal.returns-then-slot_has_name
-returns-then-slot_has_name c = sym (all_false _ c.args.k c.loop-j.j (omega arith)
-    (ap not (sym c.slot_has_name.ensures ∙ c.if-slot_has_name.true)))
-
-pub loop-j-preserved : goal.loop-j-preserved
-loop-j-preserved c = (omega arith, below_more _ _ c.loop-j.invariant.1 (ap not (sym c.slot_has_name.ensures ∙ c.if-slot_has_name.false)))
-
 pub returns : goal.returns
-returns c = sym (all_is _ c.args.k (λ i h. c.loop-j.invariant.1 i (omega arith)))
+returns c =
+    let disk = disk_of c.args.dir.now.disk.now.image.now in
+    let test = λ (j : ℕ). held disk j && name_eq (slot_name disk j) c.args.name.now in
+    ap not (any_from_yields_List test _ _ c.any.result c.any.ensures.ran (YieldsList-from_range 0 c.args.k c.args.k (cc) (omega arith))
+    (λ x b q k. search (rules, tests)))
+    ∙ none_listed test c.args.k

@@ -1,29 +1,33 @@
--- `file_blocks` meets its contract: the last i blocks are placed.
--- Rests on: the laws in Loading/Parts; the contracts of map_record and part_of.
+-- `file_blocks` meets its contract: the blocks from b on are placed.
+-- Rests on: the laws in Loading/Parts; the contracts of loaded_record and part_of.
 -- Assumes nothing.
-use mathlib.Core.Path.{◌≡◌, ap, ◌∙◌}
-use Prim.Native.Nat.{◌-◌}
-use Rattle.sector_rules.specs.Geometry.{blocks}
-use Rattle.file_rules.specs.declared.MapRecord.{MapRecord}
-use Rattle.files.specs.Laws.Loading.Parts.{part_of, from_part, from_other, from_all}
-use native.Mathlib.Omega.{arith}
+use Rattle.std.proofs.Common.{◌≡◌, arith, sym, ◌∙◌, ap}
+use Rattle.files.specs.Laws.Loading.Parts.{part_of, from_none, from_part, from_far, from_absent, from_all}
 use Rattle.files.proofs.parts.file_blocks.Goals as goal
-use Rattle.files.proofs.parts.file_blocks.Goals.{then-s-lt-BLOCKS, else-s-lt-BLOCKS}
 
-pub loop-i-init : goal.loop-i-init
-loop-i-init c = (omega arith, c.requires)
+pub loop-b-init : goal.loop-b-init
+loop-b-init c = (omega arith, from_none _ _)
 
-pub loop-i-preserved : goal.loop-i-preserved
-loop-i-preserved c = let q = c.part_of-s.ensures.0 ∙ ap (λ (m : MapRecord). part_of c.args.f blocks m.«record»)
-    c.map_record-m.ensures in (
-      omega arith,
-      elim c.if-s-lt-BLOCKS.branch [
-        | then-s-lt-BLOCKS w ↦ rw w.row-is
-            (from_part _ _ _ _ _ _ (omega arith) (omega arith) (omega arith) c.loop-i.invariant.1 _ q w.if-s-lt-BLOCKS.true)
-        | else-s-lt-BLOCKS w ↦ rw w.row-is
-            (from_other _ _ _ _ _ _ (omega arith) (omega arith) (omega arith) c.loop-i.invariant.1 _ q w.if-s-lt-BLOCKS.false)
-      ],
-    )
+pub loop-b-preserved-then-s-lt-BLOCKS : goal.loop-b-preserved-then-s-lt-BLOCKS
+loop-b-preserved-then-s-lt-BLOCKS c = (
+  omega arith,
+  from_part _ _ _ _ _ (omega arith) (omega arith) c.loop-b.invariant.1 _
+      (ap (part_of c.args.f) (sym c.loaded_record.ensures) ∙ sym c.in-Some.ensures) c.if-s-lt-BLOCKS.true,
+)
+
+pub loop-b-preserved-else-s-lt-BLOCKS : goal.loop-b-preserved-else-s-lt-BLOCKS
+loop-b-preserved-else-s-lt-BLOCKS c = (
+  omega arith,
+  from_far _ _ _ _ _ (omega arith) (omega arith) c.loop-b.invariant.1 _
+      (ap (part_of c.args.f) (sym c.loaded_record.ensures) ∙ sym c.in-Some.ensures) c.if-s-lt-BLOCKS.false,
+)
+
+pub loop-b-preserved : goal.loop-b-preserved
+loop-b-preserved c = (
+  omega arith,
+  from_absent _ _ _ _ _ (omega arith) (omega arith) c.loop-b.invariant.1
+      (ap (part_of c.args.f) (sym c.loaded_record.ensures) ∙ sym c.part_of.ensures ∙ c.in_default.is),
+)
 
 pub returns : goal.returns
-returns c = let e : blocks - c.loop-i.i ≡ 0 = omega arith in from_all _ _ _ (rw e at c.loop-i.invariant.1)
+returns c = let e : c.loop-b.b ≡ 0 = omega arith in from_all _ _ _ (rw e at c.loop-b.invariant.1)

@@ -1,11 +1,8 @@
--- `file_blocks` meets its contract: the last i blocks are placed.
-use Prim.Native.Nat.{◌-◌, ◌≤◌}
+-- `file_blocks` meets its contract: the blocks from b on are placed.
+use Rattle.std.proofs.Common.{◌≤◌}
 use Rattle.sector_rules.specs.Geometry.{blocks}
 use Rattle.files.specs.Laws.Loading.Parts.{PartsFrom}
 use Rattle.files.proofs.parts.file_blocks.Given as goal
 
-abbrev pub invariant-loop-i : goal.invariant-loop-i
-invariant-loop-i l = (l.i ≤ blocks) × PartsFrom l.row l.map l.f (blocks - l.i)
-
-abbrev pub decreases-loop-i : goal.decreases-loop-i
-decreases-loop-i l = blocks - l.i
+abbrev pub invariant-loop-b : goal.invariant-loop-b
+invariant-loop-b l = (l.b ≤ blocks) × PartsFrom l.row l.map l.f l.b

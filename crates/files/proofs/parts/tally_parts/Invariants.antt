@@ -1,17 +1,16 @@
--- `tally_parts` meets its contract: the records below b are counted, and b bears the file.
-use mathlib.Core.Path.{◌≡◌}
-use mathlib.Core.Bool.{true}
-use Prim.Native.Nat.{ℕ, suc, ◌-◌, ◌≤◌, ◌<◌}
+-- `tally_parts` meets its contract: the records before the block that the walk is at are counted.
+use Rattle.std.proofs.Common.{ℕ, ◌-◌, Option, Some, None}
 use Rattle.sector_rules.specs.Geometry.{blocks}
-use Rattle.file_rules.specs.Map.{sequences, bears}
-use Rattle.files.specs.Laws.Loading.Loaded.{loaded_record}
-use Rattle.files.specs.Laws.Loading.Tally.{Tallied}
-use Rattle.files.specs.Laws.Loading.Parts.{part_of}
+use Rattle.files.specs.Laws.Loading.Chains.{TalliedTo}
 use Rattle.files.proofs.parts.tally_parts.Given as goal
 
-abbrev pub invariant-loop-b : goal.invariant-loop-b
-invariant-loop-b l = (l.b ≤ blocks) × Tallied l.tally (suc blocks) (λ (j : ℕ). part_of l.f l.n (loaded_record l.map j)) l.b ×
-    (l.b < blocks → (l.f < sequences) × (bears l.f (loaded_record l.map l.b) ≡ true))
+-- how many blocks there are from the next of a file on
+abbrev blocks_left : Option ℕ → ℕ
+blocks_left (Some b) = blocks - b
+blocks_left None = 0
 
-abbrev pub decreases-loop-b : goal.decreases-loop-b
-decreases-loop-b l = blocks - l.b
+abbrev pub invariant-loop-at : goal.invariant-loop-at
+invariant-loop-at l = TalliedTo l.tally l.map l.f l.n l.at
+
+abbrev pub decreases-loop-at : goal.decreases-loop-at
+decreases-loop-at l = blocks_left l.at

@@ -5,4 +5,4 @@ use Rattle.files.specs.Laws.Loading.Records.{record_row}
 use Rattle.files.proofs.records.encoded_record.Goals as goal
 
 pub returns : goal.returns
-returns c = record_row _ _ c.number_of-n.ensures
+returns c = rw c.to_be_bytes.ensures (record_row _ _ c.number_of.ensures)

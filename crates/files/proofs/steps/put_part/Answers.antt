@@ -17,7 +17,7 @@ loop-p-preserved c = (
   omega arith,
   c.put_sector.auto.image ∙ c.loop-p.invariant.1,
   sector_next _ _ c.args.s
-      (stored_row c.args.head.now c.args.content.now) c.loop-p.p _ _ c.loop-p.invariant.2 c.put_sector.ensures,
+      (stored_row c.args.file.now.head.now c.args.file.now.content.now) c.loop-p.p _ _ c.loop-p.invariant.2 c.put_sector.ensures,
 )
 
 pub returns : goal.returns

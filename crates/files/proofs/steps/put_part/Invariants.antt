@@ -10,7 +10,7 @@ use Rattle.files.proofs.steps.put_part.Given as goal
 
 abbrev pub invariant-loop-p : goal.invariant-loop-p
 invariant-loop-p l = (l.p ≤ block_sectors) × (length l.image ≡ image_bytes) ×
-    (l.image ≡ image_of (patched (disk_of l.initial.image) l.b 0 (l.p * 512) (λ (i : ℕ). stored_row l.head l.content (l.s * 1536 + i))))
+    (l.image ≡ image_of (patched (disk_of l.initial.image) l.b 0 (l.p * 512) (λ (i : ℕ). stored_row l.file.head.now l.file.content.now (l.s * 1536 + i))))
 
 abbrev pub decreases-loop-p : goal.decreases-loop-p
 decreases-loop-p l = block_sectors - l.p

@@ -1,5 +1,5 @@
 -- `set_end` meets its contract.
--- Rests on: the laws in Writing/Steps; the contract of put_word2.
+-- Rests on: the laws in Writing/Steps; the contract of put_word.
 -- Assumes nothing.
 use Rattle.files.specs.Laws.Writing.Steps.{end_written}
 use Rattle.file_rules.specs.Written.{set_word}
@@ -7,4 +7,4 @@ use Rattle.files.proofs.steps.set_end.Goals as goal
 
 pub returns : goal.returns
 unfolding set_word
-returns c = end_written _ _ _ _ c.put_word2.ensures c.put_word2-2.ensures
+returns c = end_written _ _ _ _ c.put_word.ensures c.put_word-2.ensures

@@ -1,13 +1,14 @@
 -- `judge_track` meets its contract.
--- Rests on: the laws in Judging/Verdict; the contracts of judge_start and judge_free.
+-- Rests on: the laws in laws::Options; the contracts of judge_start and judge_free.
 -- Assumes nothing.
+use Rattle.std.proofs.lemmas.Result.{err_from_is_err_and}
 use mathlib.Core.Path.{sym, ◌∙◌}
-use Rattle.files.specs.Laws.Judging.Verdict.{verdict_or_some, verdict_or_none}
+use Rattle.laws.specs.Laws.Options.{or_there, or_absent}
 use Rattle.files.proofs.track.judge_track.Goals as goal
 
-pub returns-in-Refused : goal.returns-in-Refused
-returns-in-Refused c = verdict_or_some _ _ _ (sym c.in-Refused.is ∙ c.judge_start.ensures)
+pub returns-in_err-judge_start : goal.returns-in_err-judge_start
+returns-in_err-judge_start c = let p = err_from_is_err_and c.from_residual.result c.from_residual.ensures.1 in
+    rw (p.1, p.2) (sym (or_there _ _ _ (sym c.in_err-judge_start.ensures)))
 
-pub returns-in-Passed : goal.returns-in-Passed
-returns-in-Passed c = c.judge_free.ensures ∙
-    sym (verdict_or_none _ _ (sym c.in-Passed.is ∙ c.judge_start.ensures))
+pub returns : goal.returns
+returns c = c.judge_free.ensures ∙ sym (or_absent _ _ (sym c.in_ok-judge_start.ensures))

@@ -1,6 +1,6 @@
 -- List and read: the parts of which the result is made, one after the other, and read by its cases.
 -- Rests on slots as rows (Loading.Slots) and on the laws of written rows (laws, Overlay).
-use Rattle.std.specs.Prelude.{◌≡◌, true, false, cond}
+use Rattle.std.specs.Prelude.{◌≡◌, true, false, cond, Some, None}
 use Rattle.std.proofs.Math.Path.{refl, sym, ap}
 use Rattle.std.proofs.Common.{ap₂, ◌∙◌, zero-add, not-suc-le-zero, add-one, arith}
 use mathlib.Core.List.{List, [], ◌++◌}
@@ -12,17 +12,16 @@ use Rattle.laws.specs.Below.{count}
 use Rattle.laws.specs.Laws.Cases.{by_equal, by_test}
 use Rattle.laws.specs.Laws.Tests.{lt_true, lt_false, le_true, le_false, cond_true, cond_false}
 use Rattle.laws.specs.Laws.Tab.{tab_length}
-use Rattle.laws.specs.Laws.Overlay.{overlay_none, overlay_cong, overlay_length, put_append, put_tab}
+use Rattle.laws.specs.Laws.Overlay.{overlay_none, overlay_length, put_append, put_tab}
 use Rattle.laws.specs.Laws.Count.{count_yes, count_no}
 use Rattle.sector_rules.specs.declared.Reply.{Reply}
 use Rattle.sector_rules.specs.Replies.{reply_with, refusal}
-use Rattle.sector_rules.specs.Geometry.{image_bytes}
-use Rattle.file_rules.specs.Sizes.{block_bytes, slot_bytes, slot_count}
-use Rattle.file_rules.specs.Disk.{Disk, disk_of}
+use Rattle.file_rules.specs.Sizes.{block_bytes, slot_bytes}
+use Rattle.file_rules.specs.Disk.{Disk}
 use Rattle.file_rules.specs.Map.{part_block, file_byte}
-use Rattle.file_rules.specs.Directory.{name_right, slot_byte, slot_entry, held, dir_end, find_name}
+use Rattle.file_rules.specs.Directory.{name_right, slot_byte, slot_entry, held, dir_end}
 use Rattle.file_rules.specs.Calls.{Outcome, buffer_kept, deliver, entries, data_of, read_sound}
-use Rattle.files.specs.Laws.Loading.Slots.{Located, slot_place, slot_row}
+use Rattle.files.specs.Laws.Loading.Slots.{named_slot, searched_slot, found_none}
 
 -- ---- put, one list after the other
 
@@ -81,15 +80,10 @@ module _ (d : Disk) where
       (λ q. rw q (omega (arith, entries_step n)))
       (λ q. omega (arith, entries_step n, entries_room n k (omega arith)))
 
--- a held slot copied from its row
-pub part_put : (image dir : List ℕ) (k : ℕ) → length image ≡ image_bytes → k < slot_count → Located dir (disk_of image) → held (disk_of image) k ≡ true
-    → (out : List ℕ) (c at : ℕ) → at ≡ slot_place dir k → overlay out c slot_bytes (element_at image at) ≡ put out c (slot_part (disk_of image) k)
+-- the bytes of a held slot are its part of the list
+pub part_row : (d : Disk) (k : ℕ) → held d k ≡ true → tab (slot_byte d k) slot_bytes ≡ slot_part d k
 unfolding slot_part
-part_put image dir k long hk l t out c at e =
-    overlay_cong out c slot_bytes (element_at image at) (slot_byte (disk_of image) k)
-    (λ i h. ap (λ (x : ℕ). element_at image x i) e ∙ sym (slot_row image dir k long hk l i h))
-    ∙ sym (put_tab out c (slot_byte (disk_of image) k) slot_bytes)
-    ∙ ap (put out c) (sym (cond_true (tab (slot_byte (disk_of image) k) slot_bytes) [] t))
+part_row d k t = sym (cond_true (tab (slot_byte d k) slot_bytes) [] t)
 
 -- ---- delivery
 
@@ -154,16 +148,16 @@ module _ (d : Disk) (name buf : List ℕ) where
   unfolding read_sound
   read_misnamed t = cond_false _ _ t
 
-  module _ (t : name_right name ≡ true) (k : ℕ) (e : k ≡ find_name d name) (end : ℕ) (q : end ≡ dir_end d) where
+  module _ (t : name_right name ≡ true) where
     -- a read of a name that no slot has is refused with 14
-    pub read_absent : end ≤ k → read_sound d name buf ≡ buffer_kept buf (refusal 14)
+    pub read_absent : named_slot d name ≡ None → read_sound d name buf ≡ buffer_kept buf (refusal 14)
     unfolding read_sound
-    read_absent h = rw (t, ← e, ← q, lt_false h)
+    read_absent e = rw (t, found_none d name e, lt_false {a = dir_end d} {b = dir_end d} (omega arith))
 
     -- a read of a slot's name delivers its data
-    pub read_present : k < end → read_sound d name buf ≡ deliver (data_of d k) buf
+    pub read_present : (k : ℕ) → named_slot d name ≡ Some k → read_sound d name buf ≡ deliver (data_of d k) buf
     unfolding read_sound
-    read_present h = rw (t, ← e, ← q, lt_true h)
+    read_present k e = let f = searched_slot d name k e in rw (t, f.1, lt_true f.0)
 
 -- ---- what a call that reads gave, by its refusal or by what it is equal to
 

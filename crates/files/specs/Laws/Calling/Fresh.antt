@@ -1,9 +1,8 @@
 -- A fresh disk as it is written: zeros, then the header's 96 bytes, then the records from block 0 upwards.
 -- Rests on rows and steps (Writing) and on a whole disk (file_rules, Laws.Base.Whole).
-use Rattle.std.specs.Prelude.{◌≡◌, ◌≢◌, true, false, List, [], ◌∷◌, leb, length}
+use Rattle.std.specs.Prelude.{◌≡◌, ◌≢◌, Bool, true, false, List, [], ◌∷◌, leb, length}
 use Rattle.std.proofs.Math.Path.{refl, sym, ap, ap₂, subst}
 use Rattle.std.proofs.Common.{◌∙◌, zero-add, not-suc-le-zero, le_of_suc-le-suc, add-one}
-use Rattle.std.proofs.Math.Bool.{not}
 use Prim.Native.Nat.{ℕ, zero, suc, ◌+◌, ◌-◌, ◌*◌, ◌/◌, ◌%◌, ◌≤◌, ◌<◌}
 use native.Mathlib.Omega.{arith}
 use Rattle.std.proofs.Math.ListN.{get_or, get_or-eq_default}
@@ -233,7 +232,7 @@ module _ (d : Disk) (owner : ℕ → Record) where
       patch_below (with_records d owner n 0) (map_start + record_bytes * n) record_bytes (encode (owner n)) (map_start + record_bytes * b + i) (omega arith)
       ∙ records_at n b i (omega arith) k)
 
-module _ (noted : List ℕ) where
+module _ (noted : List Bool) where
   -- record 0 of a fresh disk is the system's
   pub fresh_zero : (b : ℕ) → b ≡ 0 → System ≡ fresh_record noted b
   unfolding fresh_record
@@ -245,18 +244,18 @@ module _ (noted : List ℕ) where
   fresh_one b e = ap (fresh_record noted) (sym e)
 
   -- of all others those that are tallied are bad
-  pub fresh_bad : (b : ℕ) → b ≢ 0 → b ≢ 1 → get_or noted b 0 ≢ 0 → Bad ≡ fresh_record noted b
+  pub fresh_bad : (b : ℕ) → b ≢ 0 → b ≢ 1 → get_or noted b false ≡ true → Bad ≡ fresh_record noted b
   unfolding fresh_record is_noted
   fresh_bad zero p q h = absurd (p refl)
   fresh_bad (suc zero) p q h = absurd (q refl)
-  fresh_bad (suc (suc b)) p q h = sym (cond_true Bad Free (ap not (eq_false h)))
+  fresh_bad (suc (suc b)) p q h = sym (cond_true Bad Free h)
 
   -- and those that are not are free
-  pub fresh_free : (b : ℕ) → b ≢ 0 → b ≢ 1 → get_or noted b 0 ≡ 0 → Free ≡ fresh_record noted b
+  pub fresh_free : (b : ℕ) → b ≢ 0 → b ≢ 1 → get_or noted b false ≡ false → Free ≡ fresh_record noted b
   unfolding fresh_record is_noted
   fresh_free zero p q h = absurd (p refl)
   fresh_free (suc zero) p q h = absurd (q refl)
-  fresh_free (suc (suc b)) p q h = sym (cond_false Bad Free (ap not (eq_true h)))
+  fresh_free (suc (suc b)) p q h = sym (cond_false Bad Free h)
 
   -- the records of a fresh disk fit their three bytes
   pub fresh_fits : (b : ℕ) → FitsRecord (fresh_record noted b)
@@ -274,7 +273,7 @@ zero_image : tab (λ (i : ℕ). 0) image_bytes ≡ image_of nothing
 unfolding image_of
 zero_image = refl
 
-module _ (args : FormatArguments) (noted : List ℕ) (is : BadNoted noted args.bad) where
+module _ (args : FormatArguments) (noted : List Bool) (is : BadNoted noted args.bad) where
   abbrev H : ℕ → ℕ
   H = fresh_header args
 

@@ -1,6 +1,6 @@
 -- A sound disk has a vacant slot that fits a record. Whether there is room; add and remove case by case.
 -- Rests on what a sound disk has (file_rules, Base.Ends), on what numbers say (Loading.Records) and on rows that are written (Writing.Steps).
-use Rattle.std.specs.Prelude.{◌≡◌, refl, true, ◌&&◌, List, leb, eqb, length, get_or}
+use Rattle.std.specs.Prelude.{◌≡◌, refl, true, ◌&&◌, List, Some, None, leb, eqb, length, get_or}
 use Rattle.std.proofs.Common.{sym, ap, ap₂, ◌∙◌, add-one, arith}
 use Rattle.std.proofs.Math.Bool.{Bool, false, not}
 use Rattle.std.proofs.Math.Option.{none}
@@ -24,7 +24,8 @@ use Rattle.sector_rules.specs.Replies.{reply_with, done, refusal}
 use Rattle.sector_rules.specs.declared.Reply.{Reply}
 use Rattle.file_rules.specs.Calls.{DiskChanged, ImageChanged, disk_kept, image_kept, opens_block, needed, add_at, add_sound, remove_at, remove_sound, imaged}
 use Rattle.file_rules.specs.Check.{parts_right, entry_right, file_right, file_fault, new_name, disk_refusal}
-use Rattle.file_rules.specs.Directory.{name_right, entry_for, slot_entry, held, dir_end, find_name, vacant_slot}
+use Rattle.files.specs.Laws.Loading.Slots.{named_slot, searched_slot, found_none}
+use Rattle.file_rules.specs.Directory.{name_right, entry_for, slot_entry, held, dir_end, vacant_slot}
 use Rattle.file_rules.specs.Disk.{Disk, disk_of, image_of}
 use Rattle.file_rules.proofs.Laws.Base.Disk.{image_disk}
 use Rattle.files.specs.Laws.Loading.Records.{decode_none}
@@ -191,24 +192,39 @@ gave_done l c r d e h q =
       image = q ∙ sym (ap (λ (x : DiskChanged). image_of x.disk_after) e);
     }
 
+-- a remove that empties slot k
+abbrev pub removed : Disk → ℕ → DiskChanged
+removed d k = record { answer = done; disk_after = remove_at d k }
+
 module _ (d : Disk) (name : List ℕ) where
   -- a remove of a name that is not acceptable is refused with 12
   pub remove_name : name_right name ≡ false → remove_sound d name ≡ disk_kept d (refusal 12)
   unfolding remove_sound
   remove_name t = rw t
 
-  module _ (right : name_right name ≡ true) (k end : ℕ) (ek : k ≡ find_name d name) (ee : end ≡ dir_end d) where
+  module _ (right : name_right name ≡ true) where
     -- a remove of a name that no slot has is refused with 14
-    pub remove_none : end ≤ k → remove_sound d name ≡ disk_kept d (refusal 14)
+    pub remove_none : named_slot d name ≡ None → remove_sound d name ≡ disk_kept d (refusal 14)
     unfolding remove_sound
-    remove_none h = rw (right, ← ek, ← ee, lt_false h)
+    remove_none e = rw (right, found_none d name e, lt_false {a = dir_end d} {b = dir_end d} (omega arith))
 
     -- a remove of a slot's name is done on that slot
-    pub remove_done : k < end → remove_sound d name ≡ record { answer = done; disk_after = remove_at d k }
+    pub remove_done : (k : ℕ) → named_slot d name ≡ Some k → remove_sound d name ≡ removed d k
     unfolding remove_sound
-    remove_done h = rw (right, ← ek, ← ee, lt_true h)
+    remove_done k e = let f = searched_slot d name k e in rw (right, f.1, lt_true f.0)
 
 -- ---- add, case by case
+
+-- an add that fills slot k
+abbrev pub added : Disk → List ℕ → ℕ → List ℕ → ℕ → DiskChanged
+added d name date content k = record { answer = done; disk_after = add_at d k (entry_for name date (length content)) content }
+
+-- a file fits in slot k of a disk, whatever its date: the slot, the name and the data are in range, and the add is done there
+pub record FileFits (d : Disk) (name content : List ℕ) (k : ℕ) : Type 0 where
+  pub slot : k < sequences
+  pub name_short : length name ≤ name_most
+  pub data_short : length content ≤ image_bytes
+  pub fills : (date : ℕ) → add_sound d name date content ≡ added d name date content k
 
 module _ (d : Disk) (name : List ℕ) (date : ℕ) (content : List ℕ) where
   -- an add of a name that is not acceptable is refused with 12
@@ -216,23 +232,23 @@ module _ (d : Disk) (name : List ℕ) (date : ℕ) (content : List ℕ) where
   unfolding add_sound
   add_name t = rw t
 
-  module _ (right : name_right name ≡ true) (f end : ℕ) (ef : f ≡ find_name d name) (ee : end ≡ dir_end d) where
+  module _ (right : name_right name ≡ true) where
     -- an add of a slot's name is refused with 13 and the slot
-    pub add_present : f < end → add_sound d name date content ≡ disk_kept d (reply_with 13 f 0 0)
+    pub add_present : (f : ℕ) → named_slot d name ≡ Some f → add_sound d name date content ≡ disk_kept d (reply_with 13 f 0 0)
     unfolding add_sound
-    add_present h = rw (right, ← ef, ← ee, lt_true h)
+    add_present f e = let q = searched_slot d name f e in rw (right, q.1, lt_true q.0)
 
-    module _ (h : end ≤ f) (k : ℕ) (ek : k ≡ vacant_slot d) where
+    module _ (e : named_slot d name ≡ None) (k : ℕ) (ek : k ≡ vacant_slot d) where
       -- an add without room is refused with 15
       pub add_full : leb (needed d k (length content)) (free_count d) ≡ false → add_sound d name date content ≡ disk_kept d (refusal 15)
       unfolding add_sound
-      add_full t = rw (right, ← ef, ← ee, lt_false h, ← ek, t)
+      add_full t = rw (right, found_none d name e, lt_false {a = dir_end d} {b = dir_end d} (omega arith), ← ek, t)
 
       -- any other add is done on the vacant slot
       pub add_done : leb (needed d k (length content)) (free_count d) ≡ true
-          → add_sound d name date content ≡ record { answer = done; disk_after = add_at d k (entry_for name date (length content)) content }
+          → add_sound d name date content ≡ added d name date content k
       unfolding add_sound
-      add_done t = rw (right, ← ef, ← ee, lt_false h, ← ek, t)
+      add_done t = rw (right, found_none d name e, lt_false {a = dir_end d} {b = dir_end d} (omega arith), ← ek, t)
 
 -- ---- what a call wrote, by its refusal, by what it did, or by what it gave
 
@@ -249,6 +265,10 @@ wrote_done w r l m e h q = (h ∙ sym (ap (λ (x : ImageChanged). x.answer) e), 
 pub wrote_gave : (w : ImageChanged) (c : DiskChanged) (r : Reply) (l : List ℕ) → w ≡ imaged c → Gave c r l → (r ≡ w.answer) × (l ≡ w.image)
 unfolding imaged
 wrote_gave w c r l e g = (g.answer ∙ sym (ap (λ (x : ImageChanged). x.answer) e), g.image ∙ sym (ap (λ (x : ImageChanged). x.image) e))
+
+-- the same, where the image is what the call on the disk left of it
+pub wrote_left : (w : ImageChanged) (c : DiskChanged) (r : Reply) (l m : List ℕ) → w ≡ imaged c → Gave c r l → m ≡ l → (r ≡ w.answer) × (m ≡ w.image)
+wrote_left w c r l m e g h = let k = wrote_gave w c r l e g in (k.0, h ∙ k.1)
 
 -- an acceptable name has 36 bytes at most
 pub name_most_lem : (name : List ℕ) → name_right name ≡ true → length name ≤ name_most

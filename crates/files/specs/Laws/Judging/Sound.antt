@@ -1,31 +1,28 @@
 -- The judgements 9 to 11 as the code makes them, on a loaded map and the other tables.
--- Rests on the tables (Loading) and on verdicts (Verdict).
-use Rattle.std.specs.Prelude.{◌≡◌, refl, Bool, true, false, cond, ◌&&◌, List, ◌≢◌, ℕ, ◌+◌, ◌≤◌, ◌<◌, leb, ltb, length}
+-- Rests on the tables (Loading).
+use Rattle.std.specs.Prelude.{Some, None, ◌≡◌, refl, Bool, true, false, cond, ◌&&◌, List, ◌≢◌, ℕ, ◌+◌, ◌≤◌, ◌<◌, leb, ltb, length}
+use Rattle.std.specs.Prelude as Prelude
 use Rattle.std.proofs.Math.Path.{sym, ap, ap₂}
-use Rattle.std.proofs.Common.{◌∙◌, arith}
+use Rattle.std.proofs.Common.{◌∙◌}
 use Rattle.std.proofs.Math.Bool.{not}
 use Rattle.std.proofs.Math.Option.{Option, none, some}
 use Rattle.std.proofs.Math.Dec.{eqb}
 use Rattle.std.proofs.Math.ListN.{take}
 use Rattle.laws.specs.Below.{all, count, lowest}
 use Rattle.laws.specs.Numbers.{at16}
-use Rattle.laws.specs.Laws.Tests.{true_le, lt_true, lt_false, eq_true, eq_false, cond_true, cond_false, and_false_left, and_false_right, and_right}
+use Rattle.laws.specs.Laws.Tests.{lt_true, lt_false, eq_true, eq_false, cond_true, cond_false, and_false_left, and_false_right}
 use Rattle.laws.specs.Laws.Lowest.{lowest_some, lowest_none}
-use Rattle.laws.specs.Laws.Tab.{tab_length}
 use Rattle.laws.specs.Laws.Count.{count_cong}
-use Rattle.sector_rules.specs.declared.Fault.{Fault}
-use Rattle.sector_rules.specs.declared.Fault.TheVariants.{At, Sound}
 use Rattle.sector_rules.specs.Faults.{fault_below, refusal_at}
 use Rattle.sector_rules.specs.Geometry.{blocks, image_bytes}
 use Rattle.sector_rules.specs.Replies.{reply_with, refusal}
 use Rattle.sector_rules.specs.declared.Reply.{Reply}
 use Rattle.file_rules.specs.declared.Record.{Record}
 use Rattle.file_rules.specs.declared.Entry.{Entry}
-use Rattle.files.specs.declared.Verdict.TheVariants.{Passed, Refused}
 use Rattle.file_rules.specs.Sizes.{slot_bytes, slot_count, name_most, blocks_of, free_sectors, good_sectors}
 use Rattle.file_rules.specs.Disk.{Disk, disk_of}
 use Rattle.file_rules.specs.Map.{free_count, bad_count, record_at, bears, is_part, within}
-use Rattle.file_rules.specs.Directory.{name_eq, name_of, entry_of, slot_entry, slot_name, held, dir_bytes, dir_end}
+use Rattle.file_rules.specs.Directory.{name_eq, name_of, slot_entry, slot_name, held, dir_bytes, dir_end}
 use Rattle.file_rules.specs.Check.{record_fault, parts_right, no_record_bears, new_name, entry_right, file_right, file_fault}
 use Rattle.file_rules.specs.Check.{good_right, free_right, refusal9, refusal19, refusal10, refusal11}
 use Rattle.files.specs.Laws.Loading.Loaded.{loaded_record, MapLoaded, record_loaded, fault_loaded}
@@ -33,7 +30,6 @@ use Rattle.files.specs.Laws.Loading.Chains.{Chained, no_record_bears_in}
 use Rattle.files.specs.Laws.Loading.Slots.{Located}
 use Rattle.files.specs.Laws.Loading.Parts.{parts_in}
 use Rattle.files.specs.Laws.Loading.Loops.{all_cong}
-use Rattle.files.specs.Laws.Judging.Verdict.{verdict_of}
 
 -- ---- a file's parts
 
@@ -63,7 +59,7 @@ module _ (map : List ℕ) (d : Disk) (m : MapLoaded map d) where
 -- ---- what is read for the judgement of the files
 
 -- the image is whole, and the tables are those of its disk
-pub record Tables (image map dir first next : List ℕ) : Type 0 where
+pub record Tables (image map : List ℕ) (dir first next : List (Prelude.Option ℕ)) : Type 0 where
   pub long : length image ≡ image_bytes
   pub loaded_map : MapLoaded map (disk_of image)
   pub loaded_directory : Located dir (disk_of image)
@@ -79,19 +75,6 @@ unfolding map_refusal refusal9
 refusal_loaded map d m = ap (λ (b : ℕ). refusal_at 9 (fault_below blocks b)) (fault_loaded map d m)
 
 -- ---- a held slot
-
--- its name has the bytes that its length says
-name_room : (f : ℕ → ℕ) → length (entry_of f).name ≡ name_most
-unfolding entry_of
-name_room f = tab_length (λ (i : ℕ). f (16 + i)) name_most
-
--- an entry whose sizes are right has all bytes of its name
-pub sizes_name : (e : Entry) (f : ℕ → ℕ) → e ≡ entry_of f
-    → (leb slot_bytes e.length && (leb 1 e.namelen && leb e.namelen name_most)) ≡ true → e.namelen ≤ length e.name
-sizes_name e f q t =
-    let n : length e.name ≡ name_most = ap (λ (x : Entry). length x.name) q ∙ name_room f in
-    let h : e.namelen ≤ name_most = true_le (and_right (leb 1 e.namelen) (leb e.namelen name_most) (and_right (leb slot_bytes e.length) _ t)) in
-    omega arith
 
 module _ (d : Disk) (k : ℕ) (e : Entry) (q : e ≡ slot_entry d k) where
   -- the name of an entry is the slot's
@@ -164,33 +147,33 @@ module _ (d : Disk) where
 
 -- ---- the refusals
 
-lowest_refused : (b n k : ℕ) → b < n → Refused (reply_with k b 0 0) ≡ verdict_of (refusal_at k (fault_below n b))
-unfolding verdict_of fault_below
-lowest_refused b n k h = ap (λ (f : Fault). verdict_of (refusal_at k f)) (sym (cond_true (At b) Sound (lt_true h)))
+lowest_refused : (b n k : ℕ) → b < n → some (reply_with k b 0 0) ≡ refusal_at k (fault_below n b)
+unfolding fault_below
+lowest_refused b n k h = ap (refusal_at k) (sym (cond_true (Some b) None (lt_true h)))
 
-lowest_passed : (b n k : ℕ) → n ≤ b → Passed ≡ verdict_of (refusal_at k (fault_below n b))
-unfolding verdict_of fault_below
-lowest_passed b n k h = ap (λ (f : Fault). verdict_of (refusal_at k f)) (sym (cond_false (At b) Sound (lt_false h)))
+lowest_passed : (b n k : ℕ) → n ≤ b → none ≡ refusal_at k (fault_below n b)
+unfolding fault_below
+lowest_passed b n k h = ap (refusal_at k) (sym (cond_false (Some b) None (lt_false h)))
 
 module _ (map : List ℕ) (b : ℕ) (e : b ≡ lowest (λ (j : ℕ). record_fault j (loaded_record map j)) blocks) where
   -- a bad record is refusal 9 at its block
-  pub refused_map : b < blocks → Refused (reply_with 9 b 0 0) ≡ verdict_of (map_refusal map)
+  pub refused_map : b < blocks → some (reply_with 9 b 0 0) ≡ map_refusal map
   unfolding map_refusal
   refused_map h = rw (← e) (lowest_refused b blocks 9 h)
 
   -- a map without bad record passes 9
-  pub passed_map : blocks ≤ b → Passed ≡ verdict_of (map_refusal map)
+  pub passed_map : blocks ≤ b → none ≡ map_refusal map
   unfolding map_refusal
   passed_map h = rw (← e) (lowest_passed b blocks 9 h)
 
 module _ (d : Disk) (b : ℕ) where
   -- a file at fault is refusal 10 with its number
-  pub refused_files : b ≡ file_fault d → b < slot_count → Refused (reply_with 10 b 0 0) ≡ verdict_of (refusal10 d)
+  pub refused_files : b ≡ file_fault d → b < slot_count → some (reply_with 10 b 0 0) ≡ refusal10 d
   unfolding refusal10
   refused_files e h = rw (← e) (lowest_refused b slot_count 10 h)
 
   -- without a file at fault the disk passes 10
-  pub passed_files : b ≡ file_fault d → slot_count ≤ b → Passed ≡ verdict_of (refusal10 d)
+  pub passed_files : b ≡ file_fault d → slot_count ≤ b → none ≡ refusal10 d
   unfolding refusal10
   passed_files e h = rw (← e) (lowest_passed b slot_count 10 h)
 
@@ -200,14 +183,14 @@ module _ (d : Disk) (w c : ℕ) (ew : w ≡ at16 (d 0) 20) (ec : c ≡ free_coun
   free_is = rw (ew, ec)
 
   -- a free word that is 3 times the free records passes 11
-  pub passed_free : w ≡ free_sectors c → Passed ≡ verdict_of (refusal11 d)
-  unfolding refusal11 verdict_of
-  passed_free h = ap verdict_of (sym (cond_true none (some (refusal 11)) (sym free_is ∙ eq_true h)))
+  pub passed_free : w ≡ free_sectors c → none ≡ refusal11 d
+  unfolding refusal11
+  passed_free h = sym (cond_true none (some (refusal 11)) (sym free_is ∙ eq_true h))
 
   -- another free word is refusal 11
-  pub refused_free : w ≢ free_sectors c → Refused (refusal 11) ≡ verdict_of (refusal11 d)
-  unfolding refusal11 verdict_of
-  refused_free h = ap verdict_of (sym (cond_false none (some (refusal 11)) (sym free_is ∙ eq_false h)))
+  pub refused_free : w ≢ free_sectors c → some (refusal 11) ≡ refusal11 d
+  unfolding refusal11
+  refused_free h = sym (cond_false none (some (refusal 11)) (sym free_is ∙ eq_false h))
 
 module _ (d : Disk) (w c : ℕ) (ew : w ≡ at16 (d 0) 22) (ec : c ≡ bad_count d) where
   good_is : eqb w (good_sectors c) ≡ good_right d
@@ -215,11 +198,11 @@ module _ (d : Disk) (w c : ℕ) (ew : w ≡ at16 (d 0) 22) (ec : c ≡ bad_count
   good_is = rw (ew, ec)
 
   -- a good word that is 1440 less 3 times the bad records passes 19
-  pub passed_good : w ≡ good_sectors c → Passed ≡ verdict_of (refusal19 d)
-  unfolding refusal19 verdict_of
-  passed_good h = ap verdict_of (sym (cond_true none (some (refusal 19)) (sym good_is ∙ eq_true h)))
+  pub passed_good : w ≡ good_sectors c → none ≡ refusal19 d
+  unfolding refusal19
+  passed_good h = sym (cond_true none (some (refusal 19)) (sym good_is ∙ eq_true h))
 
   -- another good word is refusal 19
-  pub refused_good : w ≢ good_sectors c → Refused (refusal 19) ≡ verdict_of (refusal19 d)
-  unfolding refusal19 verdict_of
-  refused_good h = ap verdict_of (sym (cond_false none (some (refusal 19)) (sym good_is ∙ eq_false h)))
+  pub refused_good : w ≢ good_sectors c → some (refusal 19) ≡ refusal19 d
+  unfolding refusal19
+  refused_good h = sym (cond_false none (some (refusal 19)) (sym good_is ∙ eq_false h))

@@ -1,9 +1,9 @@
 -- The judgement of the first track (§8.14).
--- Rests on verdicts (Verdict) and on the laws of counts (laws, Count).
+-- Rests on the laws of counts (laws, Count).
 use Rattle.std.specs.Prelude.{◌≡◌, refl, ◌≢◌, Bool, not, List, ℕ, zero, suc, ◌+◌, ◌-◌, length}
 use Rattle.std.proofs.Math.Path.{sym, ap}
 use Rattle.std.proofs.Common.{◌∙◌, arith}
-use Rattle.std.proofs.Math.Option.{Option}
+use Rattle.std.proofs.Math.Option.{Option, none, some}
 use Rattle.laws.specs.Below.{count}
 use Rattle.laws.specs.Numbers.{at16}
 use Rattle.laws.specs.Options.{or_else}
@@ -14,14 +14,12 @@ use Rattle.sector_rules.specs.declared.Reply.{Reply}
 use Rattle.sector_rules.specs.Replies.{done}
 use Rattle.sector_rules.specs.Geometry.{blocks}
 use Rattle.file_rules.specs.declared.FirstTrack.{FirstTrack}
-use Rattle.files.specs.declared.Verdict.TheVariants.{Passed, Refused}
 use Rattle.file_rules.specs.Sizes.{first_track_bytes}
 use Rattle.file_rules.specs.Disk.{Disk, disk_of}
 use Rattle.file_rules.specs.Map.{free_at, free_count}
 use Rattle.file_rules.specs.Check.{start_refusal, refusal11}
 use Rattle.file_rules.specs.Calls.{unless, wrong_length}
 use Rattle.file_rules.specs.FirstTrack.{refused_track, counted, first_track_result}
-use Rattle.files.specs.Laws.Judging.Verdict.{verdict_of, verdict_some, verdict_none}
 
 -- those that pass a test and those that do not are all
 count_both : (n : ℕ) (p : ℕ → Bool) → count n p + count n (λ (i : ℕ). not (p i)) ≡ n
@@ -58,13 +56,13 @@ module _ (l : List ℕ) where
     disk_refusal_track = cond_true (unless (judged_track (disk_of l)) refused_track (counted (disk_of l))) (refused_track wrong_length) (eq_true long)
 
     -- a refused judgement is the call's reply, with three zeros
-    pub track_refused : (r : Reply) → Refused r ≡ verdict_of (judged_track (disk_of l)) → refused_track r ≡ first_track_result l
+    pub track_refused : (r : Reply) → some r ≡ judged_track (disk_of l) → refused_track r ≡ first_track_result l
     unfolding unless
     track_refused r e =
-        sym (disk_refusal_track ∙ ap (λ (v : Option Reply). unless v refused_track (counted (disk_of l))) (verdict_some (judged_track (disk_of l)) r e))
+        sym (disk_refusal_track ∙ ap (λ (v : Option Reply). unless v refused_track (counted (disk_of l))) (sym e))
 
     -- a judgement that passed gives the counts
-    pub track_passed : Passed ≡ verdict_of (judged_track (disk_of l)) → counted (disk_of l) ≡ first_track_result l
+    pub track_passed : none ≡ judged_track (disk_of l) → counted (disk_of l) ≡ first_track_result l
     unfolding unless
     track_passed e =
-        sym (disk_refusal_track ∙ ap (λ (v : Option Reply). unless v refused_track (counted (disk_of l))) (verdict_none (judged_track (disk_of l)) e))
+        sym (disk_refusal_track ∙ ap (λ (v : Option Reply). unless v refused_track (counted (disk_of l))) (sym e))

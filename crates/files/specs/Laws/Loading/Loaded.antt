@@ -1,7 +1,8 @@
 -- The map as the code holds it: a number of 24 bits for each record, read from the image once.
 -- Rests on the laws of numbers in bytes (laws, Numbers).
-use Rattle.std.specs.Prelude.{◌≡◌, Bool, true, false, List, ℕ, ◌+◌, ◌*◌, ◌≤◌, ◌<◌, length, get_or, set}
+use Rattle.std.specs.Prelude.{◌≡◌, List, ℕ, ◌+◌, ◌*◌, ◌≤◌, ◌<◌, length, get_or, set}
 use Rattle.std.proofs.Math.Path.{ap}
+use Rattle.std.specs.Coded.{Coded-set, coded_ℕ}
 use Rattle.std.proofs.Common.{arith, get_or-set_same, get_or-set_other}
 use Rattle.laws.specs.Below.{lowest, count}
 use Rattle.laws.specs.Laws.Cases.{by_equal}
@@ -9,9 +10,7 @@ use Rattle.laws.specs.Laws.Lowest.{lowest_cong}
 use Rattle.laws.specs.Laws.Count.{count_cong}
 use Rattle.laws.specs.Laws.Numbers.{big_ext}
 use Rattle.sector_rules.specs.Geometry.{blocks}
-use Rattle.sector_rules.specs.declared.BlockNumber.{BlockNumber}
 use Rattle.file_rules.specs.declared.Record.{Record}
-use Rattle.file_rules.specs.declared.MapRecord.{MapRecord}
 use Rattle.file_rules.specs.Disk.{Disk}
 use Rattle.file_rules.specs.Map.{decode, record_byte, number_at, record_at, is_free, is_bad_record, is_part, free_at, free_count, bad_at, bad_count, part_block}
 use Rattle.file_rules.specs.Check.{record_fault, map_fault}
@@ -21,19 +20,15 @@ use Rattle.file_rules.specs.Sizes.{block_bytes, map_start, record_bytes}
 unfoldable pub loaded_record : List ℕ → ℕ → Record
 loaded_record map b = decode (get_or map b 0)
 
--- the same with its block number, as the map is walked
-abbrev pub record_with_block : List ℕ → BlockNumber → MapRecord
-record_with_block map b = record { block = b; «record» = loaded_record map b.0 }
-
--- whether a record is one of those that are counted: the bad ones, or the free ones
-unfoldable pub is_counted : Bool → Record → Bool
-is_counted true r = is_bad_record r
-is_counted false r = is_free r
-
 -- a loaded map has the numbers of the disk's records
 pub record MapLoaded (map : List ℕ) (d : Disk) : Type 0 where
   pub long : length map ≡ blocks
   pub numbers : (b : ℕ) → b < blocks → get_or map b 0 ≡ number_at d b
+  deriving IsProp as loaded_parts
+
+-- a map is loaded from a disk in one way
+pub map_loaded_prop : (map : List ℕ) (d : Disk) → IsProp (MapLoaded map d)
+map_loaded_prop map d = loaded_parts (Prim.hlevel (Coded-set coded_ℕ)) (Prim.hlevel (Coded-set coded_ℕ))
 
 -- a record's number is read from the map's bytes alone
 pub number_cong : (d e : Disk) (b : ℕ) → b < blocks → ((o : ℕ) → map_start ≤ o → o < block_bytes → d 0 o ≡ e 0 o) → number_at d b ≡ number_at e b

@@ -1,29 +1,24 @@
 -- Hashes of names: a number for each name, by which most names are told apart at once.
 -- Rests on the slots (Slots) and on when names are equal (file_rules, Names).
-use Rattle.std.specs.Prelude.{◌≡◌, refl, Bool, false, ◌&&◌, List, ℕ, zero, suc, ◌+◌, ◌*◌, ◌%◌, ◌<◌, min, ltb, length, set, replicate}
+use Rattle.std.specs.Prelude.{◌≡◌, refl, Bool, false, ◌&&◌, List, ℕ, zero, suc, ◌+◌, ◌*◌, ◌%◌, ◌<◌, ltb, length, set, replicate}
 use Rattle.std.proofs.Math.Path.{sym, ap}
 use Rattle.std.proofs.Common.{ap₂, ◌∙◌, add-one, arith, length-set, get_or-set_same, get_or-set_other}
 use Rattle.std.proofs.Math.Bool.{true, not}
 use Rattle.std.proofs.Math.ListN.{get_or}
 use Rattle.std.proofs.lemmas.List.{length-replicate}
-use Rattle.laws.specs.Lists.{tab, element_at}
 use Rattle.laws.specs.Below.{all}
-use Rattle.laws.specs.Numbers.{at16}
 use Rattle.laws.specs.Laws.Cases.{by_test, by_equal}
 use Rattle.laws.specs.Laws.Tests.{true_lt, lt_true, true≢false, and_true, and_left, and_right, and_false_right}
 use Rattle.laws.specs.Laws.All.{all_is}
-use Rattle.laws.specs.Laws.Tab.{tab_length, tab_in}
-use Rattle.sector_rules.specs.Geometry.{image_bytes}
-use Rattle.file_rules.specs.Sizes.{slot_count, name_most}
-use Rattle.file_rules.specs.Disk.{Disk, disk_of}
-use Rattle.file_rules.specs.Directory.{lowered, name_eq, name_of, entry_of, slot_name, held, dir_end}
+use Rattle.file_rules.specs.Disk.{Disk}
+use Rattle.file_rules.specs.declared.Entry.{Entry}
+use Rattle.file_rules.specs.Directory.{lowered, name_eq, name_of, slot_entry, slot_name, held, dir_end}
 use Rattle.file_rules.specs.Check.{new_name}
 use Rattle.file_rules.proofs.Laws.Base.Names.{equal_length, equal_byte}
-use Rattle.files.specs.Laws.Loading.Slots.{Located, slot_place, name_row, name_first, row_along}
 
 -- how many hashes there are
 abbrev pub hash_count : ℕ
-hash_count = 16384
+hash_count = 2039
 
 -- the hash of the first n bytes of g, once they are lowered
 unfoldable pub row_hash : (ℕ → ℕ) → ℕ → ℕ
@@ -34,11 +29,25 @@ row_hash g (suc n) = (row_hash g n * 33 + lowered (g n)) % hash_count
 unfoldable pub name_hash : List ℕ → ℕ
 name_hash name = row_hash (λ (i : ℕ). get_or name i 0) (length name)
 
+-- the hash of the first n bytes of a name, once they are lowered
+abbrev pub hash_of_first : List ℕ → ℕ → ℕ
+hash_of_first name n = row_hash (λ (i : ℕ). get_or name i 0) n
+
+-- no bytes have the hash 0
+pub hash_start : (name : List ℕ) → 0 ≡ hash_of_first name 0
+unfolding row_hash
+hash_start name = refl
+
 -- one byte more of a hash
-pub hash_more : (s : List ℕ) (at n m v : ℕ) → m ≡ row_hash (element_at s at) n → v ≡ lowered (get_or s (at + n) 0)
-    → (m * 33 + v) % hash_count ≡ row_hash (element_at s at) (n + 1)
-unfolding row_hash element_at
-hash_more s at n m v e q = rw (add-one, e, q)
+pub hash_more : (name : List ℕ) (n m v : ℕ) → m ≡ hash_of_first name n → v ≡ lowered (get_or name n 0)
+    → (m * 33 + v) % hash_count ≡ hash_of_first name (n + 1)
+unfolding row_hash
+hash_more name n m v e q = rw (add-one, e, q)
+
+-- the hash of all bytes is the name's
+pub hash_whole : (name : List ℕ) → hash_of_first name (length name) ≡ name_hash name
+unfolding name_hash
+hash_whole name = refl
 
 row_cong : (f g : ℕ → ℕ) (n : ℕ) → ((i : ℕ) → i < n → lowered (f i) ≡ lowered (g i)) → row_hash f n ≡ row_hash g n
 unfolding row_hash
@@ -62,43 +71,29 @@ hash_same a b t =
     row_cong (λ (i : ℕ). get_or a i 0) (λ (i : ℕ). get_or b i 0) (length a) (equal_byte a b t)
     ∙ ap (row_hash (λ (i : ℕ). get_or b i 0)) (equal_length a b t)
 
-hash_tab : (g : ℕ → ℕ) (n : ℕ) → name_hash (tab g n) ≡ row_hash g n
-unfolding name_hash
-hash_tab g n =
-    ap (row_hash (λ (i : ℕ). get_or (tab g n) i 0)) (tab_length g n)
-    ∙ row_cong (λ (i : ℕ). get_or (tab g n) i 0) g n (λ i h. ap lowered (tab_in g n i h))
-
--- the hash of the name in the row of a slot
-pub hash_row : (s : List ℕ) (at n m : ℕ) → n ≡ min (at16 (element_at s at) 14) name_most → m ≡ row_hash (element_at s (at + 16)) n
-    → m ≡ name_hash (name_of (entry_of (element_at s at)))
-hash_row s at n m e q =
-    q ∙ sym (hash_tab (element_at s (at + 16)) n) ∙ ap name_hash (row_along s at n)
-    ∙ ap (λ (k : ℕ). name_hash (tab (λ (i : ℕ). element_at s at (16 + i)) k)) e ∙ ap name_hash (sym (name_first (element_at s at)))
-
-module _ (image dir : List ℕ) (k : ℕ) (long : length image ≡ image_bytes) (hk : k < slot_count) (l : Located dir (disk_of image))
-    (at m : ℕ) (e : at ≡ slot_place dir k) (q : m ≡ name_hash (name_of (entry_of (element_at image at)))) where
-  -- the hash that is read at the slot's place is that of its name
-  pub hash_place : m ≡ name_hash (slot_name (disk_of image) k)
-  hash_place = q ∙ ap (λ (x : ℕ). name_hash (name_of (entry_of (element_at image x)))) e ∙ ap name_hash (sym (name_row image dir k long hk l))
+-- the hash of the name in a slot's entry is that of the slot's name
+pub hash_entry : (d : Disk) (k m : ℕ) (e : Entry) (name : List ℕ) → e ≡ slot_entry d k → name ≡ name_of e → m ≡ name_hash name → m ≡ name_hash (slot_name d k)
+unfolding slot_name
+hash_entry d k m e name q p h = rw (h, p, q)
 
 -- whether slot k is one of the directory's and held
 abbrev pub listed_slot : Disk → ℕ → Bool
 listed_slot d k = ltb k (dir_end d) && held d k
 
 -- the hashes of the names of all listed slots below k are noted
-pub record HashesNoted (noted : List ℕ) (d : Disk) (k : ℕ) : Type 0 where
+pub record HashesNoted (noted : List Bool) (d : Disk) (k : ℕ) : Type 0 where
   pub long : length noted ≡ hash_count
-  pub below : (j : ℕ) → j < k → listed_slot d j ≡ true → get_or noted (name_hash (slot_name d j)) 0 ≡ 1
+  pub below : (j : ℕ) → j < k → listed_slot d j ≡ true → get_or noted (name_hash (slot_name d j)) false ≡ true
 
 -- what a hash that was not noted tells: the name of slot k is new
 abbrev pub TellsNew : Bool → Disk → ℕ → Type 0
 TellsNew unnoted d k = unnoted ≡ true → new_name d k ≡ true
 
 -- at first none is noted
-pub hashes_none : (d : Disk) → HashesNoted (replicate hash_count 0) d 0
-hashes_none d = record { long = length-replicate {A = ℕ} hash_count 0; below = λ j h t. absurd (omega arith) }
+pub hashes_none : (d : Disk) → HashesNoted (replicate hash_count false) d 0
+hashes_none d = record { long = length-replicate {A = Bool} hash_count false; below = λ j h t. absurd (omega arith) }
 
-module _ (noted : List ℕ) (d : Disk) (k : ℕ) (m : HashesNoted noted d k) where
+module _ (noted : List Bool) (d : Disk) (k : ℕ) (m : HashesNoted noted d k) where
   -- a slot that is not listed has no hash to note
   pub hashes_skip : listed_slot d k ≡ false → HashesNoted noted d (k + 1)
   hashes_skip t =
@@ -113,20 +108,20 @@ module _ (noted : List ℕ) (d : Disk) (k : ℕ) (m : HashesNoted noted d k) whe
     room = omega (arith, m.long, hash_lt (slot_name d k))
 
     -- the hash of slot k is noted
-    pub hashes_more : HashesNoted (set noted hash 1) d (k + 1)
+    pub hashes_more : HashesNoted (set noted hash true) d (k + 1)
     hashes_more =
         record {
-          long = length-set noted hash 1 ∙ m.long;
+          long = length-set noted hash true ∙ m.long;
           below = λ j h u.
               by_equal (name_hash (slot_name d j)) hash
-              (λ q. ap (λ (x : ℕ). get_or (set noted hash 1) x 0) q ∙ get_or-set_same noted hash 1 0 room)
+              (λ q. ap (λ (x : ℕ). get_or (set noted hash true) x false) q ∙ get_or-set_same noted hash true false room)
               (λ q.
-              get_or-set_other noted hash (name_hash (slot_name d j)) 1 0 q
+              get_or-set_other noted hash (name_hash (slot_name d j)) true false q
               ∙ by_equal j k (λ i. absurd (q (ap (λ (x : ℕ). name_hash (slot_name d x)) i ∙ sym e))) (λ i. m.below j (omega arith) u));
         }
 
     -- a hash that no lower slot has tells that the name is new
-    pub unnoted_new : listed_slot d k ≡ true → get_or noted hash 0 ≡ 0 → new_name d k ≡ true
+    pub unnoted_new : listed_slot d k ≡ true → get_or noted hash false ≡ false → new_name d k ≡ true
     unfolding new_name
     unnoted_new t z =
         let end : k < dir_end d = true_lt (and_left (ltb k (dir_end d)) (held d k) t) in
@@ -138,8 +133,8 @@ module _ (noted : List ℕ) (d : Disk) (k : ℕ) (m : HashesNoted noted d k) whe
         and_true (lt_true {a = j} {b = dir_end d} (omega arith)) (and_left (held d j) (name_eq (slot_name d j) (slot_name d k)) u) in
         let same : name_hash (slot_name d j) ≡ hash =
         hash_same (slot_name d j) (slot_name d k) (and_right (held d j) (name_eq (slot_name d j) (slot_name d k)) u) ∙ sym e in
-        let one : get_or noted hash 0 ≡ 1 = ap (λ (x : ℕ). get_or noted x 0) (sym same) ∙ m.below j l listed in
-        absurd (omega arith))
+        let here : get_or noted hash false ≡ true = ap (λ (x : ℕ). get_or noted x false) (sym same) ∙ m.below j l listed in
+        true≢false (get_or noted hash false) here z)
         (λ u. ap not u))
 
 -- slot 0 is not listed

@@ -1,53 +1,64 @@
 -- The directory's blocks as the code holds them, and the slots as rows of 64 bytes in the image.
 -- Rests on the disk's bytes (Blocks), on the loaded map (Loaded), on the parts of files (Parts) and on when names are equal (file_rules, Names).
-use Rattle.std.specs.Prelude.{◌≡◌, refl, Bool, true, false, ◌&&◌, List, ℕ, ◌+◌, ◌*◌, ◌/◌, ◌%◌, ◌≤◌, ◌<◌, min, ltb, length, set}
+use Rattle.std.specs.Prelude.{◌≡◌, refl, Bool, true, false, ◌&&◌, List, Option, Some, None, ℕ, ◌+◌, ◌*◌, ◌/◌, ◌%◌, ◌≤◌, ◌<◌, min, ltb, length}
 use Rattle.std.proofs.Math.Path.{sym, ap, ap₂}
-use Rattle.std.proofs.Common.{◌∙◌, add-zero, add_assoc, get_or-set_same, get_or-set_other, take_all}
-use Rattle.std.proofs.Math.Bool.{not, cond}
+use Rattle.std.proofs.Common.{◌∙◌, add-zero, add_assoc, take_all}
+use Rattle.std.proofs.Math.Bool.{not}
 use native.Mathlib.Omega.{arith}
 use Rattle.std.proofs.Math.Dec.{eqb}
-use Rattle.std.proofs.Math.ListN.{get_or}
+use Rattle.std.specs.Option.{unwrap_or}
+use Rattle.std.specs.Coded.{Coded-set, coded_ℕ, coded_option}
+use Rattle.std.proofs.Math.ListN.{get_or, take}
 use Rattle.laws.specs.Lists.{tab, element_at}
-use Rattle.laws.specs.Below.{all}
+use Rattle.laws.specs.Below.{all, first_below}
+use Rattle.laws.specs.Found.{below}
 use Rattle.laws.specs.Numbers.{at16, at32, big_endian, high_first}
-use Rattle.laws.specs.Laws.Cases.{by_order, by_equal, by_test}
-use Rattle.laws.specs.Laws.Tests.{lt_true, lt_false, cond_true, cond_false, and_false_right}
-use Rattle.laws.specs.Laws.Lowest.{lowest_some, lowest_none}
+use Rattle.laws.specs.Laws.Cases.{by_order, by_test}
+use Rattle.laws.specs.Laws.Tests.{lt_true, eq_true, true_eq, true≢false, and_false_right}
+use Rattle.laws.specs.Laws.All.{all_is, all_at}
+use Rattle.laws.specs.Laws.Found.{first_is_below, below_there, below_absent}
+use Rattle.laws.specs.Laws.FirstBelow.{first_lowest, none_lowest, first_or}
 use Rattle.laws.specs.Laws.Tab.{take_tab, tab_length, tab_in, tab_ext, get_d_past}
 use Rattle.laws.specs.Laws.Numbers.{high_row}
 use Rattle.sector_rules.specs.Geometry.{sector_bytes, blocks, image_bytes, running, to_image_sector}
 use Rattle.file_rules.specs.declared.Entry.{Entry}
 use Rattle.file_rules.specs.Sizes.{slot_bytes, block_slots, slot_count, name_most}
 use Rattle.file_rules.specs.Disk.{Disk, image_place, disk_of}
-use Rattle.file_rules.specs.Map.{part_block}
+use Rattle.file_rules.specs.Map.{is_part, part_block}
 use Rattle.file_rules.specs.Directory.{lowered, name_eq, entry_of, name_of, slot_byte, slot_entry, slot_name, held, dir_end, find_name, vacant_slot}
 use Rattle.file_rules.proofs.Laws.Base.Names.{equal_length, equal_byte, bytes_equal}
 use Rattle.files.specs.Laws.Loading.Blocks.{disk_in, disk_far}
-use Rattle.files.specs.Laws.Loading.Loaded.{MapLoaded, part_loaded}
+use Rattle.files.specs.Laws.Loading.Loaded.{loaded_record, MapLoaded, part_loaded}
 use Rattle.files.specs.Laws.Loading.Loops.{all_cong}
 use Rattle.files.specs.Laws.Loading.Parts.{PartsAt}
 
 -- the directory's blocks in sequence, as a row of numbers
-pub record Located (dir : List ℕ) (d : Disk) : Type 0 where
+pub record Located (dir : List (Option ℕ)) (d : Disk) : Type 0 where
   pub long : length dir ≡ blocks
-  pub parts : (s : ℕ) → s < blocks → get_or dir s 0 ≡ part_block d 0 s
+  pub parts : (s : ℕ) → s < blocks → get_or dir s None ≡ below blocks (part_block d 0 s)
+  deriving IsProp as located_parts
+
+-- the directory's blocks stand in one way
+pub located_prop : (dir : List (Option ℕ)) (d : Disk) → IsProp (Located dir d)
+located_prop dir d = located_parts (Prim.hlevel (Coded-set coded_ℕ)) (Prim.hlevel (Coded-set (coded_option coded_ℕ)))
 
 -- the blocks of file 0 by the loaded map are the directory's
-pub located_directory : (dir map : List ℕ) (d : Disk) → MapLoaded map d → PartsAt dir map 0 → Located dir d
-located_directory dir map d m l = record { long = l.long; parts = λ s h. l.parts s h ∙ part_loaded map d m 0 s }
+pub located_directory : (dir : List (Option ℕ)) (map : List ℕ) (d : Disk) → MapLoaded map d → PartsAt dir map 0 → Located dir d
+located_directory dir map d m l =
+    record {
+      long = l.long;
+      parts = λ s h.
+          l.parts s h ∙ first_is_below (λ (b : ℕ). is_part 0 s (loaded_record map b)) blocks ∙ ap (below blocks) (part_loaded map d m 0 s);
+    }
+
+-- where byte o of a block stands in the image; its end, where there is no block
+unfoldable pub place_in : Option ℕ → ℕ → ℕ
+place_in None o = image_bytes
+place_in (Some b) o = image_place b o
 
 -- where slot k stands in the image; its end, where the slot has no block
-unfoldable pub slot_place : List ℕ → ℕ → ℕ
-slot_place dir k = cond (ltb (get_or dir (k / block_slots) 0) blocks) (image_place (get_or dir (k / block_slots) 0) (k % block_slots * slot_bytes)) image_bytes
-
--- one block more of a row
-pub parts_more : (dir : List ℕ) (f : ℕ → ℕ) (k v : ℕ) → k < length dir
-    → ((s : ℕ) → s < k → get_or dir s 0 ≡ f s) → v ≡ f k
-    → (s : ℕ) → s < k + 1 → get_or (set dir k v) s 0 ≡ f s
-parts_more dir f k v l h e s i =
-    by_equal s k
-    (λ q. ap (λ (x : ℕ). get_or (set dir k v) x 0) q ∙ get_or-set_same dir k v 0 l ∙ e ∙ ap f (sym q))
-    (λ q. get_or-set_other dir k s v 0 q ∙ h s (omega arith))
+unfoldable pub slot_place : List (Option ℕ) → ℕ → ℕ
+slot_place dir k = place_in (get_or dir (k / block_slots) None) (k % block_slots * slot_bytes)
 
 -- ---- a slot lies in one sector
 
@@ -60,35 +71,30 @@ module _ (b o i : ℕ) (h : o % sector_bytes + i < sector_bytes) where
       let g : (o + i) % sector_bytes ≡ o % sector_bytes + i = omega arith in
       ap₂ (λ (x y : ℕ). to_image_sector (running b x) * sector_bytes + y) e g ∙ omega arith
 
-module _ (image dir : List ℕ) (k : ℕ) (long : length image ≡ image_bytes) (hk : k < slot_count) (l : Located dir (disk_of image)) where
+module _ (image : List ℕ) (dir : List (Option ℕ)) (k : ℕ) (long : length image ≡ image_bytes) (hk : k < slot_count) (l : Located dir (disk_of image)) where
   abbrev block : ℕ
-  block = get_or dir (k / block_slots) 0
+  block = part_block (disk_of image) 0 (k / block_slots)
 
-  block_is : block ≡ part_block (disk_of image) 0 (k / block_slots)
+  block_is : get_or dir (k / block_slots) None ≡ below blocks block
   block_is = l.parts (k / block_slots) (omega arith)
 
   inside : (i : ℕ) → i < slot_bytes → block < blocks → disk_of image block (k % block_slots * slot_bytes + i) ≡ element_at image (slot_place dir k) i
-  unfolding slot_place element_at
+  unfolding slot_place place_in element_at
   inside i h q =
-      disk_in image block (k % block_slots * slot_bytes + i) q (omega arith)
-      ∙ ap (λ (x : ℕ). get_or image x 0)
-      (byte_along block (k % block_slots * slot_bytes) i (omega arith)
-      ∙ ap (λ (x : ℕ). x + i) (sym (cond_true (image_place block (k % block_slots * slot_bytes)) image_bytes (lt_true q))))
+      rw (block_is ∙ below_there blocks block q)
+      (disk_in image block (k % block_slots * slot_bytes + i) q (omega arith)
+      ∙ ap (λ (x : ℕ). get_or image x 0) (byte_along block (k % block_slots * slot_bytes) i (omega arith)))
 
   outside : (i : ℕ) → blocks ≤ block → disk_of image block (k % block_slots * slot_bytes + i) ≡ element_at image (slot_place dir k) i
-  unfolding slot_place element_at
+  unfolding slot_place place_in element_at
   outside i q =
-      let e : cond (ltb block blocks) (image_place block (k % block_slots * slot_bytes)) image_bytes ≡ image_bytes =
-      cond_false (image_place block (k % block_slots * slot_bytes)) image_bytes (lt_false q) in
-      disk_far image block (k % block_slots * slot_bytes + i) q
-      ∙ sym (ap (λ (x : ℕ). get_or image (x + i) 0) e ∙ get_d_past image (image_bytes + i) (omega arith))
+      rw (block_is ∙ below_absent blocks block q)
+      (disk_far image block (k % block_slots * slot_bytes + i) q ∙ sym (get_d_past image (image_bytes + i) (omega arith)))
 
   -- the bytes of a slot stand in a row in the image
   pub slot_row : (i : ℕ) → i < slot_bytes → slot_byte (disk_of image) k i ≡ element_at image (slot_place dir k) i
   unfolding slot_byte
-  slot_row i h =
-      ap (λ (b : ℕ). disk_of image b (k % block_slots * slot_bytes + i)) (sym block_is)
-      ∙ by_order block blocks (λ q. inside i h q) (λ q. outside i q)
+  slot_row i h = by_order block blocks (λ q. inside i h q) (λ q. outside i q)
 
 -- ---- what is read of a slot is read of its row
 
@@ -112,7 +118,7 @@ entry_cong f g e =
       e 55 (omega arith),
     )
 
-module _ (image dir : List ℕ) (k : ℕ) (long : length image ≡ image_bytes) (hk : k < slot_count) (l : Located dir (disk_of image)) where
+module _ (image : List ℕ) (dir : List (Option ℕ)) (k : ℕ) (long : length image ≡ image_bytes) (hk : k < slot_count) (l : Located dir (disk_of image)) where
   -- the entry of a slot is read from its row
   pub slot_entry_row : slot_entry (disk_of image) k ≡ entry_of (element_at image (slot_place dir k))
   unfolding slot_entry
@@ -167,6 +173,15 @@ name_first f =
     let t : length (tab (λ (i : ℕ). f (16 + i)) name_most) ≤ at16 f 14 = omega (arith, tab_length (λ (i : ℕ). f (16 + i)) name_most) in
     take_all (at16 f 14) (tab (λ (i : ℕ). f (16 + i)) name_most) t ∙ ap (λ (n : ℕ). tab (λ (i : ℕ). f (16 + i)) n) (sym e))
 
+-- a name of 36 bytes has no more of them
+pub first_bytes : (name : List ℕ) (n : ℕ) → length name ≡ name_most → take (min n name_most) name ≡ take n name
+first_bytes name n e =
+    by_order n name_most
+    (λ h. ap (λ (k : ℕ). take k name) (omega arith))
+    (λ h.
+    let m : min n name_most ≡ name_most = omega arith in
+    ap (λ (k : ℕ). take k name) m ∙ take_all name_most name (omega arith) ∙ sym (take_all n name (omega arith)))
+
 -- a name compared byte by byte
 module _ (s : List ℕ) (at : ℕ) (name : List ℕ) where
   abbrev row : ℕ → ℕ
@@ -191,19 +206,20 @@ module _ (s : List ℕ) (at : ℕ) (name : List ℕ) where
     byte_of : (i : ℕ) → i < length name → get_or (name_of (entry_of row)) i 0 ≡ element_at s (at + 16) i
     byte_of i l = ap (λ (m : List ℕ). get_or m i 0) name_of_lem ∙ tab_in (element_at s (at + 16)) (length name) i l
 
-    -- a name with another byte is not equal
-    pub name_other : (i : ℕ) → i < length name → (lowered (element_at s (at + 16) i) ≡ lowered (get_or name i 0) → ⊥)
-        → false ≡ name_eq (name_of (entry_of row)) name
-    name_other i l h =
-        sym (by_test (name_eq (name_of (entry_of row)) name)
-        (λ t. absurd (h (ap lowered (sym (byte_of i l)) ∙ equal_byte (name_of (entry_of row)) name t i (rw length_of l)))) (λ t. t))
+    abbrev agree : ℕ → Bool
+    agree i = eqb (lowered (element_at s (at + 16) i)) (lowered (get_or name i 0))
 
-    -- a name of the same length whose bytes agree once they are lowered is equal
-    pub name_equal : ((i : ℕ) → i < length name → lowered (element_at s (at + 16) i) ≡ lowered (get_or name i 0))
-        → true ≡ name_eq (name_of (entry_of row)) name
-    name_equal h =
-        sym (bytes_equal (name_of (entry_of row)) name length_of
-        (λ i l. let l' : i < length name = rw length_of at l in ap lowered (byte_of i l') ∙ h i l'))
+    -- a name of the same length is equal if its bytes agree once they are lowered
+    pub name_compared : all agree (length name) ≡ name_eq (name_of (entry_of row)) name
+    name_compared =
+        by_test (name_eq (name_of (entry_of row)) name)
+        (λ t. all_is agree (length name)
+        (λ i l. eq_true (ap lowered (sym (byte_of i l)) ∙ equal_byte (name_of (entry_of row)) name t i (rw length_of l))) ∙ sym t)
+        (λ f. by_test (all agree (length name))
+        (λ t. absurd (true≢false (name_eq (name_of (entry_of row)) name)
+        (bytes_equal (name_of (entry_of row)) name length_of
+        (λ i l. let l' : i < length name = rw length_of at l in ap lowered (byte_of i l') ∙ true_eq (all_at agree (length name) t i l'))) f))
+        (λ g. g ∙ sym f))
 
 -- two tests of which the second, looked at first, passes
 pub and_swap_true : (a b : Bool) → b ≡ true → a ≡ (a && b)
@@ -226,7 +242,7 @@ module _ (s : List ℕ) (at : ℕ) where
       let fl : high_first s at 4 ≡ at32 (element_at s at) 0 = ap (λ (x : ℕ). high_first s x 4) (sym (add-zero at)) ∙ word4_row s at 0 in
       rw (en, el, em, et, row_along s at name_most, fl, word2_row s at 14, word4_row s at 52)
 
-module _ (image dir : List ℕ) (k : ℕ) (long : length image ≡ image_bytes) (hk : k < slot_count) (l : Located dir (disk_of image))
+module _ (image : List ℕ) (dir : List (Option ℕ)) (k : ℕ) (long : length image ≡ image_bytes) (hk : k < slot_count) (l : Located dir (disk_of image))
     (name : List ℕ) (at : ℕ) (e : at ≡ slot_place dir k) (r : Bool) (q : r ≡ name_eq (name_of (entry_of (element_at image at))) name) where
   name_asked : name_eq (slot_name (disk_of image) k) name ≡ r
   name_asked =
@@ -243,30 +259,29 @@ module _ (image dir : List ℕ) (k : ℕ) (long : length image ≡ image_bytes) 
 
 -- ---- the searches
 
-module _ (d : Disk) (end : ℕ) (e : end ≡ dir_end d) where
+module _ (d : Disk) where
   module _ (name : List ℕ) where
     abbrev named : ℕ → Bool
     named k = held d k && name_eq (slot_name d k) name
 
-    -- the first slot that is held and has the name is the one that is found
-    pub found_at : (k : ℕ) → k < end → ((j : ℕ) → j < k → named j ≡ false) → named k ≡ true → k ≡ find_name d name
+    -- the slot of a name, where there is one
+    abbrev pub named_slot : Option ℕ
+    named_slot = first_below named (dir_end d)
+
+    -- a slot that has the name is the one that is found
+    pub searched_slot : (k : ℕ) → named_slot ≡ Some k → (k < dir_end d) × (find_name d name ≡ k)
     unfolding find_name
-    found_at k h l t = sym (lowest_some named (dir_end d) k (omega arith) l t)
+    searched_slot k e = first_lowest named (dir_end d) k e
 
     -- if no slot has the name, the directory's end is found
-    pub found_none : ((j : ℕ) → j < end → named j ≡ false) → end ≡ find_name d name
+    pub found_none : named_slot ≡ None → find_name d name ≡ dir_end d
     unfolding find_name
-    found_none l = e ∙ sym (lowest_none named (dir_end d) (λ j h. l j (omega arith)))
+    found_none e = none_lowest named (dir_end d) e
 
   abbrev vacant : ℕ → Bool
   vacant k = ltb 0 k && not (held d k)
 
-  -- the first slot that is vacant is the vacant slot
-  pub vacant_here : (k : ℕ) → k < end → ((j : ℕ) → j < k → vacant j ≡ false) → vacant k ≡ true → k ≡ vacant_slot d
+  -- the first slot that is vacant, or else the directory's end, is the vacant slot
+  pub vacant_or_end : (r : Option ℕ) (end k : ℕ) → r ≡ first_below vacant (dir_end d) → end ≡ dir_end d → k ≡ unwrap_or r end → k ≡ vacant_slot d
   unfolding vacant_slot
-  vacant_here k h l t = sym (lowest_some vacant (dir_end d) k (omega arith) l t)
-
-  -- if none is vacant, the directory's end is the vacant slot
-  pub vacant_none : ((j : ℕ) → j < end → vacant j ≡ false) → end ≡ vacant_slot d
-  unfolding vacant_slot
-  vacant_none l = e ∙ sym (lowest_none vacant (dir_end d) (λ j h. l j (omega arith)))
+  vacant_or_end r end k e q h = h ∙ ap₂ unwrap_or e q ∙ first_or vacant (dir_end d)

@@ -1,6 +1,6 @@
 -- Blocks given and freed one by one: the lowest free blocks in one walk of the map, and the steps on disks that agree inside their blocks.
 -- Rests on rows and steps (Stored, Steps) and on the lowest numbers that pass (laws, Firsts).
-use Rattle.std.specs.Prelude.{◌≡◌, Bool, cond, ◌&&◌, ltb}
+use Rattle.std.specs.Prelude.{◌≡◌, Bool, cond}
 use Rattle.std.proofs.Math.Path.{refl, sym, ap, fun_ext}
 use Rattle.std.proofs.Common.{ap₂, ◌∙◌, add-zero, add-suc, suc-add, zero-add, arith}
 use Rattle.std.proofs.Math.Bool.{true, false}
@@ -10,7 +10,7 @@ use Rattle.std.proofs.Math.Numerals.{add-one}
 use Rattle.std.proofs.Math.ListN.{length}
 use Rattle.laws.specs.Below.{firsts_from, firsts}
 use Rattle.laws.specs.Laws.Cases.{by_order, by_equal, by_test}
-use Rattle.laws.specs.Laws.Tests.{lt_true, lt_false, true_lt, cond_true, cond_false, and_not, and_left, and_right}
+use Rattle.laws.specs.Laws.Tests.{lt_true, lt_false, cond_true, cond_false}
 use Rattle.laws.specs.Laws.Lowest.{lowest_cong}
 use Rattle.laws.specs.Laws.Changes.{upd₂_same, upd₂_other}
 use Rattle.laws.specs.Laws.Firsts.{firsts_cong}
@@ -20,6 +20,7 @@ use Rattle.file_rules.specs.declared.Record.TheVariants.{Free, File}
 use Rattle.file_rules.specs.Disk.{Disk, disk_of, image_of}
 use Rattle.file_rules.proofs.Laws.Base.Disk.{image_disk, image_cong}
 use Rattle.files.specs.Laws.Writing.Steps.{inside_patched, inside_record, inside_free, inside_update, stored_row}
+use Rattle.files.specs.Laws.Writing.Rows.{row_nowhere}
 use Rattle.files.specs.Laws.Writing.Stored.{EqualInside, inside_image, inside_step, patched}
 use Rattle.file_rules.specs.Map.{encode, record_at, is_free, bears, is_part, free_at, part_block}
 use Rattle.file_rules.specs.Sizes.{slot_bytes, block_slots, map_start, record_bytes}
@@ -288,25 +289,18 @@ module _ (d : Disk) (f : ℕ) (c : ℕ → ℕ) (s n : ℕ) where
     image = sym (image_disk l h) ∙ ap image_of (sym e) ∙ ap (λ (bs : List ℕ). image_of (give_blocks d f c s bs)) (sym (firsts_of_none (free_at d) n));
   }
 
--- what the walk asks of a block: whether there are not enough, and whether it is free
+-- what the walk asks of a block: whether it is free
 module _ (d : Disk) (f : ℕ) (c : ℕ → ℕ) (s n b t : ℕ) (l : List ℕ) (w : Walked d f c s n b t l) (y : Bool) (e : y ≡ is_free (record_at d b)) where
-  -- a block for which the code's test fails is passed over
-  pub walked_asked : (ltb t n && y) ≡ false → Walked d f c s n (b + 1) t l
+  -- a block that is not free is passed over
+  pub walked_held : y ≡ false → Walked d f c s n (b + 1) t l
   unfolding free_at
-  walked_asked q =
-      by_order t n
-      (λ h. walked_not d f c s n b t l w (sym e ∙ and_not (ltb t n) y (lt_true h) q))
-      (λ h. walked_full d f c s n b t l w h)
+  walked_held q = walked_not d f c s n b t l w (sym e ∙ q)
 
-  -- a block for which the code's test passes is given
-  pub walked_given : (m : List ℕ) → (ltb t n && y) ≡ true
+  -- a free block is given, where there are not enough
+  pub walked_given : (m : List ℕ) → y ≡ true → t < n
       → m ≡ image_of (given (disk_of l) b (part c (s + t)) (File f (s + t))) → Walked d f c s n (b + 1) (t + 1) m
   unfolding free_at
-  walked_given m q z = walked_more d f c s n b t l w m (sym e ∙ and_right (ltb t n) y q) (true_lt (and_left (ltb t n) y q)) z
-
--- where the code's test passes, fewer than n blocks are given
-pub asked_below : (t n : ℕ) (y : Bool) → (ltb t n && y) ≡ true → t < n
-asked_below t n y q = true_lt (and_left (ltb t n) y q)
+  walked_given m q h z = walked_more d f c s n b t l w m (sym e ∙ q) h z
 
 -- a stored file without entry and data is zeros
 pub stored_zeros : stored_row [] [] ≡ zeros
@@ -320,6 +314,12 @@ pub slot_written : (l m : List ℕ) (k b : ℕ) (g : ℕ → ℕ) → b ≡ part
     → m ≡ image_of (patched (disk_of l) b (k % block_slots * slot_bytes) slot_bytes g) → m ≡ image_of (set_slot (disk_of l) k g)
 unfolding set_slot
 slot_written l m k b g e q = q ∙ ap (λ (x : ℕ). image_of (patched (disk_of l) x (k % block_slots * slot_bytes) slot_bytes g)) e
+
+-- a slot that has no block is not written
+pub slot_nowhere : (l : List ℕ) (k : ℕ) (g : ℕ → ℕ) → length l ≡ image_bytes → blocks ≤ part_block (disk_of l) 0 (k / block_slots)
+    → l ≡ image_of (set_slot (disk_of l) k g)
+unfolding set_slot
+slot_nowhere l k g long h = row_nowhere l (part_block (disk_of l) 0 (k / block_slots)) (k % block_slots * slot_bytes) g long h slot_bytes
 
 -- free word and update count, written one after the other, are both steps
 pub settled_written : (l₀ l₁ l₂ : List ℕ) → l₁ ≡ image_of (set_free (disk_of l₀))

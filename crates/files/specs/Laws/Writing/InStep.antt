@@ -1,12 +1,13 @@
 -- A loaded map that is kept in step with its image while the image is written.
 -- Rests on the loaded map (Loading.Loaded), on steps and rows (Steps, Stored), on records in their bytes and on a sound disk's record 0
 -- (file_rules, Base.Records and Base.Sound).
-use Rattle.std.specs.Prelude.{◌≡◌, refl, ◌≢◌, Bool, true, false, List, ℕ, suc, ◌+◌, ◌*◌, ◌/◌, ◌%◌, ◌≤◌, ◌<◌, set}
+use Rattle.std.specs.Prelude.{◌≡◌, refl, ◌≢◌, Bool, true, false, List, ℕ, zero, suc, ◌+◌, ◌*◌, ◌/◌, ◌%◌, ◌≤◌, ◌<◌, set}
 use Rattle.std.proofs.Math.Path.{sym, ap}
 use Rattle.std.proofs.Common.{◌∙◌, arith}
 use Rattle.std.proofs.Math.Option.{none}
 use Rattle.std.proofs.Math.ListN.{length, get_or, length-set}
 use Rattle.std.proofs.Math.Seq.{get_or-set_same, get_or-set_other}
+use Rattle.std.specs.Coded.{Coded-set, coded_ℕ, coded×, code_by}
 use Rattle.laws.specs.Changes.{upd, patch}
 use Rattle.laws.specs.Numbers.{high_byte}
 use Rattle.laws.specs.Laws.Cases.{by_order, by_equal}
@@ -25,7 +26,7 @@ use Rattle.file_rules.proofs.Laws.Base.Sound.{first_system, part_not_first}
 use Rattle.file_rules.specs.Map.{decode, number_of, encode, record_byte, number_at, record_at, part_block}
 use Rattle.file_rules.specs.Sizes.{block_bytes, slot_bytes, block_slots, map_start, record_bytes, whole_blocks, bytes_over}
 use Rattle.file_rules.specs.Written.{set_block, set_record, set_slot, set_word, set_end}
-use Rattle.files.specs.Laws.Loading.Loaded.{loaded_record, MapLoaded, number_cong, record_loaded}
+use Rattle.files.specs.Laws.Loading.Loaded.{loaded_record, MapLoaded, map_loaded_prop, number_cong, record_loaded}
 use Rattle.files.specs.Laws.Writing.Steps.{FitsRecord}
 use Rattle.files.specs.Laws.Writing.Stored.{inside_image, patched}
 
@@ -34,6 +35,35 @@ pub record InStep (map image : List ℕ) : Type 0 where
   pub long : length image ≡ image_bytes
   pub loaded_map : MapLoaded map (disk_of image)
   pub system : loaded_record map 0 ≡ System
+  deriving IsProp as in_step_parts
+
+-- a record as numbers, and back
+abbrev numbers : Record → ℕ × (ℕ × ℕ)
+numbers Free = (0, (0, 0))
+numbers Bad = (1, (0, 0))
+numbers System = (2, (0, 0))
+numbers Other = (3, (0, 0))
+numbers (File f s) = (4, (f, s))
+
+abbrev recorded : ℕ × (ℕ × ℕ) → Record
+recorded (zero, p) = Free
+recorded (suc zero, p) = Bad
+recorded (suc (suc zero), p) = System
+recorded (suc (suc (suc zero)), p) = Other
+recorded (suc (suc (suc (suc n))), (f, s)) = File f s
+
+numbers_back : (r : Record) → recorded (numbers r) ≡ r
+numbers_back Free = refl
+numbers_back Bad = refl
+numbers_back System = refl
+numbers_back Other = refl
+numbers_back (File f s) = refl
+
+-- a map is in step with an image in one way
+pub in_step_prop : (map image : List ℕ) → IsProp (InStep map image)
+in_step_prop map image =
+    in_step_parts (Prim.hlevel (Coded-set coded_ℕ)) (Prim.hlevel (map_loaded_prop map (disk_of image)))
+    (Prim.hlevel (Coded-set (code_by (ℕ × (ℕ × ℕ)) (coded× coded_ℕ (coded× coded_ℕ coded_ℕ)) numbers recorded numbers_back)))
 
 -- a map that was just loaded from a sound disk is in step with it
 pub in_step : (map image : List ℕ) → length image ≡ image_bytes → MapLoaded map (disk_of image) → disk_refusal (disk_of image) ≡ none → InStep map image

@@ -1,14 +1,14 @@
 -- Rows of bytes of a block that lie in one sector, and so in a row in the image: read, and written.
 -- Rests on rows of bytes (Stored, Steps) and on bytes of a block in one sector (Loading.Slots).
-use Rattle.std.specs.Prelude.{◌≡◌, refl, true, cond, ◌&&◌, List, ℕ, zero, suc, ◌+◌, ◌-◌, ◌*◌, ◌/◌, ◌%◌, ◌≤◌, ◌<◌, leb, ltb, length, set, drop}
+use Rattle.std.specs.Prelude.{◌≡◌, refl, cond, List, ℕ, zero, suc, ◌+◌, ◌-◌, ◌*◌, ◌/◌, ◌%◌, ◌≤◌, ◌<◌, ltb, length, set, drop}
 use Rattle.std.proofs.Math.Path.{sym, ap}
-use Rattle.std.proofs.Common.{◌∙◌, zero-add, add_assoc, add-one, get_or-set_same, get_or-set_other}
+use Rattle.std.proofs.Common.{◌∙◌, zero-add, add_assoc, add-one}
 use native.Mathlib.Omega.{arith}
 use Rattle.std.proofs.Math.ListN.{get_or, take}
 use Rattle.laws.specs.Lists.{tab, element_at, window}
 use Rattle.laws.specs.Changes.{upd, patch, overlay, put}
-use Rattle.laws.specs.Laws.Cases.{by_order, by_equal}
-use Rattle.laws.specs.Laws.Tests.{lt_true, lt_false, true_le, cond_true, cond_false, and_left, and_right}
+use Rattle.laws.specs.Laws.Cases.{by_order}
+use Rattle.laws.specs.Laws.Tests.{lt_true, lt_false, cond_true, cond_false}
 use Rattle.laws.specs.Laws.Tab.{tab_ext, window_part}
 use Rattle.laws.specs.Laws.Changes.{upd_same, upd_twice, patch_next}
 use Rattle.laws.specs.Laws.Overlay.{overlay_none, overlay_more, overlay_cong, overlay_clip}
@@ -74,7 +74,7 @@ module _ (l : List ℕ) (b o : ℕ) (g : ℕ → ℕ) (long : length l ≡ image
       ∙ ap (λ (k : ℕ). image_of (patched (disk_of l) b o k g)) (add-one n)
 
   -- in none
-  row_nowhere : blocks ≤ b → (n : ℕ) → l ≡ image_of (patched (disk_of l) b o n g)
+  pub row_nowhere : blocks ≤ b → (n : ℕ) → l ≡ image_of (patched (disk_of l) b o n g)
   row_nowhere h zero = patched_none l b o g long
   row_nowhere h (suc n) =
       patched_more (disk_of l) b o n g l l (g n) (row_nowhere h n) (set_no_block l b (o + n) (g n) long h) refl
@@ -130,33 +130,16 @@ rows_part d b o n src e l m before h k q =
 
 -- ---- the bytes of a file
 
--- one byte more of a row
-pub row_bytes_more : (l : List ℕ) (k v : ℕ) (f : ℕ → ℕ) → k < length l → ((j : ℕ) → j < k → get_or l j 0 ≡ f j) → v ≡ f k
-    → (j : ℕ) → j < k + 1 → get_or (set l k v) j 0 ≡ f j
-row_bytes_more l k v f b h e j lt =
-    by_equal j k
-    (λ q. ap (λ (x : ℕ). get_or (set l k v) x 0) q ∙ get_or-set_same l k v 0 b ∙ e ∙ ap f (sym q))
-    (λ q. get_or-set_other l k j v 0 q ∙ h j (omega arith))
-
--- those of a part of its data, where the test finds that all of them lie there
-module _ (content : List ℕ) (i : ℕ) (t : (leb slot_bytes i && leb (i + sector_bytes - slot_bytes) (length content)) ≡ true) where
-  -- the row begins after the file's first 64 bytes
-  pub content_past : slot_bytes ≤ i
-  content_past = true_le (and_left (leb slot_bytes i) (leb (i + sector_bytes - slot_bytes) (length content)) t)
-
-  -- the row ends within the file's data
-  pub content_within : i + sector_bytes - slot_bytes ≤ length content
-  content_within = true_le (and_right (leb slot_bytes i) (leb (i + sector_bytes - slot_bytes) (length content)) t)
-
+-- those of a part of its data, where all of them lie there
+module _ (content : List ℕ) (i : ℕ) (h : slot_bytes ≤ i) (l : i + sector_bytes - slot_bytes ≤ length content) where
   -- the row of data is the row of the stored file
   pub content_row : (head : List ℕ)
       → take (i + sector_bytes - slot_bytes - (i - slot_bytes)) (drop (i - slot_bytes) content) ≡ tab (λ (k : ℕ). stored_row head content (i + k)) sector_bytes
   unfolding stored_row window element_at
   content_row head =
-      let h : slot_bytes ≤ i = content_past in
       let n : i + sector_bytes - slot_bytes - (i - slot_bytes) ≡ sector_bytes = omega arith in
       ap (λ (x : ℕ). take x (drop (i - slot_bytes) content)) n
-      ∙ window_part content (i - slot_bytes) sector_bytes (omega (arith, content_within))
+      ∙ window_part content (i - slot_bytes) sector_bytes (omega arith)
       ∙ tab_ext _ _ sector_bytes
       (λ k hk.
       let z : i - slot_bytes + k ≡ i + k - slot_bytes = omega arith in

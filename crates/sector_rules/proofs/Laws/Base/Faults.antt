@@ -1,6 +1,6 @@
 -- A judgement that finds nothing, what a track table without fault says of each track, and a header without fault of its fields.
 -- Rests on the laws of the lowest number that passes a test.
-use Rattle.std.specs.Prelude.{Bool, true, false, ◌&&◌, ◌||◌, not, List, ◌≡◌, refl, ℕ, ◌+◌, ◌%◌, ◌≤◌, ◌<◌, leb, ltb, eqb, length, get_or}
+use Rattle.std.specs.Prelude.{Some, None, Bool, true, false, ◌&&◌, ◌||◌, not, List, ◌≡◌, refl, ℕ, ◌+◌, ◌%◌, ◌≤◌, ◌<◌, leb, ltb, eqb, length, get_or}
 use Rattle.std.proofs.Common.{ap, le_refl, arith}
 use borrow.Author.Tests.{lt-ltb, le-ltb, leb-true, eqb-true, not-false}
 use Rattle.laws.specs.Below.{lowest}
@@ -8,39 +8,38 @@ use Rattle.laws.specs.Numbers.{low_first}
 use Rattle.laws.specs.Laws.Cases.{by_order}
 use Rattle.laws.specs.Laws.Tests.{and_right}
 use Rattle.laws.specs.Laws.Lowest.{lowest_none, lowest_all, lowest_cong}
-use Rattle.sector_rules.specs.declared.Fault.{Fault}
-use Rattle.sector_rules.specs.declared.Fault.TheVariants.{At, Sound}
+use Rattle.sector_rules.specs.Faults.{Fault}
 use Rattle.sector_rules.specs.Faults.{wrong_at, or_fault, fault_below, lowest_fault}
 use Rattle.sector_rules.specs.Geometry.{tracks}
 use Rattle.sector_rules.specs.Hfe.{is_version1, is_version3, format_fault, flag_fault, field_fault, hfe_header_fault}
 use Rattle.sector_rules.specs.Hfe.{entry_place, track_start, track_length, track_unit_bytes, track_good, table_fault}
 
 -- a fault at a place is a fault
-pub at_not_sound : (m : ℕ) → At m ≡ Sound → ⊥
+pub at_not_sound : (m : ℕ) → Some m ≡ None → ⊥
 at_not_sound m e = let z : ◌≡◌ {A = ℕ} 0 1 = cc in omega arith
 
 -- where of two fields none is at fault, neither the first is nor the second
-pub both_sound : (a b : Fault) → or_fault a b ≡ Sound → (a ≡ Sound) × (b ≡ Sound)
-both_sound (At o) b e = absurd (at_not_sound o e)
-both_sound Sound b e = (refl, e)
+pub both_sound : (a b : Fault) → or_fault a b ≡ None → (a ≡ None) × (b ≡ None)
+both_sound (Some o) b e = absurd (at_not_sound o e)
+both_sound None b e = (refl, e)
 
 -- a field without a fault is right
-pub field_right : (o : ℕ) (right : Bool) → wrong_at o right ≡ Sound → right ≡ true
+pub field_right : (o : ℕ) (right : Bool) → wrong_at o right ≡ None → right ≡ true
 field_right o true e = refl
 field_right o false e = absurd (at_not_sound o e)
 
 module _ (p : ℕ → Bool) (n : ℕ) where
   -- where no number below n is at fault, there is no fault
-  pub fault_none : ((k : ℕ) → k < n → p k ≡ false) → lowest_fault p n ≡ Sound
+  pub fault_none : ((k : ℕ) → k < n → p k ≡ false) → lowest_fault p n ≡ None
   unfolding lowest_fault fault_below
   fault_none h = rw (lowest_none p n h, le-ltb n n (le_refl n))
 
   -- where there is no fault, the test holds nowhere
-  pub fault_all : lowest_fault p n ≡ Sound → (k : ℕ) → k < n → p k ≡ false
+  pub fault_all : lowest_fault p n ≡ None → (k : ℕ) → k < n → p k ≡ false
   unfolding lowest_fault fault_below
   fault_all e =
       by_order (lowest p n) n
-      (λ l. let z : At (lowest p n) ≡ Sound = rw (lt-ltb (lowest p n) n l) at e in absurd (at_not_sound (lowest p n) z))
+      (λ l. let z : Some (lowest p n) ≡ None = rw (lt-ltb (lowest p n) n l) at e in absurd (at_not_sound (lowest p n) z))
       (λ l. lowest_all p n l)
 
 -- two tests that agree below n find the same fault
@@ -51,7 +50,7 @@ fault_cong p q n e = ap (fault_below n) (lowest_cong p q n e)
 -- ---- a table without fault
 
 -- where the table has no fault, each track's entry is good
-pub table_good : (h : List ℕ) → table_fault h ≡ Sound → (t : ℕ) → t < tracks → track_good h t ≡ true
+pub table_good : (h : List ℕ) → table_fault h ≡ None → (t : ℕ) → t < tracks → track_good h t ≡ true
 unfolding table_fault
 table_good h e t l = not-false (track_good h t) (fault_all (λ (k : ℕ). not (track_good h k)) tracks e t l)
 
@@ -65,8 +64,8 @@ track_within h t e =
 
 -- ---- a header without fault
 
-module _ (h : List ℕ) (e : hfe_header_fault h ≡ Sound) where
-  after_letters : or_fault (format_fault h) (or_fault (wrong_at 18 (leb 1 (low_first h 18 2))) (or_fault (flag_fault h 22) (flag_fault h 24))) ≡ Sound
+module _ (h : List ℕ) (e : hfe_header_fault h ≡ None) where
+  after_letters : or_fault (format_fault h) (or_fault (wrong_at 18 (leb 1 (low_first h 18 2))) (or_fault (flag_fault h 22) (flag_fault h 24))) ≡ None
   unfolding hfe_header_fault field_fault
   after_letters = (both_sound (wrong_at 0 (is_version1 h || is_version3 h)) _ e).1
 

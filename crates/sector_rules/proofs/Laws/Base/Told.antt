@@ -1,6 +1,6 @@
 -- What an answer says of how it came: of a field that was delivered, of a header, of the search, of a sector, and of an image that was accepted.
 -- Rests on the laws of the search (Search), of unpacking (Unpacked) and of wrong codes (Versions).
-use Rattle.std.specs.Prelude.{Bool, cond, ◌&&◌, List, refl, leb, length}
+use Rattle.std.specs.Prelude.{Some, None, Ok, Err, Bool, cond, ◌&&◌, List, refl, leb, length}
 use Rattle.std.proofs.Math.Bool.{true, false}
 use Rattle.std.proofs.lemmas.Bool.{false≢true}
 use Rattle.std.proofs.Math.Option.{Option, none, some}
@@ -15,13 +15,11 @@ use Rattle.laws.specs.Laws.Tests.{true≢false, cond_true, cond_false, lt_true, 
 use Rattle.laws.specs.Laws.Lowest.{lowest_all, lowest_hit}
 use Rattle.cells.specs.Stream.{from, data_byte}
 use Rattle.cells.specs.Sync.{three_sync}
-use Rattle.sector_rules.specs.declared.Header.TheVariants.{Is, Absent}
 use Rattle.sector_rules.specs.declared.Found.{Found}
 use Rattle.sector_rules.specs.declared.Found.TheVariants.{One, Nothing, Several}
-use Rattle.sector_rules.specs.declared.Sector.{Sector}
-use Rattle.sector_rules.specs.declared.Sector.TheVariants.{Delivered, NoField, Damaged}
-use Rattle.sector_rules.specs.declared.Fault.{Fault}
-use Rattle.sector_rules.specs.declared.Fault.TheVariants.{At, Sound}
+use Rattle.sector_rules.specs.Search.{Sector}
+use Rattle.sector_rules.specs.declared.SectorFault.TheVariants.{NoField, Damaged}
+use Rattle.sector_rules.specs.Faults.{Fault}
 use Rattle.sector_rules.specs.declared.Reply.{Reply}
 use Rattle.sector_rules.specs.Replies.{reply_with}
 use Rattle.sector_rules.specs.Geometry.{all_sectors, image_bytes}
@@ -39,12 +37,12 @@ use Rattle.sector_rules.proofs.Laws.Base.Versions.{codes_number}
 
 -- ---- a field
 
-told : (a b : Bool) (p q : ℕ) → cond a (cond b (Delivered p) Damaged) NoField ≡ Delivered q → (a ≡ true) × (b ≡ true) × (p ≡ q)
+told : (a b : Bool) (p q : ℕ) → cond a (cond b (Ok p) (Err Damaged)) (Err NoField) ≡ Ok q → (a ≡ true) × (b ≡ true) × (p ≡ q)
 told true true p q e = (refl, refl, cc)
 told true false p q e = let z : ◌≡◌ {A = ℕ} 0 1 = cc in absurd (omega arith)
 told false b p q e = let z : ◌≡◌ {A = ℕ} 0 1 = cc in absurd (omega arith)
 
-module _ (c : List ℕ) (j p : ℕ) (e : field_at c j ≡ Delivered p) where
+module _ (c : List ℕ) (j p : ℕ) (e : field_at c j ≡ Ok p) where
   -- a field that was delivered fits, has its mark, its CRC holds, and its bytes begin 64 cells after it
   pub field_told : ((leb field_cells (length (from c j)) && eqb (data_byte (from c j) 48) data_mark) ≡ true) × (crc_holds (from c j) 516 ≡ true) × (j + 64 ≡ p)
   unfolding field_at
@@ -66,17 +64,17 @@ module _ (c : List ℕ) (j p : ℕ) (e : field_at c j ≡ Delivered p) where
 
 module _ (c : List ℕ) (t s r i : ℕ) where
   -- where a header of the sector stands, a header stands, and it belongs to the sector
-  pub header_split : header_at c t s r i ≡ true → (is_header (from c i) ≡ true) × (is_header_of t s r (Is (id_of (from c i))) ≡ true)
+  pub header_split : header_at c t s r i ≡ true → (is_header (from c i) ≡ true) × (is_header_of t s r (Some (id_of (from c i))) ≡ true)
   unfolding header_at header_of
   header_split e =
       by_test (is_header (from c i))
-      (λ u. (u, ap (is_header_of t s r) (sym (cond_true (Is (id_of (from c i))) Absent u)) ∙ e))
-      (λ u. absurd (false≢true (ap (is_header_of t s r) (sym (cond_false (Is (id_of (from c i))) Absent u)) ∙ e)))
+      (λ u. (u, ap (is_header_of t s r) (sym (cond_true (Some (id_of (from c i))) None u)) ∙ e))
+      (λ u. absurd (false≢true (ap (is_header_of t s r) (sym (cond_false (Some (id_of (from c i))) None u)) ∙ e)))
 
   -- where a header stands that belongs to the sector, a header of the sector stands
-  pub header_join : is_header (from c i) ≡ true → is_header_of t s r (Is (id_of (from c i))) ≡ true → header_at c t s r i ≡ true
+  pub header_join : is_header (from c i) ≡ true → is_header_of t s r (Some (id_of (from c i))) ≡ true → header_at c t s r i ≡ true
   unfolding header_at header_of
-  header_join u e = ap (is_header_of t s r) (cond_true (Is (id_of (from c i))) Absent u) ∙ e
+  header_join u e = ap (is_header_of t s r) (cond_true (Some (id_of (from c i))) None u) ∙ e
 
 module _ (f : List ℕ) (e : is_header f ≡ true) where
   -- a header begins with three sync bytes
@@ -142,8 +140,8 @@ module _ (p : ℕ → Bool) where
   -- the first place where the test holds gave the answer
   module _ (f : ℕ → Sector) where
     -- a field that was delivered by looking place by place stands at the first place where the test holds
-    pub first_told : (m i x : ℕ) → first p f NoField m i ≡ Delivered x
-        → (k : ℕ) × (k < m) × ((j : ℕ) → j < k → p (i + j) ≡ false) × (p (i + k) ≡ true) × (f (i + k) ≡ Delivered x)
+    pub first_told : (m i x : ℕ) → first p f (Err NoField) m i ≡ Ok x
+        → (k : ℕ) × (k < m) × ((j : ℕ) → j < k → p (i + j) ≡ false) × (p (i + k) ≡ true) × (f (i + k) ≡ Ok x)
     unfolding first
     first_told zero i x e = let z : ◌≡◌ {A = ℕ} 0 1 = cc in absurd (omega arith)
     first_told (suc m) i x e =
@@ -153,11 +151,11 @@ module _ (p : ℕ → Bool) where
           omega arith,
           (λ j h. absurd (omega arith)),
           ap p (add-zero i) ∙ u,
-          ap f (add-zero i) ∙ sym (cond_true (f i) (first p f NoField m (suc i)) u) ∙ e,
+          ap f (add-zero i) ∙ sym (cond_true (f i) (first p f (Err NoField) m (suc i)) u) ∙ e,
         ))
         (λ u.
-        let r : (k : ℕ) × (k < m) × ((j : ℕ) → j < k → p (suc i + j) ≡ false) × (p (suc i + k) ≡ true) × (f (suc i + k) ≡ Delivered x) =
-        first_told m (suc i) x (sym (cond_false (f i) (first p f NoField m (suc i)) u) ∙ e) in
+        let r : (k : ℕ) × (k < m) × ((j : ℕ) → j < k → p (suc i + j) ≡ false) × (p (suc i + k) ≡ true) × (f (suc i + k) ≡ Ok x) =
+        first_told m (suc i) x (sym (cond_false (f i) (first p f (Err NoField) m (suc i)) u) ∙ e) in
         let z : i + suc r.0 ≡ suc i + r.0 = omega arith in
         (suc r.0, omega (arith, r.1), (λ j h. off r.0 r.2 u j h), ap p z ∙ r.3, ap f z ∙ r.4))
       where
@@ -167,15 +165,15 @@ module _ (p : ℕ → Bool) where
 
 -- ---- the sector that the search finds
 
-found_told : (c : List ℕ) (f : Found) (p : ℕ) → sector_found c f ≡ Delivered p → (i : ℕ) × (f ≡ One i) × (field_of c i ≡ Delivered p)
+found_told : (c : List ℕ) (f : Found) (p : ℕ) → sector_found c f ≡ Ok p → (i : ℕ) × (f ≡ One i) × (field_of c i ≡ Ok p)
 unfolding sector_found
 found_told c (One i) p e = (i, refl, e)
 found_told c Nothing p e = let z : ◌≡◌ {A = ℕ} 0 1 = cc in absurd (omega arith)
 found_told c Several p e = let z : ◌≡◌ {A = ℕ} 0 1 = cc in absurd (omega arith)
 
-module _ (c : List ℕ) (t s r p : ℕ) (e : sector_of c t s r ≡ Delivered p) where
+module _ (c : List ℕ) (t s r p : ℕ) (e : sector_of c t s r ≡ Ok p) where
   -- a sector that was delivered has one header, and the field of that header was delivered
-  pub sector_told : (i : ℕ) × (find_sector c t s r ≡ One i) × (field_of c i ≡ Delivered p)
+  pub sector_told : (i : ℕ) × (find_sector c t s r ≡ One i) × (field_of c i ≡ Ok p)
   unfolding sector_of
   sector_told = found_told c (find_sector c t s r) p e
 
@@ -186,15 +184,15 @@ module _ (c : List ℕ) (t s r i : ℕ) (e : find_sector c t s r ≡ One i) wher
   header_told = one_below (header_at c t s r) (length c) i e
 
 -- the place of the field after the header at i: k cells after the header's end
-module _ (c : List ℕ) (i p : ℕ) (e : field_of c i ≡ Delivered p) where
+module _ (c : List ℕ) (i p : ℕ) (e : field_of c i ≡ Ok p) where
   -- the field that was delivered of a header begins at the first run of three sync bytes, at most 688 cells after the header
   pub gap_told : (k : ℕ) × (k < gap_cells + 1) × ((j : ℕ) → j < k → three_sync (from c (i + header_cells + j)) ≡ false)
-      × (three_sync (from c (i + header_cells + k)) ≡ true) × (field_at c (i + header_cells + k) ≡ Delivered p)
+      × (three_sync (from c (i + header_cells + k)) ≡ true) × (field_at c (i + header_cells + k) ≡ Ok p)
   unfolding field_of
   gap_told = first_told (λ (j : ℕ). three_sync (from c j)) (field_at c) (gap_cells + 1) (i + header_cells) p e
 
 -- the place of a sector's bytes is 64 cells after that of its field
-pub sector_place_lem : (c : List ℕ) (t s r p : ℕ) → sector_of c t s r ≡ Delivered p → (j : ℕ) × (p ≡ j + 64)
+pub sector_place_lem : (c : List ℕ) (t s r p : ℕ) → sector_of c t s r ≡ Ok p → (j : ℕ) × (p ≡ j + 64)
 sector_place_lem c t s r p e =
     let x = sector_told c t s r p e in
     let w = gap_told c x.0 p x.2 in
@@ -214,7 +212,7 @@ module _ (h : List ℕ) where
       (bad_number_lem (first_bad h) (sector_at h (first_bad h)) b))
       (λ l. l)
 
-  all_good : (sectors_reply h).number ≡ 0 → (m : ℕ) → m < all_sectors → sector_at h m ≡ Delivered (place_of (sector_at h m))
+  all_good : (sectors_reply h).number ≡ 0 → (m : ℕ) → m < all_sectors → sector_at h m ≡ Ok (place_of (sector_at h m))
   unfolding first_bad
   all_good e m l = good_is (sector_at h m) (lowest_all (λ (k : ℕ). is_bad (sector_at h k)) all_sectors (none_bad e) m l)
 
@@ -230,28 +228,28 @@ module _ (h : List ℕ) where
         not_zero : (r : Reply) → unpack_reply h n ≡ r → (k : ℕ) → r.number ≡ suc k → ⊥
         not_zero r p k q = let z : r.number ≡ 0 = ap (λ (x : Reply). x.number) (sym p) ∙ e in omega arith
 
-        codes : (l : least_hfe ≤ length h) (q : n ≡ image_bytes) → hfe_header_fault h ≡ Sound → table_fault h ≡ Sound → (x : Option Reply)
+        codes : (l : least_hfe ≤ length h) (q : n ≡ image_bytes) → hfe_header_fault h ≡ None → table_fault h ≡ None → (x : Option Reply)
             → first_code_refusal h ≡ x
             → (sectors_reply h).number ≡ 0
         codes l q g f (some r) c = absurd (not_zero r (codes_reply h n l q g f r c) 17 (codes_number h r c))
         codes l q g f none c = ap (λ (x : Reply). x.number) (sym (sound_reply h n l q g f c)) ∙ e
 
-        table : (l : least_hfe ≤ length h) (q : n ≡ image_bytes) → hfe_header_fault h ≡ Sound → (f : Fault) → table_fault h ≡ f → (sectors_reply h).number ≡ 0
-        table l q g (At t) f = absurd (not_zero (reply_with 3 t 0 0) (table_reply_lem h n l q g t f) 2 refl)
-        table l q g Sound f = codes l q g f (first_code_refusal h) refl
+        table : (l : least_hfe ≤ length h) (q : n ≡ image_bytes) → hfe_header_fault h ≡ None → (f : Fault) → table_fault h ≡ f → (sectors_reply h).number ≡ 0
+        table l q g (Some t) f = absurd (not_zero (reply_with 3 t 0 0) (table_reply_lem h n l q g t f) 2 refl)
+        table l q g None f = codes l q g f (first_code_refusal h) refl
 
         header : (l : least_hfe ≤ length h) (q : n ≡ image_bytes) (f : Fault) → hfe_header_fault h ≡ f → (sectors_reply h).number ≡ 0
-        header l q (At o) f = absurd (not_zero (reply_with 2 o 0 0) (header_reply h n l q o f) 1 refl)
-        header l q Sound f = table l q f (table_fault h) refl
+        header l q (Some o) f = absurd (not_zero (reply_with 2 o 0 0) (header_reply h n l q o f) 1 refl)
+        header l q None f = table l q f (table_fault h) refl
 
     -- of an image that is accepted each sector is delivered
-    pub each_delivered : (m : ℕ) → m < all_sectors → sector_at h m ≡ Delivered (place_of (sector_at h m))
+    pub each_delivered : (m : ℕ) → m < all_sectors → sector_at h m ≡ Ok (place_of (sector_at h m))
     each_delivered m l = all_good sectors_done m l
 
     -- of an image that is accepted the field of each sector begins 64 cells before its bytes
-    pub each_place : (m : ℕ) → m < all_sectors → (j : ℕ) × (sector_at h m ≡ Delivered (j + 64))
+    pub each_place : (m : ℕ) → m < all_sectors → (j : ℕ) × (sector_at h m ≡ Ok (j + 64))
     unfolding sector_at
     each_place m l =
         let e = each_delivered m l in
         let x = sector_place_lem (side_stream h (track_of m) (side_of m)) (track_of m) (side_of m) (r_of m) (place_of (sector_at h m)) e in
-        (x.0, e ∙ ap Delivered x.1)
+        (x.0, e ∙ ap Ok x.1)

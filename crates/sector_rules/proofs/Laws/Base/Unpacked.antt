@@ -1,7 +1,7 @@
 -- Unpacking: the place of a sector's bytes, and the replies in their order.
 -- Rests on the case splits.
 use Rattle.sector_rules.specs.Unpacked.{place_of}
-use Rattle.std.specs.Prelude.{Bool, true, false, cond, List, ◌≡◌, refl, ℕ, ◌≤◌, ◌<◌, eqb, length}
+use Rattle.std.specs.Prelude.{Some, None, Ok, Err, Bool, true, false, cond, List, ◌≡◌, refl, ℕ, ◌≤◌, ◌<◌, eqb, length}
 use Rattle.std.proofs.lemmas.Bool.{false≢true}
 use Rattle.std.proofs.Math.Option.{none, some}
 use Rattle.std.proofs.Common.{sym, ap, ◌∙◌}
@@ -10,9 +10,8 @@ use Rattle.laws.specs.Lists.{tab}
 use Rattle.laws.specs.Options.{or_else}
 use Rattle.laws.specs.Laws.Cases.{by_order, by_equal}
 use Rattle.sector_rules.specs.declared.Reply.{Reply}
-use Rattle.sector_rules.specs.declared.Fault.TheVariants.{At, Sound}
-use Rattle.sector_rules.specs.declared.Sector.{Sector}
-use Rattle.sector_rules.specs.declared.Sector.TheVariants.{Delivered, Missing, Repeated, NoField, Damaged}
+use Rattle.sector_rules.specs.Search.{Sector}
+use Rattle.sector_rules.specs.declared.SectorFault.TheVariants.{Missing, Repeated, NoField, Damaged}
 use Rattle.sector_rules.specs.Replies.{reply_with, unless}
 use Rattle.sector_rules.specs.Faults.{refusal_at}
 use Rattle.sector_rules.specs.Geometry.{image_bytes}
@@ -20,20 +19,20 @@ use Rattle.sector_rules.specs.Hfe.{hfe_header_fault, table_fault}
 use Rattle.sector_rules.specs.Unpacked.{least_hfe, is_bad, sector_reply, sectors_reply, first_code_refusal, unpack_reply, unpack_image, unpacked_byte}
 
 -- a sector that is not bad is delivered
-pub good_is : (x : Sector) → is_bad x ≡ false → x ≡ Delivered (place_of x)
-good_is (Delivered p) e = refl
-good_is Missing e = absurd (false≢true (sym e))
-good_is Repeated e = absurd (false≢true (sym e))
-good_is NoField e = absurd (false≢true (sym e))
-good_is Damaged e = absurd (false≢true (sym e))
+pub good_is : (x : Sector) → is_bad x ≡ false → x ≡ Ok (place_of x)
+good_is (Ok p) e = refl
+good_is (Err Missing) e = absurd (false≢true (sym e))
+good_is (Err Repeated) e = absurd (false≢true (sym e))
+good_is (Err NoField) e = absurd (false≢true (sym e))
+good_is (Err Damaged) e = absurd (false≢true (sym e))
 
 -- the reply for a bad sector is not 0
 pub bad_number_lem : (m : ℕ) (x : Sector) → is_bad x ≡ true → eqb (sector_reply m x).number 0 ≡ false
-bad_number_lem m (Delivered p) e = absurd (false≢true e)
-bad_number_lem m Missing e = refl
-bad_number_lem m Repeated e = refl
-bad_number_lem m NoField e = refl
-bad_number_lem m Damaged e = refl
+bad_number_lem m (Ok p) e = absurd (false≢true e)
+bad_number_lem m (Err Missing) e = refl
+bad_number_lem m (Err Repeated) e = refl
+bad_number_lem m (Err NoField) e = refl
+bad_number_lem m (Err Damaged) e = refl
 
 -- ---- the replies of unpacking, in order
 
@@ -57,17 +56,17 @@ module _ (h : List ℕ) (n : ℕ) where
       later_reply = rw (le-ltb (length h) least_hfe l, eq-eqb n image_bytes e)
 
       -- an HFE image with a wrong header is refused with 2 and the offset
-      pub header_reply : (o : ℕ) → hfe_header_fault h ≡ At o → unpack_reply h n ≡ reply_with 2 o 0 0
+      pub header_reply : (o : ℕ) → hfe_header_fault h ≡ Some o → unpack_reply h n ≡ reply_with 2 o 0 0
       unfolding unless or_else
       header_reply o f = later_reply ∙ rw f
 
-      module _ (f : hfe_header_fault h ≡ Sound) where
+      module _ (f : hfe_header_fault h ≡ None) where
         -- an HFE image with a wrong table entry is refused with 3 and the track
-        pub table_reply_lem : (t : ℕ) → table_fault h ≡ At t → unpack_reply h n ≡ reply_with 3 t 0 0
+        pub table_reply_lem : (t : ℕ) → table_fault h ≡ Some t → unpack_reply h n ≡ reply_with 3 t 0 0
         unfolding unless or_else
         table_reply_lem t g = later_reply ∙ rw (f, g)
 
-        module _ (g : table_fault h ≡ Sound) where
+        module _ (g : table_fault h ≡ None) where
           -- where header and table are right, an HFE image with a wrong code is refused with 18 and its place
           pub codes_reply : (r : Reply) → first_code_refusal h ≡ some r → unpack_reply h n ≡ r
           unfolding unless or_else
@@ -79,7 +78,7 @@ module _ (h : List ℕ) (n : ℕ) where
           sound_reply c = later_reply ∙ rw (f, g, c)
 
 -- an HFE image with a wrong header is refused, whatever else is wrong
-pub header_refused : (h : List ℕ) (n o : ℕ) → hfe_header_fault h ≡ At o → eqb (unpack_reply h n).number 0 ≡ false
+pub header_refused : (h : List ℕ) (n o : ℕ) → hfe_header_fault h ≡ Some o → eqb (unpack_reply h n).number 0 ≡ false
 header_refused h n o f =
     by_order (length h) least_hfe
     (λ l. ap refused (short_reply h n l))

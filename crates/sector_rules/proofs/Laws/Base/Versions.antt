@@ -1,7 +1,7 @@
 -- The two versions of HFE images: their letters, the cells of their sides, and wrong codes.
 -- Rests on the laws of a list that stands at a place and of the first value that is there.
 use Rattle.sector_rules.specs.Unpacked.{side_refusal}
-use Rattle.std.specs.Prelude.{true, false, List, ℕ, ◌*◌, ◌/◌, ◌%◌, ◌<◌, get_or}
+use Rattle.std.specs.Prelude.{Some, None, true, false, List, ℕ, ◌*◌, ◌/◌, ◌%◌, ◌<◌, get_or}
 use Rattle.std.proofs.Math.Option.{none, some}
 use Rattle.std.proofs.Math.Path.{◌≡◌}
 use Rattle.std.proofs.Common.{sym, ap, ◌∙◌, arith}
@@ -12,7 +12,6 @@ use Rattle.laws.specs.Laws.Same.{stands_each}
 use Rattle.laws.specs.Laws.Options.{first_some_found, first_some_none, first_some_told, first_some_each}
 use Rattle.cells.specs.Stream.{stream, hfe_side}
 use Rattle.cells.specs.Codes.{Decoded, Cells, WrongCode, cells_of}
-use Rattle.sector_rules.specs.declared.Fault.TheVariants.{At, Sound}
 use Rattle.sector_rules.specs.declared.Reply.{Reply}
 use Rattle.sector_rules.specs.Replies.{reply_with}
 use Rattle.sector_rules.specs.Geometry.{tracks, sides}
@@ -45,21 +44,21 @@ module _ (h : List ℕ) where
   version_3_not_1 e = by_test (is_version1 h) (λ t. true≢false (is_version3 h) e (version_1_not_3 t)) (λ f. f)
 
   -- where the letters are not right, field 0 is at fault
-  pub letters_wrong : is_version1 h ≡ false → version1_fault h ≡ At 0
+  pub letters_wrong : is_version1 h ≡ false → version1_fault h ≡ Some 0
   unfolding version1_fault field_fault
   letters_wrong e = rw e
 
   -- the same for an image to unpack whose letters are of neither version
-  pub neither_version : is_version1 h ≡ false → is_version3 h ≡ false → hfe_header_fault h ≡ At 0
+  pub neither_version : is_version1 h ≡ false → is_version3 h ≡ false → hfe_header_fault h ≡ Some 0
   unfolding hfe_header_fault field_fault
   neither_version e f = rw (e, f)
 
   -- an image to rewrite whose header is right has the letters of version 1
-  pub version1_letters : version1_fault h ≡ Sound → is_version1 h ≡ true
+  pub version1_letters : version1_fault h ≡ None → is_version1 h ≡ true
   version1_letters e = by_test (is_version1 h) (λ t. t) (λ f. absurd (at_not_sound 0 (sym (letters_wrong f) ∙ e)))
 
   -- it is not of version 3
-  pub version1_plain : version1_fault h ≡ Sound → is_version3 h ≡ false
+  pub version1_plain : version1_fault h ≡ None → is_version3 h ≡ false
   version1_plain e = version_1_not_3 (version1_letters e)
 
   -- where the letters are those of version 1, an image to unpack is judged as one to rewrite

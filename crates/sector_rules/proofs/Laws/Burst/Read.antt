@@ -1,6 +1,6 @@
 -- The cells of a header or data field that are read, those of its sync bytes and the data cells after them: where two have the same bytes they agree.
 -- Rests on what an answer says of how it came (Base.Told).
-use Rattle.std.specs.Prelude.{Bool, true, ◌&&◌, ◌||◌, List, ◌≡◌, ℕ, ◌+◌, ◌-◌, ◌*◌, ◌/◌, ◌%◌, ◌^◌, ◌≤◌, ◌<◌, eqb}
+use Rattle.std.specs.Prelude.{Some, Ok, Bool, true, ◌&&◌, ◌||◌, List, ◌≡◌, ℕ, ◌+◌, ◌-◌, ◌*◌, ◌/◌, ◌%◌, ◌^◌, ◌≤◌, ◌<◌, eqb}
 use Rattle.std.proofs.Math.Path.{sym, ap}
 use Rattle.std.proofs.Common.{◌∙◌}
 use native.Mathlib.Omega.{arith}
@@ -14,8 +14,6 @@ use Rattle.cells.proofs.Laws.Bits.{byte_cell}
 use Rattle.cells.proofs.Laws.Stream.{from_bit}
 use Rattle.cells.proofs.Laws.Sync.{three_cell}
 use Rattle.sector_rules.specs.declared.Id.{Id}
-use Rattle.sector_rules.specs.declared.Header.TheVariants.{Is}
-use Rattle.sector_rules.specs.declared.Sector.TheVariants.{Delivered}
 use Rattle.sector_rules.specs.Search.{is_header, id_of, is_header_of, field_at, size_code}
 use Rattle.sector_rules.specs.Damage.{Binary}
 use Rattle.sector_rules.proofs.Laws.Base.Told.{field_mark, header_syncs, header_mark_lem}
@@ -60,13 +58,13 @@ headers_read f g bf bg hf hg same e r =
 
 -- two data fields that are delivered agree in the sync bytes and the data cells of the mark
 pub fields_read : (c d : List ℕ) → Binary c → Binary d → (j y p q : ℕ) → three_sync (from c j) ≡ true → three_sync (from d y) ≡ true
-    → field_at c j ≡ Delivered p → field_at d y ≡ Delivered q → (e : ℕ) → is_read 64 e ≡ true → get_or (from c j) e 0 ≡ get_or (from d y) e 0
+    → field_at c j ≡ Ok p → field_at d y ≡ Ok q → (e : ℕ) → is_read 64 e ≡ true → get_or (from c j) e 0 ≡ get_or (from d y) e 0
 fields_read c d bc bd j y p q tc td ec ed e r =
     read_same (from c j) (from d y) (from_bit c j bc) (from_bit d y bd) tc td 64
     (λ k l h. let x : k ≡ 3 = omega arith in rw x (field_mark c j p ec ∙ sym (field_mark d y q ed))) e r
 
 -- a header that belongs to the sector has the track, the side, R and 2
-pub belongs_id : (t s r : ℕ) (i : Id) → is_header_of t s r (Is i) ≡ true → i ≡ record { c = t; h = s; r = r; n = 2 }
+pub belongs_id : (t s r : ℕ) (i : Id) → is_header_of t s r (Some i) ≡ true → i ≡ record { c = t; h = s; r = r; n = 2 }
 belongs_id t s r i e =
     let a₁ = and_left (eqb i.c t && eqb i.h s && eqb i.n size_code) (eqb i.r r) e in
     let a₂ = and_left (eqb i.c t && eqb i.h s) (eqb i.n size_code) a₁ in

@@ -1,7 +1,7 @@
 -- A written side whose changed cells lie among 32 neighbouring ones, wherever these are: what is delivered is what was written. The search finds the header at
 -- its own place or not once (header_place), and its field at its own place or none that is delivered (field_same).
 -- Rests on the known cells that differ at another place (Clash, SideCells), on the cells that are read (Read) and on damage of sides (Damage).
-use Rattle.std.specs.Prelude.{true, false, List, ◌≡◌, length}
+use Rattle.std.specs.Prelude.{Ok, true, false, List, ◌≡◌, length}
 use Rattle.std.proofs.Math.Logic.{⊎_elim}
 use Rattle.std.proofs.Math.Path.{refl, sym, ap}
 use Rattle.std.proofs.Common.{◌∙◌}
@@ -20,7 +20,6 @@ use Rattle.cells.proofs.Laws.Stream.{from_at, from_bit}
 use Rattle.cells.proofs.Laws.Sync.{three_cell}
 use Rattle.sector_rules.specs.declared.Id.{Id}
 use Rattle.sector_rules.specs.declared.Found.TheVariants.{One}
-use Rattle.sector_rules.specs.declared.Sector.TheVariants.{Delivered}
 use Rattle.sector_rules.specs.Search.{data_mark, header_cells, gap_cells, id_of, header_at, find_sector, field_at, field_of, sector_of}
 use Rattle.sector_rules.specs.Packed.{side_item, hfe_bytes, pack_hfe, sector_data}
 use Rattle.sector_rules.specs.Geometry.{all_sectors, image_bytes}
@@ -169,7 +168,7 @@ module _ (t s : ℕ) (ht : t < 128) (hs : s < 2) (dd : ℕ → List ℕ) (d : Li
     -- a field that d has at y, after the place of the written one, whose sync bytes are lost in d
     module _ (y p q : ℕ) (lo : sector_start x + 896 < y) (hi : y ≤ sector_start x + 1040)
         (run : three_sync (from (written_side t s dd) (sector_start x + 896)) ≡ true) (lost : three_sync (from d (sector_start x + 896)) ≡ false)
-        (on : three_sync (from d y) ≡ true) (fc : field_at (written_side t s dd) (sector_start x + 896) ≡ Delivered p) (fd : field_at d y ≡ Delivered q) where
+        (on : three_sync (from d y) ≡ true) (fc : field_at (written_side t s dd) (sector_start x + 896) ≡ Ok p) (fd : field_at d y ≡ Ok q) where
       not_agree : ((m : ℕ) → sector_start x + 896 ≤ m → m < sector_start x + 896 + 48 → get_or (written_side t s dd) m 0 ≡ get_or d m 0) → ⊥
       not_agree a =
           true≢false (three_sync (from d (sector_start x + 896)))
@@ -264,8 +263,8 @@ module _ (t s : ℕ) (ht : t < 128) (hs : s < 2) (dd : ℕ → List ℕ) (d : Li
 
     -- the field of d, which begins so many cells after the header
     field_same : (k p q : ℕ) → k < gap_cells + 1 → ((m : ℕ) → m < k → three_sync (from d (sector_start x + 192 + header_cells + m)) ≡ false)
-        → three_sync (from d (sector_start x + 192 + header_cells + k)) ≡ true → field_at d (sector_start x + 192 + header_cells + k) ≡ Delivered q
-        → three_sync (from (written_side t s dd) (sector_start x + 896)) ≡ true → field_at (written_side t s dd) (sector_start x + 896) ≡ Delivered p
+        → three_sync (from d (sector_start x + 192 + header_cells + k)) ≡ true → field_at d (sector_start x + 192 + header_cells + k) ≡ Ok q
+        → three_sync (from (written_side t s dd) (sector_start x + 896)) ≡ true → field_at (written_side t s dd) (sector_start x + 896) ≡ Ok p
         → (q ≡ sector_start x + 896 + 64) × SameField (written_side t s dd) d (sector_start x + 896)
     field_same k p q hk off on fd run fc =
         by_order k 544
@@ -307,7 +306,7 @@ module _ (t s : ℕ) (ht : t < 128) (hs : s < 2) (dd : ℕ → List ℕ) (d : Li
       b.2
 
   -- what is delivered of a sector of a side with one burst is what was written
-  pub burst_same : (x : ℕ) → x < 9 → (j q : ℕ) → sector_of (written_side t s dd) t s (x + 1) ≡ Delivered (j + 64) → sector_of d t s (x + 1) ≡ Delivered q
+  pub burst_same : (x : ℕ) → x < 9 → (j q : ℕ) → sector_of (written_side t s dd) t s (x + 1) ≡ Ok (j + 64) → sector_of d t s (x + 1) ≡ Ok q
       → (q ≡ j + 64) × SameField (written_side t s dd) d j
   burst_same x hx j q ec ed =
       let a = sector_told (written_side t s dd) t s (x + 1) (j + 64) ec in
@@ -319,7 +318,7 @@ module _ (t s : ℕ) (ht : t < 128) (hs : s < 2) (dd : ℕ → List ℕ) (d : Li
       let f : sector_start x + 896 ≡ j = omega arith in
       let run : three_sync (from (written_side t s dd) (sector_start x + 896)) ≡ true = ap (λ (k : ℕ). three_sync (from (written_side t s dd) k)) (sym r)
       ∙ b.3 in
-      let fc : field_at (written_side t s dd) (sector_start x + 896) ≡ Delivered (j + 64) = ap (field_at (written_side t s dd)) (sym r) ∙ b.4 in
+      let fc : field_at (written_side t s dd) (sector_start x + 896) ≡ Ok (j + 64) = ap (field_at (written_side t s dd)) (sym r) ∙ b.4 in
       let a' = sector_told d t s (x + 1) q ed in
       let i' = header_place x hx a'.0 a'.1 in
       let b' = gap_told d (sector_start x + 192) q (ap (field_of d) (sym i') ∙ a'.2) in
@@ -329,12 +328,12 @@ module _ (t s : ℕ) (ht : t < 128) (hs : s < 2) (dd : ℕ → List ℕ) (d : Li
 
 -- the same, of a side that is known to be written
 side_burst : (t s : ℕ) → t < 128 → s < 2 → (dd : ℕ → List ℕ) (c d : List ℕ) → c ≡ written_side t s dd → Binary d → SideBurst c d
-    → (x : ℕ) → x < 9 → (j q : ℕ) → sector_of c t s (x + 1) ≡ Delivered (j + 64) → sector_of d t s (x + 1) ≡ Delivered q → (q ≡ j + 64) × SameField c d j
+    → (x : ℕ) → x < 9 → (j q : ℕ) → sector_of c t s (x + 1) ≡ Ok (j + 64) → sector_of d t s (x + 1) ≡ Ok q → (q ≡ j + 64) × SameField c d j
 side_burst t s ht hs dd c d e bd g x hx j q ec ed = rw e (burst_same t s ht hs dd d bd (rw e at g) x hx j q (rw e at ec) ed)
 
 -- images with a burst on each side have the same bytes where both deliver them
 pub bursts_bytes : (image hfe g : List ℕ) → length image ≡ image_bytes → length hfe ≡ hfe_bytes → ImageBurst (pack_hfe image hfe) g
-    → (m j q : ℕ) → m < all_sectors → sector_at (pack_hfe image hfe) m ≡ Delivered (j + 64) → sector_at g m ≡ Delivered q
+    → (m j q : ℕ) → m < all_sectors → sector_at (pack_hfe image hfe) m ≡ Ok (j + 64) → sector_at g m ≡ Ok q
     → sector_bytes_at (pack_hfe image hfe) m ≡ sector_bytes_at g m
 bursts_bytes image hfe g li lh d =
     bytes_each (pack_hfe image hfe) g

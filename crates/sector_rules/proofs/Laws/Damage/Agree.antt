@@ -1,6 +1,6 @@
 -- Two sides whose cells agree from place a on and below b: bytes, sync bytes and headers that lie there are the same.
 -- Rests on the cell layer's laws of numbers and of the sync test.
-use Rattle.std.specs.Prelude.{Bool, cond, List, ◌≡◌, ℕ, ◌+◌, ◌-◌, ◌*◌, ◌≤◌, ◌<◌, length, get_or}
+use Rattle.std.specs.Prelude.{Some, None, Bool, cond, List, ◌≡◌, ℕ, ◌+◌, ◌-◌, ◌*◌, ◌≤◌, ◌<◌, length, get_or}
 use Rattle.std.proofs.Math.Bool.{◌&&◌}
 use Rattle.std.proofs.Common.{sym, ap, ◌∙◌, arith}
 use Rattle.std.proofs.Math.Path.{ap₂}
@@ -12,7 +12,6 @@ use Rattle.cells.proofs.Laws.Number.{number_same, byte_from}
 use Rattle.cells.proofs.Laws.Stream.{from_length}
 use Rattle.cells.proofs.Laws.Sync.{sync_from}
 use Rattle.sector_rules.specs.declared.Id.{Id}
-use Rattle.sector_rules.specs.declared.Header.TheVariants.{Is, Absent}
 use Rattle.sector_rules.specs.Search.{crc_holds, header_mark, header_cells, is_header, id_of, header_of, is_header_of, header_at}
 
 module _ (c d : List ℕ) (long : length c ≡ length d) (a b : ℕ) (e : (k : ℕ) → a ≤ k → k < b → get_or c k 0 ≡ get_or d k 0) where
@@ -71,4 +70,4 @@ module _ (c d : List ℕ) (long : length c ≡ length d) (a b : ℕ) (e : (k : �
   -- a header of the sector whose cells lie there stands on both sides or on none
   pub header_agree : (t s r i : ℕ) → a ≤ i → i + 160 ≤ b → header_at c t s r i ≡ header_at d t s r i
   unfolding header_at header_of
-  header_agree t s r i l h = ap₂ (λ (x : Bool) (y : Id). is_header_of t s r (cond x (Is y) Absent)) (is_agree i l h) (id_agree i l h)
+  header_agree t s r i l h = ap₂ (λ (x : Bool) (y : Id). is_header_of t s r (cond x (Some y) None)) (is_agree i l h) (id_agree i l h)

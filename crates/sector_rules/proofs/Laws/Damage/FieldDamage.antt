@@ -1,7 +1,7 @@
 -- Damage of data fields: what is delivered of them is what was delivered before.
 -- Rests on the cell layer's laws of detectable damage, on cells that agree (Agree) and on what an answer says (Base.Told).
 use Rattle.std.proofs.Math.Bool.{true}
-use Rattle.std.specs.Prelude.{false, cond, List, ◌≡◌, ℕ, ◌+◌, ◌-◌, ◌*◌, ◌/◌, ◌%◌, ◌≤◌, ◌<◌, eqb, length, get_or}
+use Rattle.std.specs.Prelude.{Ok, Err, false, cond, List, ◌≡◌, ℕ, ◌+◌, ◌-◌, ◌*◌, ◌/◌, ◌%◌, ◌≤◌, ◌<◌, eqb, length, get_or}
 use Rattle.std.proofs.Math.Path.{sym, ap}
 use Rattle.std.proofs.Common.{◌∙◌, arith}
 use Rattle.std.proofs.Math.Dec.{leb}
@@ -20,7 +20,7 @@ use Rattle.cells.proofs.Laws.Crc.{follows_cong}
 use Rattle.cells.proofs.Laws.Number.{byte_from}
 use Rattle.cells.proofs.Laws.Stream.{from_length, from_bit, stream_bit}
 use Rattle.sector_rules.specs.declared.Found.TheVariants.{One}
-use Rattle.sector_rules.specs.declared.Sector.TheVariants.{Delivered, NoField, Damaged}
+use Rattle.sector_rules.specs.declared.SectorFault.TheVariants.{NoField, Damaged}
 use Rattle.sector_rules.specs.Geometry.{all_sectors, image_bytes}
 use Rattle.sector_rules.specs.Search.{crc_holds, data_mark, header_cells, field_cells, gap_cells, is_header, id_of, header_at}
 use Rattle.sector_rules.specs.Search.{find_sector, field_at, field_of, sector_of, sector_byte, delivered_bytes}
@@ -70,12 +70,12 @@ module _ (c d : List ℕ) (bc : Binary c) (bd : Binary d) (j : ℕ) (differ : De
       }
 
   -- a field that is delivered before and after detectable damage has the same bits and bytes
-  pub fields_same : (p q : ℕ) → field_at c j ≡ Delivered p → field_at d j ≡ Delivered q → (q ≡ j + 64) × SameField c d j
+  pub fields_same : (p q : ℕ) → field_at c j ≡ Ok p → field_at d j ≡ Ok q → (q ≡ j + 64) × SameField c d j
   fields_same p q ec ed = (sym (field_place_lem d j q ed), field_same (field_holds c j p ec) (field_holds d j q ed))
 
   -- a field of which a data bit is wrong is refused: as damaged where the mark is still there, else as absent
-  pub field_refused : (p k : ℕ) → field_at c j ≡ Delivered p → length c ≡ length d → k < field_bits → (data_bit (from c j) k ≡ data_bit (from d j) k → ⊥)
-      → field_at d j ≡ cond (eqb (data_byte (from d j) 48) data_mark) Damaged NoField
+  pub field_refused : (p k : ℕ) → field_at c j ≡ Ok p → length c ≡ length d → k < field_bits → (data_bit (from c j) k ≡ data_bit (from d j) k → ⊥)
+      → field_at d j ≡ cond (eqb (data_byte (from d j) 48) data_mark) (Err Damaged) (Err NoField)
   unfolding field_at
   field_refused p k ec long h wrong =
       let fits : leb field_cells (length (from d j)) ≡ true =
@@ -111,7 +111,7 @@ module _ (c d : List ℕ) (long : length c ≡ length d) (i k : ℕ)
       → three_sync (from c (i + header_cells + k)) ≡ true → field_of d i ≡ field_at d (i + header_cells + k)
   unfolding field_of
   field_there h off on =
-      first_is (λ (j : ℕ). three_sync (from d j)) (field_at d) NoField (gap_cells + 1) (i + header_cells) k h
+      first_is (λ (j : ℕ). three_sync (from d j)) (field_at d) (Err NoField) (gap_cells + 1) (i + header_cells) k h
       (λ j l. sym (agree (i + header_cells + j) (omega arith) (omega arith)) ∙ off j l)
       (sym (agree (i + header_cells + k) (omega arith) (omega arith)) ∙ on)
     where
@@ -127,8 +127,8 @@ one_same : (i k : ℕ) → One i ≡ One k → i ≡ k
 one_same i k e = cc
 
 -- a sector whose field is damaged is delivered with the same bytes, or not at all
-pub sector_same : (c d : List ℕ) → Binary c → Binary d → (t s r i j q : ℕ) → find_sector c t s r ≡ One i → sector_of c t s r ≡ Delivered (j + 64)
-    → FieldDamage c d i j → sector_of d t s r ≡ Delivered q → (q ≡ j + 64) × SameField c d j
+pub sector_same : (c d : List ℕ) → Binary c → Binary d → (t s r i j q : ℕ) → find_sector c t s r ≡ One i → sector_of c t s r ≡ Ok (j + 64)
+    → FieldDamage c d i j → sector_of d t s r ≡ Ok q → (q ≡ j + 64) × SameField c d j
 sector_same c d bc bd t s r i j q ei ec g ed =
     let x = sector_told c t s r (j + 64) ec in
     let ix : x.0 ≡ i = one_same x.0 i (sym x.1 ∙ ei) in
@@ -153,23 +153,23 @@ side_binary h t s i =
     (λ v. rw (plain_stream h t s v) (stream_bit (track_part h t) (hfe_side s (track_length h t)) i))
 
 -- a sector's bytes in two images
-bytes_by : (h g : List ℕ) (m j q : ℕ) → sector_at h m ≡ Delivered (j + 64) → sector_at g m ≡ Delivered q
+bytes_by : (h g : List ℕ) (m j q : ℕ) → sector_at h m ≡ Ok (j + 64) → sector_at g m ≡ Ok q
     → (q ≡ j + 64) × SameField (side_with h m) (side_with g m) j → sector_bytes_at h m ≡ sector_bytes_at g m
 unfolding sector_bytes_at
 bytes_by h g m j q eh eg same =
-    ap (delivered_bytes (side_with h m)) eh ∙ same.1.bytes ∙ ap (delivered_bytes (side_with g m)) (sym (eg ∙ ap Delivered same.0))
+    ap (delivered_bytes (side_with h m)) eh ∙ same.1.bytes ∙ ap (delivered_bytes (side_with g m)) (sym (eg ∙ ap Ok same.0))
 
 -- images whose sides give the same at each sector have the same bytes at each image sector
 pub bytes_each : (h g : List ℕ)
-    → ((t s x j q : ℕ) → t < 80 → s < 2 → x < 9 → sector_of (side_stream h t s) t s (x + 1) ≡ Delivered (j + 64)
-    → sector_of (side_stream g t s) t s (x + 1) ≡ Delivered q → (q ≡ j + 64) × SameField (side_stream h t s) (side_stream g t s) j)
-    → (m j q : ℕ) → m < all_sectors → sector_at h m ≡ Delivered (j + 64) → sector_at g m ≡ Delivered q → sector_bytes_at h m ≡ sector_bytes_at g m
+    → ((t s x j q : ℕ) → t < 80 → s < 2 → x < 9 → sector_of (side_stream h t s) t s (x + 1) ≡ Ok (j + 64)
+    → sector_of (side_stream g t s) t s (x + 1) ≡ Ok q → (q ≡ j + 64) × SameField (side_stream h t s) (side_stream g t s) j)
+    → (m j q : ℕ) → m < all_sectors → sector_at h m ≡ Ok (j + 64) → sector_at g m ≡ Ok q → sector_bytes_at h m ≡ sector_bytes_at g m
 unfolding sector_at
 bytes_each h g same m j q l eh eg = bytes_by h g m j q eh eg (same (track_of m) (side_of m) (m % 9) j q (omega arith) (omega arith) (omega arith) eh eg)
 
 -- an image sector whose field is damaged is delivered with the same bytes, or not at all
-pub sector_told_same : (h g : List ℕ) (m i j q : ℕ) → find_sector (side_with h m) (track_of m) (side_of m) (r_of m) ≡ One i → sector_at h m ≡ Delivered (j + 64)
-    → FieldDamage (side_with h m) (side_with g m) i j → sector_at g m ≡ Delivered q → (q ≡ j + 64) × SameField (side_with h m) (side_with g m) j
+pub sector_told_same : (h g : List ℕ) (m i j q : ℕ) → find_sector (side_with h m) (track_of m) (side_of m) (r_of m) ≡ One i → sector_at h m ≡ Ok (j + 64)
+    → FieldDamage (side_with h m) (side_with g m) i j → sector_at g m ≡ Ok q → (q ≡ j + 64) × SameField (side_with h m) (side_with g m) j
 unfolding sector_at
 sector_told_same h g m i j q ei eh d eg =
     sector_same (side_with h m) (side_with g m) (side_binary h (track_of m) (side_of m)) (side_binary g (track_of m) (side_of m))
@@ -177,7 +177,7 @@ sector_told_same h g m i j q ei eh d eg =
 
 -- images whose fields are damaged have the same bytes where both deliver them
 pub fields_bytes : (h g : List ℕ) → ImageFieldDamage h g
-    → (m j q : ℕ) → m < all_sectors → sector_at h m ≡ Delivered (j + 64) → sector_at g m ≡ Delivered q → sector_bytes_at h m ≡ sector_bytes_at g m
+    → (m j q : ℕ) → m < all_sectors → sector_at h m ≡ Ok (j + 64) → sector_at g m ≡ Ok q → sector_bytes_at h m ≡ sector_bytes_at g m
 unfolding sector_at
 fields_bytes h g d m j q l eh eg =
     let x = sector_told (side_with h m) (track_of m) (side_of m) (r_of m) (j + 64) eh in
@@ -185,7 +185,7 @@ fields_bytes h g d m j q l eh eg =
 
 -- two images that are both accepted, and whose sectors have the same bytes, unpack to the same block image
 pub same_images : (h g image : List ℕ)
-    → ((m j q : ℕ) → m < all_sectors → sector_at h m ≡ Delivered (j + 64) → sector_at g m ≡ Delivered q → sector_bytes_at h m ≡ sector_bytes_at g m)
+    → ((m j q : ℕ) → m < all_sectors → sector_at h m ≡ Ok (j + 64) → sector_at g m ≡ Ok q → sector_bytes_at h m ≡ sector_bytes_at g m)
     → (unpack_reply h (length image)).number ≡ 0 → (unpack_reply g (length image)).number ≡ 0 → unpack_image h image ≡ unpack_image g image
 unfolding unpack_image unpacked_byte
 same_images h g image same eh eg =

@@ -1,6 +1,6 @@
 -- Damage anywhere on a side: what is delivered is what was delivered before; and a written side is one of which this can be said.
 -- Rests on damage of data fields (FieldDamage), on what an answer says (Base.Told) and on round_trip (Trip).
-use Rattle.std.specs.Prelude.{true, false, ◌≡◌, ℕ, ◌+◌, ◌*◌, ◌/◌, ◌≤◌, ◌<◌, length}
+use Rattle.std.specs.Prelude.{Ok, true, false, ◌≡◌, ℕ, ◌+◌, ◌*◌, ◌/◌, ◌≤◌, ◌<◌, length}
 use mathlib.Core.List.{List}
 use Rattle.std.proofs.Common.{⊎_elim, sym, ◌∙◌, arith}
 use Rattle.std.proofs.Math.Path.{ap}
@@ -9,7 +9,6 @@ use Rattle.laws.specs.Laws.Tests.{true≢false}
 use Rattle.cells.specs.Stream.{from}
 use Rattle.cells.specs.Sync.{three_sync}
 use Rattle.cells.proofs.Theorems.{triple_only}
-use Rattle.sector_rules.specs.declared.Sector.TheVariants.{Delivered}
 use Rattle.sector_rules.specs.Geometry.{all_sectors, image_bytes}
 use Rattle.sector_rules.specs.Search.{header_mark, data_mark, header_cells, gap_cells, is_header, header_at, field_at, field_of, sector_of}
 use Rattle.sector_rules.specs.Hfe.{side_stream}
@@ -25,7 +24,7 @@ use Rattle.sector_rules.proofs.Laws.Base.Told.{header_mark_lem, sector_told, hea
 use Rattle.sector_rules.proofs.Laws.Damage.FieldDamage.{fields_same, header_same, side_binary, bytes_each}
 
 -- a field that is delivered begins no header
-field_no_header : (c : List ℕ) (j p : ℕ) → field_at c j ≡ Delivered p → is_header (from c j) ≡ false
+field_no_header : (c : List ℕ) (j p : ℕ) → field_at c j ≡ Ok p → is_header (from c j) ≡ false
 field_no_header c j p e =
     by_test (is_header (from c j))
     (λ u. let z : data_mark ≡ header_mark = sym (field_mark c j p e) ∙ header_mark_lem (from c j) u in absurd (omega arith))
@@ -35,13 +34,13 @@ field_no_header c j p e =
 
 module _ (c d : List ℕ) (bc : Binary c) (bd : Binary d) (g : SideDamage c d) (away : RunsApart c) where
   -- the field of d after a header that both have
-  same_field : (i j q : ℕ) → field_of c i ≡ Delivered (j + 64) → field_of d i ≡ Delivered q → (q ≡ j + 64) × SameField c d j
+  same_field : (i j q : ℕ) → field_of c i ≡ Ok (j + 64) → field_of d i ≡ Ok q → (q ≡ j + 64) × SameField c d j
   same_field i j q ec ed =
       let x = gap_told c i (j + 64) ec in
       let y = gap_told d i q ed in
       let z : i + header_cells + x.0 + 64 ≡ j + 64 = field_place_lem c (i + header_cells + x.0) (j + 64) x.4 in
       let u : i + header_cells + x.0 ≡ j = omega arith in
-      let fc : field_at c j ≡ Delivered (j + 64) = ap (field_at c) (sym u) ∙ x.4 in
+      let fc : field_at c j ≡ Ok (j + 64) = ap (field_at c) (sym u) ∙ x.4 in
       let run : three_sync (from c j) ≡ true = ap (λ (k : ℕ). three_sync (from c k)) (sym u) ∙ x.3 in
       let on : three_sync (from c (i + header_cells + y.0)) ≡ true = g.no_new_run (i + header_cells + y.0) y.3 in
       by_order y.0 x.0
@@ -55,7 +54,7 @@ module _ (c d : List ℕ) (bc : Binary c) (bd : Binary d) (g : SideDamage c d) (
       (away j (i + header_cells + y.0) run (field_no_header c j (j + 64) fc) (omega arith) (omega (arith, y.1)))))
 
   -- what is delivered of a sector of a damaged side is what was recorded
-  pub side_same : (t s r j q : ℕ) → sector_of c t s r ≡ Delivered (j + 64) → sector_of d t s r ≡ Delivered q → (q ≡ j + 64) × SameField c d j
+  pub side_same : (t s r j q : ℕ) → sector_of c t s r ≡ Ok (j + 64) → sector_of d t s r ≡ Ok q → (q ≡ j + 64) × SameField c d j
   side_same t s r j q ec ed =
       let x = sector_told c t s r (j + 64) ec in
       let y = sector_told d t s r q ed in
@@ -112,7 +111,7 @@ module _ (image hfe : List ℕ) (li : length image ≡ image_bytes) (lh : length
 
 -- images whose sides are damaged have the same bytes where both deliver them
 pub sides_bytes : (image hfe g : List ℕ) → length image ≡ image_bytes → length hfe ≡ hfe_bytes → ImageSideDamage (pack_hfe image hfe) g
-    → (m j q : ℕ) → m < all_sectors → sector_at (pack_hfe image hfe) m ≡ Delivered (j + 64) → sector_at g m ≡ Delivered q
+    → (m j q : ℕ) → m < all_sectors → sector_at (pack_hfe image hfe) m ≡ Ok (j + 64) → sector_at g m ≡ Ok q
     → sector_bytes_at (pack_hfe image hfe) m ≡ sector_bytes_at g m
 sides_bytes image hfe g li lh d =
     bytes_each (pack_hfe image hfe) g

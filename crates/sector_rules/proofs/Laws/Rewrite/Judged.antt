@@ -1,6 +1,6 @@
 -- The replies of rewriting in their order, and what reply 0 says of how it came: the arguments, header, table and result are right, the sector has a field.
 -- Rests on the laws of tests.
-use Rattle.std.specs.Prelude.{true, false, cond, ◌&&◌, List, ◌≡◌, refl, ◌≢◌, leb, ltb, eqb, length}
+use Rattle.std.specs.Prelude.{Some, None, Ok, Err, true, false, cond, ◌&&◌, List, ◌≡◌, refl, ◌≢◌, leb, ltb, eqb, length}
 use Rattle.std.proofs.Math.Bool.{not}
 use Rattle.std.proofs.lemmas.Bool.{false≢true}
 use Rattle.std.proofs.Math.Option.{Option, none, some}
@@ -16,11 +16,10 @@ use Rattle.laws.specs.Laws.Tests.{lt_true, lt_false, eq_true, eq_false, true_lt,
 use Rattle.laws.specs.Laws.Tests.{and_right, and_true}
 use Rattle.laws.specs.Laws.All.{all_at, all_is}
 use Rattle.laws.specs.Laws.Same.{same_eq, eq_same}
-use Rattle.sector_rules.specs.declared.Fault.{Fault}
-use Rattle.sector_rules.specs.declared.Fault.TheVariants.{At, Sound}
+use Rattle.sector_rules.specs.Faults.{Fault}
 use Rattle.sector_rules.specs.declared.Reply.{Reply}
-use Rattle.sector_rules.specs.declared.Sector.{Sector}
-use Rattle.sector_rules.specs.declared.Sector.TheVariants.{Delivered, Missing, Repeated, NoField, Damaged}
+use Rattle.sector_rules.specs.Search.{Sector}
+use Rattle.sector_rules.specs.declared.SectorFault.TheVariants.{Missing, Repeated, NoField, Damaged}
 use Rattle.sector_rules.specs.Replies.{reply_with, done, refusal, wrong_hfe, unless}
 use Rattle.sector_rules.specs.Geometry.{tracks, sides, sectors, all_sectors, sector_bytes}
 use Rattle.sector_rules.specs.Hfe.{version1_fault, table_fault, side_stream}
@@ -52,18 +51,18 @@ module _ (h : List ℕ) (t s r : ℕ) (d : List ℕ) where
       rewrite_later = cond_false wrong_hfe _ (lt_false l) ∙ cond_true _ (refusal 12) a
 
       -- an HFE image with a wrong header is refused with 2 and the offset
-      pub rewrite_header : (o : ℕ) → version1_fault h ≡ At o → rewrite_reply h t s r d ≡ reply_with 2 o 0 0
+      pub rewrite_header : (o : ℕ) → version1_fault h ≡ Some o → rewrite_reply h t s r d ≡ reply_with 2 o 0 0
       unfolding unless or_else
       rewrite_header o f = rewrite_later ∙ rw f
 
-      module _ (f : version1_fault h ≡ Sound) where
+      module _ (f : version1_fault h ≡ None) where
         -- an HFE image with a wrong table entry is refused with 3 and the track
-        pub rewrite_table : (k : ℕ) → table_fault h ≡ At k → rewrite_reply h t s r d ≡ reply_with 3 k 0 0
+        pub rewrite_table : (k : ℕ) → table_fault h ≡ Some k → rewrite_reply h t s r d ≡ reply_with 3 k 0 0
         unfolding unless or_else
         rewrite_table k g = rewrite_later ∙ rw (f, g)
 
         -- where header and table are right, the reply is that for the sector
-        pub rewrite_sound : table_fault h ≡ Sound → rewrite_reply h t s r d ≡ rewrite_sector_reply h t s r d
+        pub rewrite_sound : table_fault h ≡ None → rewrite_reply h t s r d ≡ rewrite_sector_reply h t s r d
         unfolding unless or_else
         rewrite_sound g = rewrite_later ∙ rw (f, g)
 
@@ -99,25 +98,25 @@ module _ (h : List ℕ) (t s r : ℕ) (d : List ℕ) where
 -- what holds where a rewrite is done
 pub record AcceptedRewrite (h : List ℕ) (t s r : ℕ) (d : List ℕ) : Type 0 where
   pub arguments : rewrite_arguments t s r d ≡ true
-  pub header : version1_fault h ≡ Sound
-  pub table : table_fault h ≡ Sound
+  pub header : version1_fault h ≡ None
+  pub table : table_fault h ≡ None
   pub field : has_field (sector_at h (image_sector_of t s r)) ≡ true
   pub result : result_right h (rewritten h t s r d) (image_sector_of t s r) d ≡ true
 
 -- a sector without a field is bad
 no_field_bad : (x : Sector) → has_field x ≡ false → is_bad x ≡ true
-no_field_bad (Delivered p) e = sym e
-no_field_bad Missing e = refl
-no_field_bad Repeated e = refl
-no_field_bad NoField e = refl
-no_field_bad Damaged e = refl
+no_field_bad (Ok p) e = sym e
+no_field_bad (Err Missing) e = refl
+no_field_bad (Err Repeated) e = refl
+no_field_bad (Err NoField) e = refl
+no_field_bad (Err Damaged) e = refl
 
 module _ (h : List ℕ) (t s r : ℕ) (d : List ℕ) (e : (rewrite_reply h t s r d).number ≡ 0) where
   not_zero : (x : Reply) → rewrite_reply h t s r d ≡ x → eqb x.number 0 ≡ false → ⊥
   not_zero x p n = true≢false (eqb x.number 0) (eq_true (ap (λ (y : Reply). y.number) (sym p) ∙ e)) n
 
   module _ (l : least_hfe ≤ length h) (a : rewrite_arguments t s r d ≡ true) where
-    sector_accepted : version1_fault h ≡ Sound → table_fault h ≡ Sound → AcceptedRewrite h t s r d
+    sector_accepted : version1_fault h ≡ None → table_fault h ≡ None → AcceptedRewrite h t s r d
     sector_accepted f g =
         let m : ℕ = image_sector_of t s r in
         let p = rewrite_sound h t s r d l a f g in
@@ -128,13 +127,13 @@ module _ (h : List ℕ) (t s r : ℕ) (d : List ℕ) (e : (rewrite_reply h t s r
         (λ u. absurd
         (not_zero (sector_reply m (sector_at h m)) (p ∙ rewrite_field h t s r d u) (bad_number_lem m (sector_at h m) (no_field_bad (sector_at h m) u))))
 
-    table_accepted : version1_fault h ≡ Sound → (g : Fault) → table_fault h ≡ g → AcceptedRewrite h t s r d
-    table_accepted f (At k) g = absurd (not_zero (reply_with 3 k 0 0) (rewrite_table h t s r d l a f k g) refl)
-    table_accepted f Sound g = sector_accepted f g
+    table_accepted : version1_fault h ≡ None → (g : Fault) → table_fault h ≡ g → AcceptedRewrite h t s r d
+    table_accepted f (Some k) g = absurd (not_zero (reply_with 3 k 0 0) (rewrite_table h t s r d l a f k g) refl)
+    table_accepted f None g = sector_accepted f g
 
     header_accepted : (f : Fault) → version1_fault h ≡ f → AcceptedRewrite h t s r d
-    header_accepted (At o) f = absurd (not_zero (reply_with 2 o 0 0) (rewrite_header h t s r d l a o f) refl)
-    header_accepted Sound f = table_accepted f (table_fault h) refl
+    header_accepted (Some o) f = absurd (not_zero (reply_with 2 o 0 0) (rewrite_header h t s r d l a o f) refl)
+    header_accepted None f = table_accepted f (table_fault h) refl
 
   -- where a rewrite is done, arguments, header, table and result are right, and the sector has a field
   pub rewrite_accepted : AcceptedRewrite h t s r d
@@ -192,11 +191,11 @@ reply_by q n = cond (eqb n 0) done (reply_with n (track_of q) (side_of q) (r_of 
 
 by_number : (q : ℕ) (x : Sector) → sector_reply q x ≡ reply_by q (sector_reply q x).number
 unfolding reply_by
-by_number q (Delivered p) = refl
-by_number q Missing = refl
-by_number q Repeated = refl
-by_number q NoField = refl
-by_number q Damaged = refl
+by_number q (Ok p) = refl
+by_number q (Err Missing) = refl
+by_number q (Err Repeated) = refl
+by_number q (Err NoField) = refl
+by_number q (Err Damaged) = refl
 
 -- two sectors that give the same number get the same reply
 pub number_reply : (q : ℕ) (x y : Sector) → (sector_reply q x).number ≡ (sector_reply q y).number → sector_reply q x ≡ sector_reply q y
@@ -228,7 +227,7 @@ module _ (h g : List ℕ) (m : ℕ) (d : List ℕ) (e : result_right h g m d ≡
   -- its sector m is delivered
   pub result_reply : m < all_sectors → sector_reply m (sector_at g m) ≡ done
   result_reply l =
-      number_reply m (sector_at g m) (Delivered 0) (true_eq (and_left (eqb (sector_number g m) 0) _ (result_data l)))
+      number_reply m (sector_at g m) (Ok 0) (true_eq (and_left (eqb (sector_number g m) 0) _ (result_data l)))
 
   -- with the data
   pub result_bytes : m < all_sectors → sector_bytes_at g m ≡ d

@@ -13,7 +13,7 @@ use Rattle.laws.specs.Laws.Tests.{cond_true, cond_false, lt_true, lt_false, le_t
 use Rattle.laws.specs.Laws.All.{all_is}
 use Rattle.laws.specs.Laws.Same.{eq_same}
 use Rattle.sector_rules.specs.declared.Reply.{Reply}
-use Rattle.sector_rules.specs.declared.Sector.{Sector}
+use Rattle.sector_rules.specs.Search.{Sector}
 use Rattle.sector_rules.specs.Replies.{done, unless}
 use Rattle.sector_rules.specs.Geometry.{image_bytes}
 use Rattle.sector_rules.specs.Unpacked.{least_hfe, sector_at, sector_reply}

@@ -1,6 +1,6 @@
 -- The cell place of a sector's data: where the search for a field stops, and that data and CRC are before the end of the side.
 -- Rests on what an answer says of how it came (Base.Told).
-use Rattle.std.specs.Prelude.{Bool, true, false, cond, ◌&&◌, List, ◌≡◌, refl, ℕ, zero, suc, ◌+◌, ◌-◌, ◌≤◌, leb}
+use Rattle.std.specs.Prelude.{Ok, Err, Bool, true, false, cond, ◌&&◌, List, ◌≡◌, refl, ℕ, zero, suc, ◌+◌, ◌-◌, ◌≤◌, leb}
 use Rattle.std.proofs.lemmas.Bool.{false≢true}
 use Rattle.std.proofs.Common.{sym, ap, ◌∙◌}
 use native.Mathlib.Omega.{arith}
@@ -13,7 +13,7 @@ use Rattle.cells.specs.Sync.{three_sync}
 use Rattle.cells.proofs.Laws.Stream.{from_length}
 use Rattle.sector_rules.specs.declared.Found.{Found}
 use Rattle.sector_rules.specs.declared.Found.TheVariants.{One, Nothing, Several}
-use Rattle.sector_rules.specs.declared.Sector.TheVariants.{Delivered, NoField, Damaged}
+use Rattle.sector_rules.specs.declared.SectorFault.TheVariants.{NoField, Damaged}
 use Rattle.sector_rules.specs.Search.{crc_holds, data_mark, header_cells, field_cells, gap_cells, first, find_sector, field_at, field_of, sector_found}
 use Rattle.sector_rules.specs.Search.{sector_of}
 use Rattle.sector_rules.specs.Rewritten.{field_place, data_place_of, data_place, data_cells, has_field}
@@ -33,7 +33,7 @@ first_same p f none has u (suc m) i e =
 
 -- ---- a field
 
-has_told : (a b : Bool) (p : ℕ) → has_field (cond a (cond b (Delivered p) Damaged) NoField) ≡ true → a ≡ true
+has_told : (a b : Bool) (p : ℕ) → has_field (cond a (cond b (Ok p) (Err Damaged)) (Err NoField)) ≡ true → a ≡ true
 has_told true b p e = refl
 has_told false b p e = e
 
@@ -50,7 +50,7 @@ module _ (c : List ℕ) (j : ℕ) where
 -- where the header at place i has a field, it is the one at its place
 pub field_is : (c : List ℕ) (i : ℕ) → has_field (field_of c i) ≡ true → field_of c i ≡ field_at c (field_place c i)
 unfolding field_of field_place
-field_is c i e = first_same (λ (j : ℕ). three_sync (from c j)) (field_at c) NoField has_field refl (gap_cells + 1) (i + header_cells) e
+field_is c i e = first_same (λ (j : ℕ). three_sync (from c j)) (field_at c) (Err NoField) has_field refl (gap_cells + 1) (i + header_cells) e
 
 -- ---- a sector
 
@@ -62,7 +62,7 @@ found_within c (One i) e =
 found_within c Nothing e = absurd (false≢true e)
 found_within c Several e = absurd (false≢true e)
 
-found_place : (c : List ℕ) (f : Found) (p : ℕ) → sector_found c f ≡ Delivered p → data_place_of c f ≡ p
+found_place : (c : List ℕ) (f : Found) (p : ℕ) → sector_found c f ≡ Ok p → data_place_of c f ≡ p
 unfolding sector_found data_place_of
 found_place c (One i) p e = field_place_lem c (field_place c i) p (sym (field_is c i (ap has_field e)) ∙ e)
 found_place c Nothing p e = let z : ◌≡◌ {A = ℕ} 0 1 = cc in absurd (omega arith)
@@ -75,6 +75,6 @@ module _ (c : List ℕ) (t s r : ℕ) where
   data_within e = found_within c (find_sector c t s r) e
 
   -- the data of a sector that is delivered are at the place it is delivered from
-  pub data_place_is : (p : ℕ) → sector_of c t s r ≡ Delivered p → data_place c t s r ≡ p
+  pub data_place_is : (p : ℕ) → sector_of c t s r ≡ Ok p → data_place c t s r ≡ p
   unfolding sector_of data_place
   data_place_is p e = found_place c (find_sector c t s r) p e

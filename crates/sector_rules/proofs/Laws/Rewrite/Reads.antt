@@ -1,6 +1,6 @@
 -- Where a rewrite is done, the result reads as it must, and no cell but those written is changed.
 -- Rests on the replies of rewriting (Judged), the place of the data (Place) and the cells once they are written (After).
-use Rattle.std.specs.Prelude.{false, List, ◌≡◌, ℕ, ◌+◌, ◌-◌, ◌/◌, ◌≤◌, ◌<◌, length, get_or}
+use Rattle.std.specs.Prelude.{None, false, List, ◌≡◌, ℕ, ◌+◌, ◌-◌, ◌/◌, ◌≤◌, ◌<◌, length, get_or}
 use Rattle.std.proofs.Common.{sym, ap, ◌∙◌, arith}
 use Rattle.laws.specs.Lists.{tab}
 use Rattle.laws.specs.Laws.Tab.{tab_in}
@@ -10,7 +10,6 @@ use Rattle.sector_rules.specs.Hfe.{is_version3, track_start, track_length, track
 use Rattle.sector_rules.specs.Packed.{plain_items, image_sector_of}
 use Rattle.sector_rules.specs.Rewritten.{data_place, data_cells, field_row, cell_after, is_side_byte, changed_bytes, rewritten, has_field}
 use Rattle.sector_rules.specs.Rewriting.{side_cells_at, Rewrites, RewriteReads}
-use Rattle.sector_rules.specs.declared.Fault.TheVariants.{Sound}
 use Rattle.sector_rules.proofs.Laws.Base.Faults.{table_good, track_within}
 use Rattle.sector_rules.proofs.Laws.Base.Versions.{version1_plain}
 use Rattle.sector_rules.proofs.Laws.Rewrite.Base.{side_cells_at_lem, not_of_side, with_length, with_out}
@@ -33,7 +32,7 @@ module _ (h : List ℕ) (t s r : ℕ) (d : List ℕ) where
       with_out h (track_start h t) (track_length h t / 2) s _ changed_bytes _ k (not_of_side (track_start h t) (track_length h t / 2) s _ changed_bytes k e)
 
   -- on its side a rewritten image has the cells once the data are written
-  pub rewritten_cells : is_version3 h ≡ false → table_fault h ≡ Sound → t < tracks → s < sides
+  pub rewritten_cells : is_version3 h ≡ false → table_fault h ≡ None → t < tracks → s < sides
       → side_cells_at (rewritten h t s r d) (track_start h t) (track_length h t) s
       ≡ tab (cell_after (side_stream h t s) (data_place (side_stream h t s) t s r) (field_row d)) (length (side_stream h t s))
   unfolding rewritten track_unit_bytes
@@ -43,7 +42,7 @@ module _ (h : List ℕ) (t s r : ℕ) (d : List ℕ) where
       (track_within h t (table_good h g t ht)))
 
   -- a cell that is as it was once the data are written is as it was in the rewritten image
-  kept : is_version3 h ≡ false → table_fault h ≡ Sound → t < tracks → s < sides → (i : ℕ)
+  kept : is_version3 h ≡ false → table_fault h ≡ None → t < tracks → s < sides → (i : ℕ)
       → cell_after (side_stream h t s) (data_place (side_stream h t s) t s r) (field_row d) i ≡ get_or (side_stream h t s) i 0
       → get_or (side_cells_at (rewritten h t s r d) (track_start h t) (track_length h t) s) i 0 ≡ get_or (side_stream h t s) i 0
   kept plain g ht hs i e =
@@ -51,7 +50,7 @@ module _ (h : List ℕ) (t s r : ℕ) (d : List ℕ) where
       (field_row d) i e
 
   -- the cells of data and CRC in the rewritten image
-  new : is_version3 h ≡ false → table_fault h ≡ Sound → t < tracks → s < sides → data_place (side_stream h t s) t s r + data_cells ≤ length (side_stream h t s)
+  new : is_version3 h ≡ false → table_fault h ≡ None → t < tracks → s < sides → data_place (side_stream h t s) t s r + data_cells ≤ length (side_stream h t s)
       → (i : ℕ) → i < data_cells
       → get_or (side_cells_at (rewritten h t s r d) (track_start h t) (track_length h t) s) (data_place (side_stream h t s) t s r + i) 0
       ≡ written_cell (plain_items (field_row d)) (16 + i)

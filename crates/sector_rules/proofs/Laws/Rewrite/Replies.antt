@@ -1,10 +1,9 @@
 -- rewrite_replies: the replies of rewrite in their order.
 -- Rests on one law for each reply (Judged).
-use Rattle.std.specs.Prelude.{true, ◌&&◌, List, ◌≡◌, refl, ℕ, ◌≤◌, ◌<◌, leb, ltb, length}
+use Rattle.std.specs.Prelude.{None, true, ◌&&◌, List, ◌≡◌, refl, ℕ, ◌≤◌, ◌<◌, leb, ltb, length}
 use Rattle.std.proofs.Common.{◌∙◌}
 use Rattle.laws.specs.Laws.Cases.{by_test}
 use Rattle.laws.specs.Laws.Tests.{eq_true, eq_false, and_false_right}
-use Rattle.sector_rules.specs.declared.Fault.TheVariants.{Sound}
 use Rattle.sector_rules.specs.Replies.{reply_with}
 use Rattle.sector_rules.specs.Geometry.{tracks, sides, sectors, all_sectors}
 use Rattle.sector_rules.specs.Hfe.{version1_fault, table_fault}
@@ -28,8 +27,8 @@ argument_limits =
       long = λ t s r d n. and_false_right (ltb t tracks && ltb s sides && leb 1 r && leb r sectors) (eq_false n);
     }
 
-module _ (h : List ℕ) (t s r : ℕ) (d : List ℕ) (l : 1024 ≤ length h) (a : rewrite_arguments t s r d ≡ true) (f : version1_fault h ≡ Sound)
-    (g : table_fault h ≡ Sound) (x : has_field (sector_at h (image_sector_of t s r)) ≡ true) where
+module _ (h : List ℕ) (t s r : ℕ) (d : List ℕ) (l : 1024 ≤ length h) (a : rewrite_arguments t s r d ≡ true) (f : version1_fault h ≡ None)
+    (g : table_fault h ≡ None) (x : has_field (sector_at h (image_sector_of t s r)) ≡ true) where
   within : image_sector_of t s r < all_sectors
   within = let n : Named t s r d = arguments_named t s r d a in named_within t s r n.track n.side n.least n.most
 

@@ -1,6 +1,6 @@
 -- A written side is read back, second part: the search finds each sector, and its data field gives the bytes that were written.
 -- Rests on the first part (SideTrip).
-use Rattle.std.specs.Prelude.{List, [], ◌∷◌, ◌⊎◌, ◌≡◌, refl, Bool, false}
+use Rattle.std.specs.Prelude.{Ok, Err, List, [], ◌∷◌, ◌⊎◌, ◌≡◌, refl, Bool, false}
 use Rattle.std.proofs.Common.{inl, inr, ⊎_elim, ◌∙◌}
 use Rattle.std.proofs.Math.Path.{sym, ap}
 use Rattle.std.proofs.Math.Bool.{true}
@@ -21,7 +21,7 @@ use Rattle.cells.proofs.Theorems.{triple_only}
 use Rattle.cells.proofs.Laws.Stream.{from_zero}
 use Rattle.cells.proofs.Laws.Number.{bytes_list}
 use Rattle.sector_rules.specs.declared.Found.TheVariants.{One}
-use Rattle.sector_rules.specs.declared.Sector.TheVariants.{Delivered, NoField}
+use Rattle.sector_rules.specs.declared.SectorFault.TheVariants.{NoField}
 use Rattle.sector_rules.specs.Search.{crc_holds, data_mark, header_cells, gap_cells, header_at, places_below, found_of, first}
 use Rattle.sector_rules.specs.Search.{find_sector, field_at, field_of, sector_found, sector_of, sector_byte, delivered_bytes}
 use Rattle.sector_rules.specs.Packed.{field_crc, with_crc, sector_item, side_item}
@@ -161,14 +161,14 @@ module _ (t s : ℕ) (d : ℕ → List ℕ) (k : ℕ) (hk : k < 9) (len : length
       ∙ ap g e
 
   -- the field of the header is the one that was written, and its CRC holds
-  field_back : field_of c (16 * (146 + 658 * k + 12)) ≡ Delivered (16 * (146 + 658 * k + 60))
+  field_back : field_of c (16 * (146 + 658 * k + 12)) ≡ Ok (16 * (146 + 658 * k + 60))
   unfolding field_of field_at f c start xs
   field_back =
       let l : 8288 ≤ length (from (written_side t s d) (16 * (146 + 658 * k + 56))) = rw (room t s d (16 * (146 + 658 * k + 56))) (omega arith) in
       let m : data_byte (from (written_side t s d) (16 * (146 + 658 * k + 56))) 48 ≡ data_mark =
       row_byte 0 (lit< tt) (16 * (146 + 658 * k + 56)) 48 (omega arith) in
       let r : 16 * (146 + 658 * k + 56) + 64 ≡ 16 * (146 + 658 * k + 60) = omega arith in
-      first_run (field_at (written_side t s d)) NoField
+      first_run (field_at (written_side t s d)) (Err NoField)
       ∙ rw (le-leb _ _ l, eq-eqb _ _ m, field_holds, r)
 
   -- the sector's bytes are those that were written
@@ -182,7 +182,7 @@ module _ (t s : ℕ) (d : ℕ → List ℕ) (k : ℕ) (hk : k < 9) (len : length
 module _ (t s : ℕ) (ht : t < 256) (hs : s < 256) (d : ℕ → List ℕ) (k : ℕ) (hk : k < 9)
     (len : length (d (k + 1)) ≡ 512) (small : (j : ℕ) → get_or (d (k + 1)) j 0 < 256) where
   -- each sector of a written side is delivered, at its place
-  pub sector_back : sector_of (written_side t s d) t s (k + 1) ≡ Delivered (16 * (146 + 658 * k + 60))
+  pub sector_back : sector_of (written_side t s d) t s (k + 1) ≡ Ok (16 * (146 + 658 * k + 60))
   unfolding sector_of sector_found c
   sector_back = rw (found t s ht hs d k hk) (field_back t s d k hk len small)
 

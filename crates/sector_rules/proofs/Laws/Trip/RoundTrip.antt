@@ -1,6 +1,6 @@
 -- What packing gives is unpacked to the same image: header and table are sound, and each side's stream is the written side.
 -- Rests on a written side that is read back (SideTrip, FieldTrip) and on the written image place by place (Base.Packed).
-use Rattle.std.specs.Prelude.{true, false, List, ◌≡◌, refl, eqb, length, drop}
+use Rattle.std.specs.Prelude.{None, true, false, List, ◌≡◌, refl, eqb, length, drop}
 use Rattle.std.proofs.Math.Bool.{not}
 use Rattle.std.proofs.Math.Path.{sym, ap}
 use Rattle.std.proofs.Common.{◌∙◌, lit<, ext_get_or, get_or-take}
@@ -23,7 +23,6 @@ use Rattle.cells.specs.Written.{written_cell, written}
 use Rattle.cells.proofs.Laws.Stream.{stream_length, stream_in}
 use Rattle.cells.proofs.Laws.Packed.{packed_bit}
 use Rattle.cells.proofs.Laws.Written.{written_length_lem, written_cell_bit}
-use Rattle.sector_rules.specs.declared.Fault.TheVariants.{Sound}
 use Rattle.sector_rules.specs.Replies.{done}
 use Rattle.sector_rules.specs.Geometry.{sector_bytes, all_sectors, image_bytes}
 use Rattle.sector_rules.specs.Hfe.{hfe_signature, is_version1, is_version3, field_fault, format_fault, flag_fault, hfe_header_fault, version1_fault}
@@ -90,7 +89,7 @@ module _ (image : List ℕ) where
   table_unit = rw (front 18 (lit< tt), front 19 (lit< tt))
 
   -- its header is right, with the letters of version 1
-  pub version1_sound : version1_fault packed_image ≡ Sound
+  pub version1_sound : version1_fault packed_image ≡ None
   unfolding version1_fault field_fault format_fault flag_fault low_first hfe_header_byte hfe_signature hfe_header_rest low_byte
   version1_sound =
       rw (
@@ -108,7 +107,7 @@ module _ (image : List ℕ) where
       )
 
   -- so it can be unpacked
-  header_sound : hfe_header_fault packed_image ≡ Sound
+  header_sound : hfe_header_fault packed_image ≡ None
   header_sound = version1_judged packed_image signed ∙ version1_sound
 
   -- it has no codes
@@ -179,7 +178,7 @@ module _ (image : List ℕ) where
         (rw (le-leb (512 + 4 * t + 4) 2008064 (omega arith), le-leb (512 * (2 + 49 * t) + 25088) 2008064 (omega arith)))
 
   -- its track table is right
-  pub table_sound : table_fault packed_image ≡ Sound
+  pub table_sound : table_fault packed_image ≡ None
   unfolding table_fault
   table_sound = fault_none (λ (t : ℕ). not (track_good packed_image t)) 80 (λ t h. rw (good t h))
 

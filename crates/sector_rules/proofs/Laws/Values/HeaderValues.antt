@@ -1,7 +1,7 @@
 -- The HFE header by value: the proof of hfe_header_values (HeaderValues.antt).
 -- Rests on: the laws of the packed image (Base/Packed) and of wrong codes (Base/Versions); all else is computed.
 use Rattle.std.proofs.Math.Bool.{true}
-use Rattle.std.specs.Prelude.{List, ◌++◌, map, ◌≡◌, ℕ, ◌+◌, ◌≤◌, ◌<◌, ltb, set, take, drop, replicate}
+use Rattle.std.specs.Prelude.{Some, None, Ok, Err, List, ◌++◌, map, ◌≡◌, ℕ, ◌+◌, ◌≤◌, ◌<◌, ltb, set, take, drop, replicate}
 use Rattle.std.proofs.Math.Option.{Option, none, some}
 use Rattle.std.proofs.Math.Path.{refl, ap}
 use Rattle.std.proofs.Common.{◌∙◌, arith, lit<, length-append, length-set, length-take, length-drop}
@@ -14,11 +14,10 @@ use Rattle.laws.specs.Laws.Tests.{le_true, lt_false, cond_true, cond_false}
 use Rattle.laws.specs.Lists.{same, bytes_are, stands_at, tab}
 use Rattle.laws.specs.Numbers.{low_first, low_byte}
 use Rattle.laws.specs.Options.{or_else}
-use Rattle.sector_rules.specs.declared.Fault.{Fault}
-use Rattle.sector_rules.specs.declared.Fault.TheVariants.{At, Sound}
+use Rattle.sector_rules.specs.Faults.{Fault}
 use Rattle.sector_rules.specs.declared.Reply.{Reply}
-use Rattle.sector_rules.specs.declared.Sector.{Sector}
-use Rattle.sector_rules.specs.declared.Sector.TheVariants.{Delivered, Missing, Repeated, NoField, Damaged}
+use Rattle.sector_rules.specs.Search.{Sector}
+use Rattle.sector_rules.specs.declared.SectorFault.TheVariants.{Missing, Repeated, NoField, Damaged}
 use Rattle.sector_rules.specs.Faults.{refusal_at}
 use Rattle.sector_rules.specs.Geometry.{all_sectors, image_bytes}
 use Rattle.sector_rules.specs.Hfe.{hfe_signature, version3_signature, is_version1, is_version3}
@@ -43,17 +42,17 @@ changed_from_length g start o l =
     length-append (take o start) (map g (drop o start)) ∙ rw (length-map (drop o start) g, length-take, length-drop) (omega arith)
 
 abbrev fault_place : Fault → ℕ
-fault_place (At o) = o
-fault_place Sound = 26
+fault_place (Some o) = o
+fault_place None = 26
 
 module _ (h : List ℕ) where
   by_sector : (m : ℕ) (x : Sector) → place_named 2 26 (sector_reply m x) ≡ 26
   unfolding place_named
-  by_sector m (Delivered p) = refl
-  by_sector m Missing = refl
-  by_sector m Repeated = refl
-  by_sector m NoField = refl
-  by_sector m Damaged = refl
+  by_sector m (Ok p) = refl
+  by_sector m (Err Missing) = refl
+  by_sector m (Err Repeated) = refl
+  by_sector m (Err NoField) = refl
+  by_sector m (Err Damaged) = refl
 
   by_sectors : place_named 2 26 (sectors_reply h) ≡ 26
   unfolding sectors_reply place_named
@@ -71,9 +70,9 @@ module _ (h : List ℕ) where
       → place_named 2 26 (unless (or_else (refusal_at 2 f) (or_else (refusal_at 3 g) (first_code_refusal h))) (λ (r : Reply). r)
       (sectors_reply h)) ≡ fault_place f
   unfolding place_named unless or_else
-  by_fault (At o) g = refl
-  by_fault Sound (At t) = refl
-  by_fault Sound Sound = by_codes (first_code_refusal h) refl
+  by_fault (Some o) g = refl
+  by_fault None (Some t) = refl
+  by_fault None None = by_codes (first_code_refusal h) refl
 
   -- 2 names the lowest wrong field of the header
   named_is : 1024 ≤ length h → place_named 2 26 (unpack_reply h image_bytes) ≡ fault_place (hfe_header_fault h)

@@ -1,6 +1,6 @@
 -- Two sides that agree from place a on, and on which no run begins below it: each sector gives the same on both. Then two images of which each sector does.
 -- Rests on cells that agree (Damage.Agree) and on what an answer says of how it came (Base.Told).
-use Rattle.std.specs.Prelude.{Bool, false, ◌&&◌, List, ◌≡◌, ℕ, ◌+◌, ◌*◌, ◌≤◌, ◌<◌, length, get_or}
+use Rattle.std.specs.Prelude.{Ok, Err, Bool, false, ◌&&◌, List, ◌≡◌, ℕ, ◌+◌, ◌*◌, ◌≤◌, ◌<◌, length, get_or}
 use Rattle.std.proofs.Math.Bool.{cond}
 use Rattle.std.proofs.Math.Path.{refl, sym, ap, ap₂}
 use Rattle.std.proofs.Common.{◌∙◌, arith}
@@ -13,8 +13,8 @@ use Rattle.cells.specs.Stream.{from}
 use Rattle.cells.specs.Sync.{three_sync}
 use Rattle.sector_rules.specs.declared.Found.{Found}
 use Rattle.sector_rules.specs.declared.Found.TheVariants.{One, Nothing, Several}
-use Rattle.sector_rules.specs.declared.Sector.{Sector}
-use Rattle.sector_rules.specs.declared.Sector.TheVariants.{Delivered, Missing, Repeated, NoField, Damaged}
+use Rattle.sector_rules.specs.Search.{Sector}
+use Rattle.sector_rules.specs.declared.SectorFault.TheVariants.{Missing, Repeated, NoField, Damaged}
 use Rattle.sector_rules.specs.Geometry.{sector_bytes, all_sectors}
 use Rattle.sector_rules.specs.Search.{data_mark, header_cells, field_cells, gap_cells, header_at, places_below, found_of, find_sector}
 use Rattle.sector_rules.specs.Search.{field_at, field_of, sector_found, sector_of, sector_byte, delivered_bytes}
@@ -31,7 +31,7 @@ no_header c t s r i e =
     (λ u. u)
 
 -- the bytes of a sector that is delivered begin at cell 224 or later: its header and the run and mark of its field stand before them
-late : (c : List ℕ) (t s r p : ℕ) → sector_of c t s r ≡ Delivered p → header_cells ≤ p
+late : (c : List ℕ) (t s r p : ℕ) → sector_of c t s r ≡ Ok p → header_cells ≤ p
 late c t s r p e =
     let x = sector_told c t s r p e in
     let w = gap_told c x.0 p x.2 in
@@ -55,7 +55,7 @@ module _ (c d : List ℕ) (long : length c ≡ length d) (a : ℕ) (near : a ≤
   field_alike : (j : ℕ) → a ≤ j → field_at c j ≡ field_at d j
   unfolding field_at
   field_alike j l =
-      ap₂ (λ (fits holds : Bool). cond fits (cond holds (Delivered (j + 64)) Damaged) NoField)
+      ap₂ (λ (fits holds : Bool). cond fits (cond holds (Ok (j + 64)) (Err Damaged)) (Err NoField))
       (ap₂ (λ (n b : ℕ). leb field_cells n && eqb b data_mark) (long_agree c d long a (j + 64) (λ k m n. same k m) j)
       (byte_agrees c d long a (j + 64) (λ k m n. same k m) j 48 (omega arith) (omega arith)))
       (holds_agree c d long a (j + 16 * 518) (λ k m n. same k m) j (4 + sector_bytes) l (omega arith))
@@ -63,7 +63,8 @@ module _ (c d : List ℕ) (long : length c ≡ length d) (a : ℕ) (near : a ≤
   field_of_alike : (i : ℕ) → field_of c i ≡ field_of d i
   unfolding field_of
   field_of_alike i =
-      first_cong (λ (j : ℕ). three_sync (from c j)) (λ (j : ℕ). three_sync (from d j)) (field_at c) (field_at d) NoField (gap_cells + 1) (i + header_cells)
+      first_cong (λ (j : ℕ). three_sync (from c j)) (λ (j : ℕ). three_sync (from d j))
+      (field_at c) (field_at d) (Err NoField) (gap_cells + 1) (i + header_cells)
       (λ j l. three_agree c d long a (j + 48) (λ k m n. same k m) j (omega arith) (omega arith))
       (λ j l. field_alike j (omega arith))
 
@@ -81,14 +82,14 @@ module _ (c d : List ℕ) (long : length c ≡ length d) (a : ℕ) (near : a ≤
 
     by_sector : (x : Sector) → sector_of c t s r ≡ x → delivered_bytes c x ≡ delivered_bytes d x
     unfolding delivered_bytes sector_byte
-    by_sector (Delivered p) e =
+    by_sector (Ok p) e =
         let l : header_cells ≤ p = late c t s r p e in
         tab_ext (sector_byte c p) (sector_byte d p) sector_bytes
         (λ k m. byte_agrees c d long a (p + 16 * k + 16) (λ k m n. same k m) p (16 * k) (omega arith) (omega arith))
-    by_sector Missing e = refl
-    by_sector Repeated e = refl
-    by_sector NoField e = refl
-    by_sector Damaged e = refl
+    by_sector (Err Missing) e = refl
+    by_sector (Err Repeated) e = refl
+    by_sector (Err NoField) e = refl
+    by_sector (Err Damaged) e = refl
 
     -- and the same bytes
     pub bytes_alike : delivered_bytes c (sector_of c t s r) ≡ delivered_bytes d (sector_of d t s r)

@@ -1,6 +1,6 @@
 -- version_3_plain: where no byte of its sides reads as a code, a version 3 image is read as if it had the letters of version 1.
 -- Rests on sides that agree but for their first cells (Alike), on the letters as cells (Letters) and on the cells of a side byte by byte (Rewrite.Base).
-use Rattle.std.specs.Prelude.{true, false, ◌≡◌, ℕ, ◌+◌, ◌-◌, ◌*◌, ◌/◌, ◌%◌, ◌^◌, ◌≤◌, ◌<◌, eqb, length}
+use Rattle.std.specs.Prelude.{Some, None, true, false, ◌≡◌, ℕ, ◌+◌, ◌-◌, ◌*◌, ◌/◌, ◌%◌, ◌^◌, ◌≤◌, ◌<◌, eqb, length}
 use Rattle.std.proofs.Math.Bool.{cond, not}
 use mathlib.Core.List.{List}
 use Rattle.std.proofs.Math.Option.{none}
@@ -21,8 +21,7 @@ use Rattle.cells.specs.Sync.{three_sync}
 use Rattle.cells.specs.Codes.{Cells, cells_of}
 use Rattle.cells.proofs.Laws.Codes.{coded_plain}
 use Rattle.sector_rules.specs.declared.Reply.{Reply}
-use Rattle.sector_rules.specs.declared.Fault.{Fault}
-use Rattle.sector_rules.specs.declared.Fault.TheVariants.{At, Sound}
+use Rattle.sector_rules.specs.Faults.{Fault}
 use Rattle.sector_rules.specs.Geometry.{tracks, sides, all_sectors, image_bytes}
 use Rattle.sector_rules.specs.Search.{sector_of, delivered_bytes}
 use Rattle.sector_rules.specs.Hfe.{hfe_signature, version3_signature, is_version1, is_version3, field_fault, format_fault, flag_fault, hfe_header_fault}
@@ -61,7 +60,7 @@ module _ (h g : List ℕ) (o : OtherLetters h g) where
   unfolding low_first
   number_same k l = rw (o.same (k + 0) (omega arith), o.same (k + 1) (omega arith))
 
-  module _ (sound : hfe_header_fault h ≡ Sound) where
+  module _ (sound : hfe_header_fault h ≡ None) where
     entry_same : (t : ℕ) → (entry_place g t ≡ entry_place h t) × (512 ≤ entry_place h t)
     unfolding entry_place
     entry_same t = (rw (number_same 18 (omega arith)), omega (arith, table_unit h sound))
@@ -163,19 +162,19 @@ module _ (h g : List ℕ) (o : OtherLetters h g) where
   -- ---- the replies
 
   module _ (plain : WithoutCodes h) (n : ℕ) (l : least_hfe ≤ length h) (e : n ≡ image_bytes) where
-    by_table : (sound : hfe_header_fault h ≡ Sound) (x : Fault) → table_fault h ≡ x → unpack_reply h n ≡ unpack_reply g n
-    by_table sound (At t) f =
+    by_table : (sound : hfe_header_fault h ≡ None) (x : Fault) → table_fault h ≡ x → unpack_reply h n ≡ unpack_reply g n
+    by_table sound (Some t) f =
         table_reply_lem h n l e sound t f
         ∙ sym (table_reply_lem g n (rw o.long l) e (header_same ∙ sound) t (table_same sound ∙ f))
-    by_table sound Sound f =
+    by_table sound None f =
         sound_reply h n l e sound f (no_codes sound plain)
         ∙ sectors_alike h g (λ m k. (sector_same sound plain m k).0)
         ∙ sym
         (sound_reply g n (rw o.long l) e (header_same ∙ sound) (table_same sound ∙ f) (plain_codes g (version_1_not_3 g o.version_1)))
 
     by_header : (x : Fault) → hfe_header_fault h ≡ x → unpack_reply h n ≡ unpack_reply g n
-    by_header (At k) f = header_reply h n l e k f ∙ sym (header_reply g n (rw o.long l) e k (header_same ∙ f))
-    by_header Sound f = by_table f (table_fault h) refl
+    by_header (Some k) f = header_reply h n l e k f ∙ sym (header_reply g n (rw o.long l) e k (header_same ∙ f))
+    by_header None f = by_table f (table_fault h) refl
 
   reply_same : WithoutCodes h → (n : ℕ) → unpack_reply h n ≡ unpack_reply g n
   reply_same plain n =
@@ -190,10 +189,10 @@ module _ (h g : List ℕ) (o : OtherLetters h g) where
   image_same plain image = by_fault (hfe_header_fault h) refl
     where
       by_fault : (x : Fault) → hfe_header_fault h ≡ x → unpack_image h image ≡ unpack_image g image
-      by_fault (At k) f =
+      by_fault (Some k) f =
           cond_false _ image (header_refused h (length image) k f)
           ∙ sym (cond_false _ image (header_refused g (length image) k (header_same ∙ f)))
-      by_fault Sound f =
+      by_fault None f =
           ap₂ (λ (n : ℕ) (bytes : List ℕ). cond (eqb n 0) bytes image)
           (ap (λ (r : Reply). r.number) (reply_same plain (length image))) (bytes_same f plain)
 

@@ -1,6 +1,6 @@
 -- sectors_read: what unpack answers and writes, by the cells of the sides alone.
 -- Rests on the laws of the lowest number that passes a test and of lists that are given by a rule.
-use Rattle.std.specs.Prelude.{true, false, ◌≡◌, ℕ, ◌+◌, ◌*◌, ◌/◌, ◌%◌, ◌<◌, length}
+use Rattle.std.specs.Prelude.{Ok, true, false, ◌≡◌, ℕ, ◌+◌, ◌*◌, ◌/◌, ◌%◌, ◌<◌, length}
 use mathlib.Core.List.{List}
 use Rattle.std.proofs.Math.Path.{ap}
 use Rattle.std.proofs.Common.{◌∙◌}
@@ -11,7 +11,6 @@ use Rattle.laws.specs.Laws.Tests.{cond_true, lt_true, eq_true}
 use Rattle.laws.specs.Laws.Lowest.{lowest_none, lowest_some}
 use Rattle.laws.specs.Laws.Tab.{tab_length, tab_in}
 use Rattle.cells.specs.Stream.{from, data_byte}
-use Rattle.sector_rules.specs.declared.Sector.TheVariants.{Delivered}
 use Rattle.sector_rules.specs.Replies.{done}
 use Rattle.sector_rules.specs.Geometry.{all_sectors, sector_bytes, image_bytes}
 use Rattle.sector_rules.specs.Search.{sector_byte, delivered_bytes}
@@ -33,7 +32,7 @@ module _ (h : List ℕ) where
   good_reply each = rw (lowest_none (λ (k : ℕ). is_bad (sector_at h k)) all_sectors each)
 
   -- the bytes of a sector whose data stand at place p
-  sector_byte_lem : (m p k : ℕ) → k < sector_bytes → sector_read h m ≡ Delivered p → get_or (sector_bytes_at h m) k 0 ≡ data_byte (from (side_cells_of h m) p)
+  sector_byte_lem : (m p k : ℕ) → k < sector_bytes → sector_read h m ≡ Ok p → get_or (sector_bytes_at h m) k 0 ≡ data_byte (from (side_cells_of h m) p)
       (16 * k)
   unfolding sector_bytes_at sector_at delivered_bytes sector_byte
   sector_byte_lem m p k l e = rw e (tab_in (sector_byte (side_cells_of h m) p) sector_bytes k l)
@@ -46,7 +45,7 @@ module _ (h : List ℕ) where
     image_long : length (unpack_image h image) ≡ image_bytes
     image_long = ap length written ∙ tab_length (unpacked_byte h) image_bytes
 
-    image_byte : (m p k : ℕ) → m < all_sectors → k < sector_bytes → sector_read h m ≡ Delivered p
+    image_byte : (m p k : ℕ) → m < all_sectors → k < sector_bytes → sector_read h m ≡ Ok p
         → get_or (unpack_image h image) (sector_bytes * m + k) 0 ≡ data_byte (from (side_cells_of h m) p) (16 * k)
     unfolding unpacked_byte
     image_byte m p k l n d =

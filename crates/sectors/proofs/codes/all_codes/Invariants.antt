@@ -8,7 +8,7 @@ use Rattle.sector_rules.specs.Unpacked.{side_refusal}
 use Rattle.sectors.proofs.codes.all_codes.Given as goal
 
 abbrev pub invariant-loop-n : goal.invariant-loop-n
-invariant-loop-n l = (l.n ≤ tracks * sides) × (first_some (side_refusal l.hfe) l.n ≡ none)
+invariant-loop-n l = (l.n ≤ tracks * sides) × (first_some (side_refusal l.hfe.bytes.now) l.n ≡ none)
 
 abbrev pub decreases-loop-n : goal.decreases-loop-n
 decreases-loop-n l = tracks * sides - l.n

@@ -1,25 +1,13 @@
 -- `header_and_table_right` meets its contract.
--- Rests on: the laws in Rewriting/Exchanged; the contracts of put_bytes, version1_fault, table_fault and is_sound.
+-- Rests on: the laws in Rewriting/Exchanged; the contracts of version1_fault and table_fault.
 -- Assumes nothing.
-use mathlib.Core.Path.{◌∙◌}
-use Rattle.sectors.specs.Laws.Rewriting.Exchanged.{fits_after, goes_back, sound_both}
+use mathlib.Core.Path.{sym, ◌∙◌}
+use Rattle.sectors.specs.Laws.Rewriting.Exchanged.{header_wrong, table_decides}
 use Rattle.sectors.proofs.comparing.header_and_table_right.Goals as goal
 
-pub put_bytes-requires : goal.put_bytes-requires
-put_bytes-requires c = c.requires.fits
+pub returns-then-is_none : goal.returns-then-is_none
+returns-then-is_none c =
+    table_decides _ (rw c.version1_fault.ensures at c.if-is_none.ensures) _ (rw c.table_fault.ensures at c.is_none-then-is_none.ensures)
 
-pub put_bytes-requires-2 : goal.put_bytes-requires-2
-put_bytes-requires-2 c = rw c.put_bytes.ensures (fits_after _ _ _ c.requires _)
-
-pub returns : goal.returns
-returns c = (
-  rw (
-    c.is_sound.ensures,
-    c.is_sound-2.ensures,
-    c.version1_fault.ensures,
-    c.table_fault.ensures,
-    c.put_bytes.ensures,
-  ) (sound_both _),
-  c.put_bytes-2.ensures
-      ∙ goes_back _ _ _ c.requires _ _ c.put_bytes.ensures,
-)
+pub returns-else-is_none : goal.returns-else-is_none
+returns-else-is_none c = c.if-is_none.false ∙ sym (header_wrong _ (rw c.version1_fault.ensures at c.if-is_none.ensures))

@@ -1,25 +1,20 @@
--- `table_fault` meets its contract: the entries of the tracks below t are good.
--- Rests on: the laws in Reading/Faults and sector_rules::Base/Faults; the contract of track_good.
+-- `table_fault` meets its contract: the search over the tracks finds the first whose entry is not good.
+-- Rests on: the laws of the lowest number that passes a test (laws, FirstBelow); the contract of track_good.
 -- Assumes nothing.
-use mathlib.Core.Path.{sym, ap, ◌∙◌}
-use mathlib.Core.Bool.{not}
-use native.Mathlib.Omega.{arith}
-use borrow.Author.Count.{below_more}
-use Rattle.sector_rules.specs.Hfe.{table_fault}
-use Rattle.sector_rules.proofs.Laws.Base.Faults.{fault_none}
-use Rattle.sectors.specs.Laws.Reading.Faults.{fault_some}
+use mathlib.Core.Path.{◌≡◌}
+use mathlib.Core.Bool.{true, false, not}
+use Prim.Native.Nat.{ℕ}
+use Rattle.std.proofs.Common.{rules, tests}
+use Rattle.std.proofs.lemmas.Iterator.{first_from_Range}
+use Rattle.laws.specs.Below.{first_below}
+use Rattle.laws.specs.Laws.FirstBelow.{first_below_told}
+use Rattle.sector_rules.specs.Faults.{fault_below, lowest_fault}
+use Rattle.sector_rules.specs.Geometry.{tracks}
+use Rattle.sector_rules.specs.Hfe.{track_good, table_fault}
 use Rattle.sectors.proofs.hfe.table_fault.Goals as goal
 
-pub loop-t-init : goal.loop-t-init
-loop-t-init c = (omega arith, λ k h. absurd (omega arith))
-
-pub returns-then-not-track_good : goal.returns-then-not-track_good
-unfolding table_fault
-returns-then-not-track_good c = sym (fault_some _ _ _ (omega arith) c.loop-t.invariant.1 (ap not (sym c.track_good.ensures ∙ c.if-not-track_good.true)))
-
-pub loop-t-preserved : goal.loop-t-preserved
-loop-t-preserved c = (omega arith, below_more _ _ c.loop-t.invariant.1 (ap not (sym c.track_good.ensures ∙ c.if-not-track_good.false)))
-
 pub returns : goal.returns
-unfolding table_fault
-returns c = sym (fault_none _ _ (λ k h. c.loop-t.invariant.1 k (omega arith)))
+unfolding table_fault lowest_fault fault_below first_below
+returns c = let test = λ (t : ℕ). not (track_good c.args.hfe.now t) in
+    first_below_told test tracks c.find.result
+    (first_from_Range _ _ _ _ (λ t. test t ≡ true) (λ t. test t ≡ false) c.find.ensures.ran (λ x q k. search (rules, tests)) (λ x q k. search (rules, tests)))

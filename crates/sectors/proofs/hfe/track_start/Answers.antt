@@ -7,4 +7,4 @@ use Rattle.sectors.proofs.hfe.track_start.Goals as goal
 
 pub returns : goal.returns
 unfolding track_start
-returns c = (rw (← c.entry_place.ensures.0, ← c.low2.ensures), omega arith)
+returns c = (rw (← c.entry_place.ensures.0, ← c.low2.ensures, ← c.from.ensures), omega arith)

@@ -1,26 +1,20 @@
--- `field_row` meets its contract: the first k bytes are made.
--- Rests on: the laws of lists and rows; the contract of field_byte.
+-- `field_row` meets its contract.
+-- Rests on: the laws in Made and of rows; the contract of field_byte.
 -- Assumes nothing.
-use mathlib.Core.Path.{refl, ◌∙◌}
-use native.Mathlib.Omega.{arith}
 use Prim.Native.Nat.{ℕ}
-use lib.ListN.{get_or, length-set}
-use Rattle.sector_rules.specs.Rewritten.{field_row}
-use Rattle.laws.specs.Laws.Changes.{element_more}
+use mathlib.Core.List.{◌∷◌}
+use lib.ListN.{get_or}
+use Rattle.std.proofs.Common.{rules, ◌∙◌}
+use Rattle.laws.specs.Lists.{window}
+use Rattle.sector_rules.specs.Geometry.{sector_bytes}
+use Rattle.sector_rules.specs.Packed.{with_crc}
+use Rattle.sector_rules.specs.Search.{data_mark}
+use Rattle.laws.specs.Laws.Made.{made_each}
 use Rattle.sectors.specs.Laws.Rewriting.NewCells.{row_whole, row_window}
 use Rattle.sectors.proofs.new_cells.field_row.Goals as goal
 
-pub loop-k-init : goal.loop-k-init
-loop-k-init c = (omega arith, refl, λ i h. absurd (omega arith))
-
-pub loop-k-preserved : goal.loop-k-preserved
-loop-k-preserved c = (
-  omega arith,
-  simp length-set c.loop-k.invariant.1,
-  element_more c.loop-k.row 0
-      (λ (i : ℕ). get_or (field_row c.args.content.now) i 0) c.loop-k.k c.field_byte.result (omega arith) c.loop-k.invariant.2
-      (c.field_byte.ensures ∙ row_window _ c.requires _),
-)
-
 pub returns : goal.returns
-returns c = row_whole _ c.requires _ c.loop-k.invariant.1 (λ i l. c.loop-k.invariant.2 i (omega arith))
+returns c =
+    let byte : ℕ → ℕ = λ (k : ℕ). get_or (with_crc (data_mark ∷ window c.args.content.now 0 sector_bytes)) k 0 in
+    row_whole _ c.told-content _ c.from_fn.ensures.items.long
+    (λ i l. made_each _ _ byte (λ k y q h. search rules) _ _ c.from_fn.ensures.items i l ∙ row_window _ c.told-content i)

@@ -5,5 +5,5 @@ use Rattle.sectors.specs.Laws.Packing.Runs.{image_written}
 use Rattle.sectors.proofs.packing.write_hfe.Goals as goal
 
 pub returns : goal.returns
-returns c = image_written _ _ _ _ _ c.requires.1 c.write_header.ensures
+returns c = image_written _ _ _ _ _ c.requires c.write_header.ensures
     c.write_table.ensures c.write_tracks.ensures

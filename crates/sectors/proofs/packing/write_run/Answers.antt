@@ -7,5 +7,5 @@ use Rattle.sectors.proofs.packing.write_run.Goals as goal
 
 pub returns : goal.returns
 returns c = c.fill.ensures ∙
-    run_written _ _ _ _ _ _ _ _ c.requires.3 c.items_of_run-n.ensures
+    run_written _ _ _ _ _ _ _ _ c.requires.0 c.items_of_run-n.ensures
     c.write_items.ensures

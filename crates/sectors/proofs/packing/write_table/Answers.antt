@@ -1,23 +1,14 @@
--- `write_table` meets its contract: the first j bytes are written.
--- Rests on: the laws in laws::Overlay; the contract of table_byte.
+-- `write_table` meets its contract.
+-- Rests on: the laws in Made and in Packing/Runs; the contracts of table_byte and fields::copy_into.
 -- Assumes nothing.
-use mathlib.Core.Path.{◌≡◌}
-use native.Mathlib.Omega.{arith}
-use lib.ListN.{length-set}
-use Rattle.laws.specs.Laws.Overlay.{overlay_none, overlay_more}
-use Rattle.sector_rules.specs.Hfe.{unit_bytes}
+use Rattle.std.proofs.Common.{rules, ◌∙◌}
+use Rattle.sector_rules.specs.Packed.{hfe_table_byte}
+use Rattle.laws.specs.Laws.Made.{made_each}
+use Rattle.sectors.specs.Laws.Packing.Runs.{put_made}
 use Rattle.sectors.proofs.packing.write_table.Goals as goal
 
-pub loop-j-init : goal.loop-j-init
-loop-j-init c = (omega arith, c.requires, overlay_none _ _ _)
-
-pub loop-j-preserved : goal.loop-j-preserved
-loop-j-preserved c = (
-  omega arith,
-  simp length-set c.loop-j.invariant.1,
-  overlay_more _ _ _ _ _ _ (omega arith)
-      c.loop-j.invariant.2 c.table_byte.ensures,
-)
-
 pub returns : goal.returns
-returns c = let e : c.loop-j.j ≡ unit_bytes = omega arith in rw e at c.loop-j.invariant.2
+returns c =
+    c.copy_into.ensures
+    ∙ put_made _ _ _ _ _ c.from_fn-table.ensures.items.long
+    (made_each _ _ hfe_table_byte (λ k y q h. search rules) _ _ c.from_fn-table.ensures.items)

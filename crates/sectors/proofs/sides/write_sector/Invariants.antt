@@ -1,15 +1,7 @@
 -- `write_sector` meets its contract: the first k bytes are written.
-use mathlib.Core.Path.{◌≡◌}
-use Prim.Native.Nat.{◌-◌, ◌≤◌}
-use lib.ListN.{length}
-use Rattle.laws.specs.Changes.{overlay}
-use Rattle.cells.specs.Stream.{stream}
+use Rattle.std.proofs.Common.{◌≡◌, ◌<◌, length, ℕ, get_or}
 use Rattle.sector_rules.specs.Search.{sector_byte}
 use Rattle.sectors.proofs.sides.write_sector.Given as goal
 
 abbrev pub invariant-loop-k : goal.invariant-loop-k
-invariant-loop-k l = (l.k ≤ 512) × (length l.image ≡ length l.initial.image) × (l.image ≡ overlay l.initial.image l.at l.k (sector_byte
-    (stream l.part l.side) l.p))
-
-abbrev pub decreases-loop-k : goal.decreases-loop-k
-decreases-loop-k l = 512 - l.k
+invariant-loop-k l = (length l.byte-items ≡ 512) × ((i : ℕ) → i < l.k → get_or l.byte-items i 0 ≡ sector_byte l.cells l.p i)

@@ -7,7 +7,7 @@ use Rattle.sectors.specs.Laws.Unpacking.SectorsJudged.{Noted}
 use Rattle.sectors.proofs.unpacking.judge_all.Given as goal
 
 abbrev pub invariant-loop-n : goal.invariant-loop-n
-invariant-loop-n l = (l.n ≤ tracks * sides) × (length l.places ≡ all_sectors) × Noted l.hfe l.places (sectors * l.n)
+invariant-loop-n l = (l.n ≤ tracks * sides) × (length l.places ≡ all_sectors) × Noted l.hfe.bytes.now l.places (sectors * l.n)
 
 abbrev pub decreases-loop-n : goal.decreases-loop-n
 decreases-loop-n l = tracks * sides - l.n

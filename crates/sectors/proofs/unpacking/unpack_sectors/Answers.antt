@@ -4,13 +4,16 @@
 use mathlib.Core.Path.{refl}
 use Rattle.sectors.specs.Laws.Unpacking.SectorsJudged.{refused_after, written_after}
 use Rattle.sectors.proofs.unpacking.unpack_sectors.Goals as goal
+use Rattle.std.proofs.lemmas.Result.{err_from_is_err_and}
+use Rattle.sectors.specs.Refusals.{hfe_refused_number}
+use Rattle.std.specs.Prelude.{refl}
 
-pub returns-then-reply-ne0 : goal.returns-then-reply-ne0
-returns-then-reply-ne0 c = refused_after _ _ _ _ c.judge_all-reply.ensures.answer c.if-reply-ne0.true refl
+pub returns-in_err-judge_all : goal.returns-in_err-judge_all
+returns-in_err-judge_all c = let p = err_from_is_err_and c.from_residual.result c.from_residual.ensures.1 in
+    rw (p.1, p.2) (refused_after _ _ _ _ (c.in_err-judge_all.ensures).answer (hfe_refused_number _) refl)
 
 pub write_sides-requires : goal.write_sides-requires
-write_sides-requires c = (c.requires.0, c.judge_all-reply.auto.places, c.requires.1, c.judge_all-reply.ensures.good c.if-reply-ne0.false)
+write_sides-requires c = (c.requires, c.in_ok-judge_all.ensures.good refl)
 
 pub returns : goal.returns
-returns c = written_after _ _ _ _ c.judge_all-reply.ensures.answer c.if-reply-ne0.false
-    c.write_sides.ensures
+returns c = written_after _ _ _ _ (c.in_ok-judge_all.ensures).answer refl c.write_sides.ensures

@@ -5,9 +5,13 @@ use mathlib.Core.Path.{refl}
 use Rattle.sectors.specs.Laws.Unpacking.Codes.{codes_right, codes_wrong}
 use Rattle.sectors.specs.Laws.Unpacking.SectorsJudged.{codes_after, sectors_after}
 use Rattle.sectors.proofs.unpacking.unpack_sides.Goals as goal
+use Rattle.std.proofs.lemmas.Result.{err_from_is_err_and}
+use Rattle.sectors.specs.Refusals.{hfe_refused_number}
+use Rattle.std.specs.Prelude.{refl}
 
-pub returns-then-reply-ne0 : goal.returns-then-reply-ne0
-returns-then-reply-ne0 c = codes_after _ _ _ _ (codes_wrong _ _ c.judge_codes-reply.ensures c.if-reply-ne0.true) c.if-reply-ne0.true refl
+pub returns-in_err-judge_codes : goal.returns-in_err-judge_codes
+returns-in_err-judge_codes c = let p = err_from_is_err_and c.from_residual.result c.from_residual.ensures.1 in
+    rw (p.1, p.2) (codes_after _ _ _ _ (codes_wrong _ _ (c.in_err-judge_codes.ensures) (hfe_refused_number _)) (hfe_refused_number _) refl)
 
 pub returns : goal.returns
-returns c = sectors_after _ _ _ _ (codes_right _ _ c.judge_codes-reply.ensures c.if-reply-ne0.false) c.unpack_sectors.ensures
+returns c = sectors_after _ _ _ _ (codes_right _ _ (c.in_ok-judge_codes.ensures) refl) c.unpack_sectors.ensures

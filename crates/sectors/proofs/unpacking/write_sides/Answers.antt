@@ -13,18 +13,18 @@ use Rattle.sectors.specs.Laws.Unpacking.Sides.{side_byte}
 use Rattle.sectors.proofs.unpacking.write_sides.Goals as goal
 
 pub loop-n-init : goal.loop-n-init
-loop-n-init c = (omega arith, c.requires.2, overlay_none _ _ _)
+loop-n-init c = (omega arith, c.requires.0, overlay_none _ _ _)
 
 pub loop-n-preserved : goal.loop-n-preserved
 loop-n-preserved c = let q : sector_bytes * (sectors * c.loop-n.n) + sector_bytes * sectors ≡ sector_bytes * (sectors * (c.loop-n.n + 1)) = omega arith in (
   omega arith,
   ap length c.write_version_side.ensures ∙ overlay_length _ _ _ _ ∙ c.loop-n.invariant.1,
   c.write_version_side.ensures ∙ overlay_next
-      _ (sector_bytes * (sectors * c.loop-n.n)) (sector_bytes * sectors) _ (unpacked_byte c.args.hfe.now) _ c.loop-n.invariant.2
-      (side_byte c.args.hfe.now c.loop-n.n _ refl _ c.requires.3.each (omega arith)) ∙ ap (λ (j : ℕ). overlay c.args.image.now 0 j
-      (unpacked_byte c.args.hfe.now)) q,
+      _ (sector_bytes * (sectors * c.loop-n.n)) (sector_bytes * sectors) _ (unpacked_byte c.args.hfe.now.bytes.now) _ c.loop-n.invariant.2
+      (side_byte c.args.hfe.now.bytes.now c.loop-n.n _ refl _ c.requires.1.each (omega arith)) ∙ ap (λ (j : ℕ). overlay c.args.image.now 0 j
+      (unpacked_byte c.args.hfe.now.bytes.now)) q,
 )
 
 pub returns : goal.returns
 returns c = let e : sector_bytes * (sectors * c.loop-n.n) ≡ image_bytes = omega arith in
-    c.loop-n.invariant.2 ∙ rw e (overlay_all _ _ _ c.requires.2)
+    c.loop-n.invariant.2 ∙ rw e (overlay_all _ _ _ c.requires.0)

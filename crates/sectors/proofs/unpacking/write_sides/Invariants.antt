@@ -9,7 +9,7 @@ use Rattle.sectors.proofs.unpacking.write_sides.Given as goal
 
 abbrev pub invariant-loop-n : goal.invariant-loop-n
 invariant-loop-n l = (l.n ≤ tracks * sides) × (length l.image ≡ image_bytes) ×
-    (l.image ≡ overlay l.initial.image 0 (sector_bytes * (sectors * l.n)) (unpacked_byte l.hfe))
+    (l.image ≡ overlay l.initial.image 0 (sector_bytes * (sectors * l.n)) (unpacked_byte l.hfe.bytes.now))
 
 abbrev pub decreases-loop-n : goal.decreases-loop-n
 decreases-loop-n l = tracks * sides - l.n

@@ -6,6 +6,7 @@ use Rattle.std.proofs.Math.ListN.{get_or-eq_default}
 use borrow.Author.Tests.{le-ltb, eq-eqb, ne_eqb}
 use Rattle.laws.specs.Lists.{window}
 use Rattle.laws.specs.Numbers.{low_byte}
+use Rattle.laws.specs.Laws.Cases.{by_equal}
 use Rattle.laws.specs.Laws.Tab.{window_in, window_length, window_part}
 use Rattle.cells.specs.Crc.{crc_start, crc_from, crc}
 use Rattle.cells.proofs.Laws.Crc.{crc_from_append}
@@ -16,7 +17,7 @@ use Rattle.sector_rules.specs.Hfe.{hfe_signature}
 use Rattle.sector_rules.specs.Search.{data_mark}
 use Rattle.sector_rules.specs.Packed.{hfe_bytes, fill_byte, hfe_header_rest, hfe_header_byte, hfe_table_byte, pack_reply}
 use Rattle.sector_rules.specs.Packed.{field_crc, with_crc, header_row, gap_byte, sector_item, side_item}
-use Rattle.sector_rules.proofs.Laws.Base.Packed.{span_left, span_right, past_lead, crc_before, crc_high, crc_low}
+use Rattle.sector_rules.proofs.Laws.Base.Packed.{span_left, span_right, past_lead, field_crc_lt, crc_before, crc_high, crc_low}
 
 -- ---- the items of a side, part by part
 
@@ -79,6 +80,20 @@ unfolding field_crc crc
 field_crc_lem image at h =
     sym (crc_from_append crc_start (0xA1 ∷ (0xA1 ∷ (0xA1 ∷ (data_mark ∷ [])))) (take sector_bytes (drop at image))) ∙ rw (window_part image at sector_bytes h)
 
+-- after a row come the two bytes of its CRC, the high one first
+pub with_crc_end : (xs : List ℕ) (k : ℕ) → length xs ≤ k → k < length xs + 2
+    → get_or (field_crc xs / 256 % 256 ∷ (field_crc xs % 256 ∷ [])) (k - length xs) 0 ≡ get_or (with_crc xs) k 0
+with_crc_end xs k l h = by_equal k (length xs) high low
+  where
+    high : k ≡ length xs → get_or (field_crc xs / 256 % 256 ∷ (field_crc xs % 256 ∷ [])) (k - length xs) 0 ≡ get_or (with_crc xs) k 0
+    high e =
+        let z : k - length xs ≡ 0 = omega arith in
+        let small : field_crc xs / 256 % 256 ≡ field_crc xs / 256 = omega (arith, field_crc_lt xs) in
+        rw (z, small) (sym (crc_high xs k e))
+
+    low : (k ≡ length xs → ⊥) → get_or (field_crc xs / 256 % 256 ∷ (field_crc xs % 256 ∷ [])) (k - length xs) 0 ≡ get_or (with_crc xs) k 0
+    low n = let z : k - length xs ≡ 1 = omega arith in rw z (sym (crc_low xs k (omega arith)))
+
 -- the bytes of a header row, as they stand in the row that code makes
 pub row_header : (t s r k : ℕ) → k < 5
     → get_or (0xA1 ∷ (0xA1 ∷ (0xA1 ∷ header_row t s r))) (3 + k) 0 ≡ get_or (with_crc (header_row t s r)) k 0
@@ -106,15 +121,10 @@ module _ (image : List ℕ) (at : ℕ) where
       let e : suc k - 1 ≡ k = omega arith in
       crc_before field (suc k) (omega (arith, field_length)) ∙ rw e (window_in image at sector_bytes k (omega arith))
 
-  -- byte 513 of a field's row is the high byte of its CRC
-  pub row_high : (k : ℕ) → k ≡ 513 → get_or (with_crc (data_mark ∷ window image at sector_bytes)) k 0 ≡ field_crc
-      (data_mark ∷ window image at sector_bytes) / 256
-  row_high k e = crc_high field k (omega (arith, field_length))
-
-  -- byte 514 of a field's row is the low byte of its CRC
-  pub row_low : (k : ℕ) → k ≡ 514 → get_or (with_crc (data_mark ∷ window image at sector_bytes)) k 0 ≡ field_crc
-      (data_mark ∷ window image at sector_bytes) % 256
-  row_low k e = crc_low field k (omega (arith, field_length))
+  -- bytes 513 and 514 of a field's row are those of its CRC
+  pub row_end : (k : ℕ) → 513 ≤ k → k < 515
+      → get_or (field_crc field / 256 % 256 ∷ (field_crc field % 256 ∷ [])) (k - 513) 0 ≡ get_or (with_crc field) k 0
+  row_end k l h = rw field_length at (with_crc_end field k (omega (arith, field_length)) (omega (arith, field_length)))
 
 -- ---- the bytes of the image
 

@@ -1,6 +1,6 @@
 -- The writer: the two stored bytes of an item, the runs of a side's bytes in the units of a track, and the image as these parts in order.
 -- Rests on the laws of what is written into a list, and on the written image place by place (Items, and Base.Packed of sector_rules).
-use Rattle.std.specs.Prelude.{cond, List, ◌≡◌, refl, ℕ, ◌+◌, ◌-◌, ◌*◌, ◌/◌, ◌%◌, ◌≤◌, ◌<◌, min, ltb, length, set}
+use Rattle.std.specs.Prelude.{cond, List, ◌≡◌, refl, ℕ, ◌+◌, ◌-◌, ◌*◌, ◌/◌, ◌%◌, ◌≤◌, ◌<◌, min, ltb, length, set, get_or}
 use Rattle.std.proofs.Math.Path.{sym}
 use Rattle.std.proofs.Common.{ap, ◌∙◌}
 use native.Mathlib.Omega.{arith}
@@ -42,6 +42,14 @@ run_byte image t s u k = cond (ltb (run_bytes * u + k) side_bytes) (packed (writ
 -- byte k of the units of all tracks
 unfoldable pub tracks_byte : List ℕ → ℕ → ℕ
 tracks_byte image k = hfe_byte image (first_unit * unit_bytes + k)
+
+-- where unit u of track t lies in the image
+abbrev pub unit_place : ℕ → ℕ → ℕ
+unit_place t u = unit_bytes * (first_unit + track_units * t + u)
+
+-- byte k of the units of all tracks, counted from unit u of track t on
+unfoldable pub unit_byte : List ℕ → ℕ → ℕ → ℕ → ℕ
+unit_byte image t u k = tracks_byte image (unit_bytes * (track_units * t + u) + k)
 
 -- ---- items
 
@@ -99,30 +107,46 @@ module _ (image : List ℕ) (t s u : ℕ) where
 
 -- ---- the units of the tracks, half by half
 
-module _ (image : List ℕ) (w : ℕ) where
-  -- run w is the w-th half of a unit
-  run_is : (k : ℕ) → k < run_bytes → run_byte image (w / sides / track_units) (w % sides) (w / sides % track_units) k ≡ tracks_byte image (run_bytes * w + k)
-  unfolding tracks_byte run_byte hfe_track_byte
-  run_is k l =
-      let y : first_unit * unit_bytes + (run_bytes * w + k) - first_unit * unit_bytes ≡ run_bytes * w + k = omega arith in
-      let t : (run_bytes * w + k) / (track_units * unit_bytes) ≡ w / sides / track_units = omega arith in
-      let o : (run_bytes * w + k) % (track_units * unit_bytes) ≡ unit_bytes * (w / sides % track_units) + run_bytes * (w % sides) + k = omega arith in
-      let u : (unit_bytes * (w / sides % track_units) + run_bytes * (w % sides) + k) / unit_bytes ≡ w / sides % track_units = omega arith in
-      let s : (unit_bytes * (w / sides % track_units) + run_bytes * (w % sides) + k) % unit_bytes / run_bytes ≡ w % sides = omega arith in
-      let r : (unit_bytes * (w / sides % track_units) + run_bytes * (w % sides) + k) % run_bytes ≡ k = omega arith in
-      sym (hfe_track image (first_unit * unit_bytes + (run_bytes * w + k)) (omega arith) (omega arith) ∙ rw (y, t, o, u, s, r))
+-- a row, written after those before it that are as long
+pub runs_next : (d out : List ℕ) (at m j : ℕ) (f g : ℕ → ℕ) → out ≡ overlay d at (m * j) g → ((k : ℕ) → k < m → f k ≡ g (m * j + k))
+    → overlay out (at + m * j) m f ≡ overlay d at (m * (j + 1)) g
+runs_next d out at m j f g e same =
+    let z : m * j + m ≡ m * (j + 1) = omega arith in
+    overlay_on d at (m * j) m f g out e same ∙ ap (λ (n : ℕ). overlay d at n g) z
 
-  -- one more run, written after those before it
-  pub tracks_more : (d out : List ℕ) → out ≡ overlay d (first_unit * unit_bytes) (run_bytes * w) (tracks_byte image)
-      → overlay out (first_unit * unit_bytes + run_bytes * w) run_bytes (run_byte image (w / sides / track_units) (w % sides) (w / sides % track_units))
-      ≡ overlay d (first_unit * unit_bytes) (run_bytes * (w + 1)) (tracks_byte image)
-  tracks_more d out e =
-      let z : run_bytes * w + run_bytes ≡ run_bytes * (w + 1) = omega arith in
-      overlay_on d (first_unit * unit_bytes) (run_bytes * w) run_bytes (run_byte image (w / sides / track_units) (w % sides) (w / sides % track_units))
-      (tracks_byte image) out e run_is
-      ∙ ap (λ (j : ℕ). overlay d (first_unit * unit_bytes) j (tracks_byte image)) z
+module _ (image : List ℕ) where
+  -- the two halves of a unit
+  pub half_is : (t s u k : ℕ) → s < sides → u < track_units → k < run_bytes → run_byte image t s u k ≡ unit_byte image t u (run_bytes * s + k)
+  unfolding unit_byte tracks_byte run_byte hfe_track_byte
+  half_is t s u k hs hu l =
+      let n : ℕ = unit_bytes * (track_units * t + u) + (run_bytes * s + k) in
+      let y : first_unit * unit_bytes + n - first_unit * unit_bytes ≡ n = omega arith in
+      let a : n / (track_units * unit_bytes) ≡ t = omega arith in
+      let o : n % (track_units * unit_bytes) ≡ unit_bytes * u + run_bytes * s + k = omega arith in
+      let b : (unit_bytes * u + run_bytes * s + k) / unit_bytes ≡ u = omega arith in
+      let e : (unit_bytes * u + run_bytes * s + k) % unit_bytes / run_bytes ≡ s = omega arith in
+      let r : (unit_bytes * u + run_bytes * s + k) % run_bytes ≡ k = omega arith in
+      sym (hfe_track image (first_unit * unit_bytes + n) (omega arith) (omega arith) ∙ rw (y, a, o, b, e, r))
 
--- ---- the header's unit
+  -- the units of a track
+  pub unit_is : (t u k : ℕ) → unit_byte image t u k ≡ unit_byte image t 0 (unit_bytes * u + k)
+  unfolding unit_byte
+  unit_is t u k =
+      let z : unit_bytes * (track_units * t + u) + k ≡ unit_bytes * (track_units * t + 0) + (unit_bytes * u + k) = omega arith in
+      ap (tracks_byte image) z
+
+  -- the tracks
+  pub track_bytes_is : (t k : ℕ) → unit_byte image t 0 k ≡ tracks_byte image (unit_bytes * track_units * t + k)
+  unfolding unit_byte
+  track_bytes_is t k = let z : unit_bytes * (track_units * t + 0) + k ≡ unit_bytes * track_units * t + k = omega arith in ap (tracks_byte image) z
+
+-- ---- the units of header and table
+
+-- a list whose elements a rule gives, written
+pub put_made : (d : List ℕ) (at n : ℕ) (f : ℕ → ℕ) (vs : List ℕ) → length vs ≡ n → ((k : ℕ) → k < n → get_or vs k 0 ≡ f k) → put d at vs ≡ overlay d at n f
+unfolding put element_at
+put_made d at n f vs e each =
+    rw e (overlay_cong d at n (λ (k : ℕ). get_or vs (0 + k) 0) f (λ k l. let z : 0 + k ≡ k = omega arith in rw z (each k l)))
 
 signature_is : (k : ℕ) → k < 8 → element_at hfe_signature 0 k ≡ hfe_header_byte k
 unfolding all element_at hfe_signature hfe_header_byte hfe_header_rest low_byte

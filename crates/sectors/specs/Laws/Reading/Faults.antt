@@ -1,19 +1,25 @@
 -- Faults as the code finds them: a chain of fields, and the lowest place.
 -- Rests on the laws of the lowest number that passes a test.
-use Rattle.std.specs.Prelude.{◌≡◌, Bool, true, false, ℕ, ◌<◌}
-use Rattle.std.proofs.Common.{ap₂, ◌∙◌}
-use borrow.Author.Tests.{lt-ltb}
-use Rattle.laws.specs.Laws.Lowest.{lowest_some}
-use Rattle.sector_rules.specs.declared.Fault.{Fault}
-use Rattle.sector_rules.specs.declared.Fault.TheVariants.{At}
-use Rattle.sector_rules.specs.Faults.{or_fault, fault_below, lowest_fault}
+use Rattle.std.specs.Option.{option_or}
+use Rattle.std.specs.Prelude.{Some, None, ◌≡◌, refl}
+use Rattle.sector_rules.specs.Faults.{Fault}
+use Rattle.sector_rules.specs.Faults.{or_fault}
 
--- one link: a field before the fields after it
-pub or_link : (f a b a' b' : Fault) → f ≡ or_fault a b → a ≡ a' → b ≡ b' → f ≡ or_fault a' b'
-or_link f a b a' b' e p q = e ∙ ap₂ or_fault p q
+-- the first of several fields that is wrong, as the code looks for it
+pub first_of_two : (a b : Fault) → option_or a b ≡ or_fault a b
+first_of_two (Some o) b = refl
+first_of_two None b = refl
 
-module _ (p : ℕ → Bool) (n : ℕ) where
-  -- the first place where the test holds is the lowest fault
-  pub fault_some : (m : ℕ) → m < n → ((k : ℕ) → k < m → p k ≡ false) → p m ≡ true → lowest_fault p n ≡ At m
-  unfolding lowest_fault fault_below
-  fault_some m l h t = rw (lowest_some p n m l h t, lt-ltb m n l)
+-- the same of five
+pub first_of_five : (a b c d e : Fault) → option_or (option_or (option_or (option_or a b) c) d) e ≡ or_fault a (or_fault b (or_fault c (or_fault d e)))
+first_of_five (Some o) b c d e = refl
+first_of_five None (Some o) c d e = refl
+first_of_five None None (Some o) d e = refl
+first_of_five None None None (Some o) e = refl
+first_of_five None None None None e = refl
+
+-- the same of six
+pub first_of_six : (a b c d e f : Fault)
+    → option_or (option_or (option_or (option_or (option_or a b) c) d) e) f ≡ or_fault a (or_fault b (or_fault c (or_fault d (or_fault e f))))
+first_of_six (Some o) b c d e f = refl
+first_of_six None b c d e f = first_of_five b c d e f

@@ -1,20 +1,20 @@
 -- The bytes that a rewrite exchanges for one sector, the image with the new ones, and the reply and image of the call.
 -- Rests on the laws of exchanged bytes (Changed) and of the replies of a rewrite (Rewrite.Judged of sector_rules).
-use Rattle.std.specs.Prelude.{true, false, List, ◌≢◌, ◌≡◌, refl, eqb, length}
+use Rattle.std.specs.Prelude.{None, Ok, Err, true, false, ◌&&◌, List, ◌≢◌, ◌≡◌, refl, ltb, leb, eqb, length}
 use Rattle.std.proofs.Math.Bool.{cond}
 use Rattle.std.proofs.Math.Path.{sym, ap}
 use Rattle.std.proofs.Common.{◌∙◌}
 use Prim.Native.Nat.{ℕ, ◌+◌, ◌-◌, ◌*◌, ◌/◌, ◌%◌, ◌^◌, ◌≤◌, ◌<◌, min}
 use native.Mathlib.Omega.{arith}
 use Rattle.std.proofs.Math.ListN.{get_or}
-use Rattle.laws.specs.Laws.Tests.{true≢false, cond_true, cond_false}
+use borrow.Author.Tests.{eq-eqb, ne_eqb}
+use Rattle.laws.specs.Laws.Tests.{true≢false, and_true, and_false_left, and_false_right, cond_true, cond_false}
 use Rattle.cells.specs.Stream.{packed}
-use Rattle.sector_rules.specs.declared.Fault.TheVariants.{Sound}
 use Rattle.sector_rules.specs.declared.Reply.{Reply}
-use Rattle.sector_rules.specs.declared.Sector.{Sector}
-use Rattle.sector_rules.specs.declared.Sector.TheVariants.{Delivered, Missing, Repeated, NoField, Damaged}
+use Rattle.sector_rules.specs.Search.{Sector}
+use Rattle.sector_rules.specs.declared.SectorFault.TheVariants.{Missing, Repeated, NoField, Damaged}
 use Rattle.sector_rules.specs.Replies.{done, refusal}
-use Rattle.sector_rules.specs.Geometry.{tracks, sides, sectors}
+use Rattle.sector_rules.specs.Geometry.{tracks, sides, sectors, sector_bytes}
 use Rattle.sector_rules.specs.Hfe.{version1_fault, table_fault, track_start, track_length, side_stream}
 use Rattle.sector_rules.specs.Search.{sector_of}
 use Rattle.sector_rules.specs.Unpacked.{least_hfe, sector_at, sector_reply}
@@ -24,15 +24,19 @@ use Rattle.sector_rules.specs.Rewritten.{has_field, result_right, rewrite_argume
 use Rattle.sector_rules.proofs.Laws.Base.Faults.{table_good, track_within}
 use Rattle.sector_rules.proofs.Laws.Rewrite.Base.{side_cells_at_lem, cells_length}
 use Rattle.sector_rules.proofs.Laws.Rewrite.Judged.{rewrite_sound, rewrite_field, rewrite_kept, named_sector}
+use Rattle.sectors.specs.declared.SectorField.{SectorField}
 use Rattle.sectors.specs.declared.SideBytes.{SideBytes}
-use Rattle.sectors.specs.Laws.Unpacking.Sides.{PlainImage, ImageSideGives, DataPlaces}
+use Rattle.sectors.specs.Laws.Unpacking.Sides.{PlainImage, no_field, ImageSideGives}
 use Rattle.sectors.specs.Laws.Rewriting.Changed.{stored_place, SideBytesFit, changed, with_equal}
 use Rattle.sectors.specs.Laws.Rewriting.NewCells.{Renewed}
-use Rattle.sectors.specs.Laws.Rewriting.Skipped.{unit_start, unit_end}
+use Rattle.sectors.specs.Laws.Rewriting.Skipped.{unit_end}
 
 -- the bytes of side s of track t that hold the cells from place p on that a rewrite may change, as far as the side goes
-abbrev pub window_of : List ℕ → ℕ → ℕ → ℕ → SideBytes
-window_of h t s p = record { start = track_start h t; side = s; first = p / 8; count = min (track_length h t / 2 - p / 8) changed_bytes }
+pub record WindowOf (w : SideBytes) (h : List ℕ) (t s p : ℕ) : Type 0 where
+  pub start : w.start ≡ track_start h t
+  pub side : w.side ≡ s
+  pub first : w.first ≡ p / 8
+  pub count : w.count ≡ min (track_length h t / 2 - p / 8) changed_bytes
 
 -- the reply and the image where the sector has a field
 pub record DataWritten (h : List ℕ) (t s r : ℕ) (d : List ℕ) (x : Reply) (after : List ℕ) : Type 0 where
@@ -55,83 +59,80 @@ module _ (h : List ℕ) (t s p : ℕ) where
     inside : (b : ℕ) → b < track_length h t / 2 → stored_place (track_start h t) s b < length h
     inside b l = let e = unit_end h t b l in omega (arith, e, track_within h t (table_good h plain.table t ht))
 
+    -- the first of them has a number of 16 bits
+    pub window_first : track_length h t < 2 ^ 16 → p / 8 < 2 ^ 16
+    window_first b = omega (arith, side_cells_length plain, within)
+
     -- they are bytes of the image
-    pub window_fits : track_start h t < 2 ^ 26 → track_length h t < 2 ^ 16 → SideBytesFit (window_of h t s p) (length h)
-    window_fits a b =
-        record {
-          start = a;
-          aligned = unit_start h t;
-          side = hs;
-          first = omega (arith, side_cells_length plain, within);
-          count = omega arith;
-          within = λ j l. inside (p / 8 + j) (omega (arith, l));
-        }
+    pub window_fits : (w : SideBytes) → WindowOf w h t s p → SideBytesFit w (length h)
+    window_fits w x = record { within = λ j l. rw (x.start, x.side, x.first) (inside (p / 8 + j) (omega (arith, l, x.count))) }
 
   -- the image with the new bytes is the rewritten image
-  pub window_new : (r : ℕ) (d xs : List ℕ) → p ≡ data_place (side_stream h t s) t s r
-      → Renewed (side_stream h t s) p (field_row d) (p / 8) (min (track_length h t / 2 - p / 8) changed_bytes) xs
-      → changed h (window_of h t s p) xs ≡ rewritten h t s r d
+  pub window_new : (w : SideBytes) → WindowOf w h t s p → (r : ℕ) (d xs : List ℕ) → p ≡ data_place (side_stream h t s) t s r
+      → Renewed (side_stream h t s) p (field_row d) w.first w.count xs → changed h w xs ≡ rewritten h t s r d
   unfolding changed rewritten
-  window_new r d xs e new =
-      with_equal h (track_start h t) s (p / 8) (p / 8 + n) n (λ (b : ℕ). get_or xs (b - p / 8) 0) (track_length h t / 2) changed_bytes
+  window_new w x r d xs e renewed =
+      let new = rw (x.first, x.count) at renewed in
+      rw (x.start, x.side, x.first, x.count)
+      (with_equal h (track_start h t) s (p / 8) (p / 8 + n) n (λ (b : ℕ). get_or xs (b - p / 8) 0) (track_length h t / 2) changed_bytes
       (packed (cell_after (side_stream h t s) p (field_row d)))
       (λ x l m f.
       let z : p / 8 + (x - p / 8) ≡ x = omega arith in
       (omega arith, omega arith, new.each (x - p / 8) (omega arith) ∙ ap (packed (cell_after (side_stream h t s) p (field_row d))) z))
       (λ x l m f. (omega arith, omega arith))
       ∙ ap (λ (k : ℕ). with_side_bytes h (track_start h t) (track_length h t / 2) s (k / 8) changed_bytes (packed (cell_after (side_stream h t s) k
-      (field_row d)))) e
+      (field_row d)))) e)
     where
       n : ℕ
       n = min (track_length h t / 2 - p / 8) changed_bytes
 
--- the bytes by the numbers that the code has
-pub window_is : (h : List ℕ) (t s p start count : ℕ) → start ≡ track_start h t → count ≡ min (track_length h t / 2 - p / 8) changed_bytes
-    → record { start = start; side = s; first = p / 8; count = count } ≡ window_of h t s p
-window_is h t s p start count e f = rw (e, f)
-
 -- the cell place of such bytes is that of a side
-pub window_place : (h : List ℕ) (t s p size : ℕ) (w : SideBytes) → w ≡ window_of h t s p → SideBytesFit w size → p < 2 ^ 34
-window_place h t s p size w e x = let f : p / 8 < 2 ^ 16 = rw e at x.first in omega arith
-
--- the image with the new bytes, by the bytes that the code has
-pub window_new_by : (h : List ℕ) (t s p r : ℕ) (d xs : List ℕ) (w : SideBytes) → w ≡ window_of h t s p → p ≡ data_place (side_stream h t s) t s r
-    → Renewed (side_stream h t s) p (field_row d) w.first w.count xs → changed h w xs ≡ rewritten h t s r d
-window_new_by h t s p r d xs w e f new =
-    ap (λ (v : SideBytes). changed h v xs) e ∙ window_new h t s p r d xs f (rw e at new)
+pub window_place : (h : List ℕ) (t s p : ℕ) (w : SideBytes) → WindowOf w h t s p → p < 2 ^ 34
+window_place h t s p w x = omega (arith, x.first, w.within)
 
 -- ---- what the code reads of the sector
 
 module _ (h : List ℕ) (t s r n : ℕ) (ht : t < tracks) (hs : s < sides) (hl : 1 ≤ r) (hr : r ≤ sectors) (is : n ≡ sides * t + s) where
-  -- what the sector gives, by the answers for its side
-  pub field_sector : (gives : List Sector) → ImageSideGives gives h n → get_or gives (r - 1) Missing ≡ sector_of (side_stream h t s) t s r
-  field_sector gives x =
+  -- what the sector gives, and the cell place of its data, by the fields of its side
+  pub side_field_is : (fields : List SectorField) → ImageSideGives fields h n
+      → ((get_or fields (r - 1) no_field).sector ≡ sector_of (side_stream h t s) t s r)
+      × ((get_or fields (r - 1) no_field).place ≡ data_place (side_stream h t s) t s r)
+  side_field_is fields x =
       let e : sectors * n + (r - 1) ≡ image_sector_of t s r = omega arith in
-      x.each (r - 1) (omega arith) ∙ ap (sector_at h) e ∙ named_sector t s r ht hs hl hr h
-
-  -- the cell place of its data, by those for its side
-  pub field_place_is : (places : List ℕ) → DataPlaces places (side_stream h (n / sides) (n % sides)) (n / sides) (n % sides)
-      → get_or places (r - 1) 0 ≡ data_place (side_stream h t s) t s r
-  field_place_is places x =
       let a : n / sides ≡ t = omega arith in
       let b : n % sides ≡ s = omega arith in
-      let e : r - 1 + 1 ≡ r = omega arith in
-      x.each (r - 1) (omega arith) ∙ rw (a, b, e)
+      let q : r - 1 + 1 ≡ r = omega arith in
+      (x.each (r - 1) (omega arith) ∙ ap (sector_at h) e ∙ named_sector t s r ht hs hl hr h, x.places (r - 1) (omega arith) ∙ rw (a, b, q))
 
 -- the new bytes of a side, by its cells and the row that the code has
 pub renewed_side : (h : List ℕ) (t s : ℕ) (c : List ℕ) → c ≡ side_stream h t s → (d row : List ℕ) → row ≡ field_row d → (p b n : ℕ) (xs : List ℕ)
     → Renewed c p row b n xs → Renewed (side_stream h t s) p (field_row d) b n xs
 renewed_side h t s c is d row e p b n xs x = rw (is, e) at x
 
+-- ---- the arguments
+
+module _ (t s r : ℕ) (d : List ℕ) where
+  -- they are wrong where track, side and R name no sector
+  pub arguments_unplaced : (ltb t tracks && ltb s sides && leb 1 r && leb r sectors) ≡ false → rewrite_arguments t s r d ≡ false
+  arguments_unplaced e = and_false_left (eqb (length d) sector_bytes) e
+
+  -- and where the data are not those of a sector
+  pub arguments_unlike : (length d ≡ sector_bytes → ⊥) → rewrite_arguments t s r d ≡ false
+  arguments_unlike n = and_false_right (ltb t tracks && ltb s sides && leb 1 r && leb r sectors) (ne_eqb (length d) sector_bytes n)
+
+  -- else they are right
+  pub arguments_placed : (ltb t tracks && ltb s sides && leb 1 r && leb r sectors) ≡ true → length d ≡ sector_bytes → rewrite_arguments t s r d ≡ true
+  arguments_placed e l = and_true e (eq-eqb (length d) sector_bytes l)
+
 -- ---- the reply and the image
 
 -- a sector without a field gets a refusal
 no_field_number : (m : ℕ) (z : Sector) → has_field z ≡ false → eqb (sector_reply m z).number 0 ≡ false
-no_field_number m (Delivered p) e = true≢false true refl e
-no_field_number m Damaged e = true≢false true refl e
-no_field_number m Missing e = refl
-no_field_number m Repeated e = refl
-no_field_number m NoField e = refl
+no_field_number m (Ok p) e = true≢false true refl e
+no_field_number m (Err Damaged) e = true≢false true refl e
+no_field_number m (Err Missing) e = refl
+no_field_number m (Err Repeated) e = refl
+no_field_number m (Err NoField) e = refl
 
 module _ (h : List ℕ) (t s r : ℕ) (d : List ℕ) where
   -- a result that does not read as it must: 17, and the image is as it was
@@ -177,7 +178,7 @@ module _ (h : List ℕ) (t s r : ℕ) (d : List ℕ) where
   call_kept x e n = sym (rewrite_kept h t s r d (λ z. n (ap (λ (y : Reply). y.number) (sym e) ∙ z)))
 
   -- where arguments, header and table are right, the call answers for the sector
-  pub call_answered : least_hfe ≤ length h → rewrite_arguments t s r d ≡ true → version1_fault h ≡ Sound → table_fault h ≡ Sound
+  pub call_answered : least_hfe ≤ length h → rewrite_arguments t s r d ≡ true → version1_fault h ≡ None → table_fault h ≡ None
       → (x : Reply) (after : List ℕ) → Answered h t s r d x after → (x ≡ rewrite_reply h t s r d) × (after ≡ rewrite_hfe h t s r d)
   unfolding rewrite_hfe
   call_answered l a f g x after w =

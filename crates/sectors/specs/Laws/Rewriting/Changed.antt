@@ -2,15 +2,14 @@
 -- Rests on the laws of an image with other side bytes (Rewrite.Base of sector_rules).
 use Rattle.std.proofs.Math.Bool.{false}
 use mathlib.Core.List.{List}
-use Rattle.std.specs.Prelude.{◌≢◌, ◌≡◌, ℕ, ◌+◌, ◌-◌, ◌*◌, ◌/◌, ◌%◌, ◌^◌, ◌≤◌, ◌<◌, set}
+use Rattle.std.specs.Prelude.{◌≢◌, ◌≡◌, ℕ, ◌+◌, ◌-◌, ◌*◌, ◌/◌, ◌%◌, ◌≤◌, ◌<◌, set}
 use Rattle.std.proofs.Math.Path.{sym, ap}
 use Rattle.std.proofs.Common.{◌∙◌, arith}
 use Rattle.std.proofs.Math.ListN.{length, get_or, length-set}
 use Rattle.std.proofs.Math.Seq.{ext_get_or, get_or-set_same, get_or-set_other}
 use Rattle.laws.specs.Laws.Cases.{by_test, by_equal}
 use Rattle.laws.specs.Laws.Tests.{true≢false}
-use Rattle.sector_rules.specs.Geometry.{sides}
-use Rattle.sector_rules.specs.Rewritten.{changed_bytes, side_byte_of, is_side_byte, with_side_bytes}
+use Rattle.sector_rules.specs.Rewritten.{side_byte_of, is_side_byte, with_side_bytes}
 use Rattle.sector_rules.proofs.Laws.Rewrite.Base.{in_side_is, in_side_parts, with_length, with_in, with_out, with_byte}
 use Rattle.sectors.specs.declared.SideBytes.{SideBytes}
 
@@ -18,13 +17,8 @@ use Rattle.sectors.specs.declared.SideBytes.{SideBytes}
 abbrev pub stored_place : ℕ → ℕ → ℕ → ℕ
 stored_place start s b = start + 256 * s + 512 * (b / 256) + b % 256
 
--- the bytes are bytes of an image of so many bytes, and no more than a rewrite changes
+-- the bytes are bytes of an image of so many bytes
 pub record SideBytesFit (w : SideBytes) (size : ℕ) : Type 0 where
-  pub start : w.start < 2 ^ 26
-  pub aligned : w.start % 512 ≡ 0
-  pub side : w.side < sides
-  pub first : w.first < 2 ^ 16
-  pub count : w.count ≤ changed_bytes
   pub within : (j : ℕ) → j < w.count → stored_place w.start w.side (w.first + j) < size
 
 -- the image with the bytes xs in these places

@@ -1,21 +1,24 @@
 -- What a rewrite asks of one sector of the result, by what the sector gave before and gives now.
 -- Rests on the laws of what a sector gives (Base.Unpacked of sector_rules) and of lists.
-use Rattle.std.specs.Prelude.{Bool, true, false, ◌&&◌, ◌≢◌, ◌≡◌, ℕ, ◌*◌, ◌<◌, length, get_or}
-use mathlib.Core.List.{List, []}
+use Rattle.std.specs.Prelude.{Ok, Err, Bool, true, false, ◌&&◌, ◌≢◌, ◌≡◌, ℕ, suc, ◌+◌, ◌<◌, length, get_or}
+use mathlib.Core.List.{List, [], ◌∷◌}
+use lib.Pointwise.{pointwise}
 use Rattle.std.proofs.Math.Path.{refl, sym, ap}
-use Rattle.std.proofs.Common.{◌∙◌}
+use Rattle.std.proofs.Common.{◌∙◌, arith}
+use Rattle.std.proofs.Math.Bool.{cond}
 use Rattle.std.proofs.Math.Dec.{eqb}
 use Rattle.std.proofs.lemmas.Bool.{eqb-false}
 use Rattle.laws.specs.Changes.{overlay}
 use Rattle.laws.specs.Lists.{tab, same}
 use Rattle.laws.specs.Laws.Cases.{by_test}
-use Rattle.laws.specs.Laws.Same.{same_eq, eq_same, ne_same}
+use Rattle.laws.specs.Laws.Same.{same_eq, eq_same}
 use Rattle.laws.specs.Laws.Tests.{true≢false, and_true, and_false_left, eq_true, eq_false, cond_true, cond_false}
-use Rattle.laws.specs.Laws.Tab.{tab_in, eq_tab}
 use Rattle.laws.specs.Laws.Overlay.{overlay_all}
-use Rattle.cells.specs.Stream.{from, data_byte}
-use Rattle.sector_rules.specs.declared.Sector.{Sector}
-use Rattle.sector_rules.specs.declared.Sector.TheVariants.{Delivered, Missing, Repeated, NoField, Damaged}
+use Rattle.sector_rules.specs.Search.{Sector}
+use Rattle.sectors.specs.declared.SectorField.{SectorField}
+use Rattle.sectors.specs.Laws.Unpacking.Sides.{no_field}
+use Rattle.sector_rules.specs.declared.SectorFault.{SectorFault}
+use Rattle.sector_rules.specs.declared.SectorFault.TheVariants.{Missing, Repeated, NoField, Damaged}
 use Rattle.sector_rules.specs.Geometry.{sector_bytes}
 use Rattle.sector_rules.specs.Hfe.{side_stream}
 use Rattle.sector_rules.specs.Search.{sector_byte, delivered_bytes}
@@ -28,9 +31,17 @@ use Rattle.sector_rules.specs.Unpacked.{place_of}
 abbrev pub bytes_at : List ℕ → ℕ → ℕ → List ℕ
 bytes_at h q p = tab (sector_byte (side_stream h (track_of q) (side_of q)) p) sector_bytes
 
+-- lists of bytes are equal in code if they are the same by the test
+pub equal_same : (xs ys : List ℕ) → pointwise eqb xs ys ≡ same xs ys
+unfolding same
+equal_same [] [] = refl
+equal_same [] (y ∷ ys) = refl
+equal_same (x ∷ xs) [] = refl
+equal_same (x ∷ xs) (y ∷ ys) = ap (λ (b : Bool). eqb x y && b) (equal_same xs ys)
+
 -- ---- one answer
 
-number_good : (q : ℕ) (x : Sector) → (sector_reply q x).number ≡ 0 → x ≡ Delivered (place_of x)
+number_good : (q : ℕ) (x : Sector) → (sector_reply q x).number ≡ 0 → x ≡ Ok (place_of x)
 number_good q x e = by_test (is_bad x) (λ b. absurd (eqb-false (sector_reply q x).number 0 (bad_number_lem q x b) e)) (good_is x)
 
 module _ (h : List ℕ) (q : ℕ) (x : Sector) (is : x ≡ sector_at h q) where
@@ -45,16 +56,37 @@ module _ (h : List ℕ) (q : ℕ) (x : Sector) (is : x ≡ sector_at h q) where
   bad_bytes n = ap (delivered_bytes (side_stream h (track_of q) (side_of q))) (sym is) ∙ none x n
     where
       none : (y : Sector) → (sector_reply q y).number ≢ 0 → delivered_bytes (side_stream h (track_of q) (side_of q)) y ≡ []
-      none (Delivered p) e = absurd (e refl)
-      none Missing e = refl
-      none Repeated e = refl
-      none NoField e = refl
-      none Damaged e = refl
+      none (Ok p) e = absurd (e refl)
+      none (Err Missing) e = refl
+      none (Err Repeated) e = refl
+      none (Err NoField) e = refl
+      none (Err Damaged) e = refl
 
 same_sym : (xs ys : List ℕ) → same xs ys ≡ same ys xs
 same_sym xs ys =
     by_test (same ys xs) (λ t. eq_same xs ys (sym (same_eq ys xs t)) ∙ sym t)
     (λ t. by_test (same xs ys) (λ u. true≢false (same ys xs) (eq_same ys xs (sym (same_eq xs ys u))) t) (λ u. u ∙ sym t))
+
+-- a sector without bytes has another number than 0
+pub fault_number : (q : ℕ) (f : SectorFault) → (sector_reply q (Err f)).number ≢ 0
+fault_number q Missing e = omega arith
+fault_number q Repeated e = omega arith
+fault_number q NoField e = omega arith
+fault_number q Damaged e = omega arith
+
+fault_at : ℕ → SectorFault
+fault_at n = cond (eqb n 4) Missing (cond (eqb n 5) Repeated (cond (eqb n 6) NoField Damaged))
+
+fault_back : (q : ℕ) (f : SectorFault) → fault_at (sector_reply q (Err f)).number ≡ f
+unfolding fault_at
+fault_back q Missing = refl
+fault_back q Repeated = refl
+fault_back q NoField = refl
+fault_back q Damaged = refl
+
+-- two faults of one number are one
+pub fault_same : (q : ℕ) (f k : SectorFault) → (sector_reply q (Err f)).number ≡ (sector_reply q (Err k)).number → f ≡ k
+fault_same q f k e = sym (fault_back q f) ∙ ap fault_at e ∙ fault_back q k
 
 -- ---- the sector as it must be
 
@@ -120,34 +152,25 @@ module _ (h g : List ℕ) (m : ℕ) (d : List ℕ) (q : ℕ) where
             ∙ ap (same (sector_bytes_at h q)) (sym (good_bytes g q y now z))
             ∙ sym (other_is ∙ ap (λ (b : Bool). b && same (sector_bytes_at h q) (sector_bytes_at g q)) (eq_true equal))
 
--- the sector that got the data, by either of its names
-pub own_named : (h g : List ℕ) (m : ℕ) (d : List ℕ) (q : ℕ) → q ≡ m → (r : Bool) → r ≡ sector_right h g q d q → r ≡ sector_right h g m d q
-own_named h g m d q e r is = is ∙ ap (λ (k : ℕ). sector_right h g k d q) e
+-- ---- the sectors of a side, one after the other
+
+-- the list is what the sectors from q on give
+abbrev pub GiveFrom : (ℕ → Sector) → ℕ → List SectorField → Type 0
+GiveFrom f q [] = Unit {0}
+GiveFrom f q (x ∷ xs) = (x.sector ≡ f q) × GiveFrom f (q + 1) xs
+
+-- as is a list that has at each place what the sector there gives
+pub give_from : (f : ℕ → Sector) (xs : List SectorField) (q : ℕ) → ((i : ℕ) → i < length xs → (get_or xs i no_field).sector ≡ f (q + i)) → GiveFrom f q xs
+give_from f [] q each = tt
+give_from f (x ∷ xs) q each = (
+  (let z : q + 0 ≡ q = omega arith in rw z at (each 0 (omega arith))),
+  give_from f xs (q + 1) (λ i l. let z : q + suc i ≡ q + 1 + i = omega arith in rw z at (each (suc i) (omega arith))),
+)
 
 -- ---- the bytes of a sector, by the cells of its side
 
 module _ (h : List ℕ) (q p : ℕ) (c : List ℕ) (is : c ≡ side_stream h (track_of q) (side_of q)) where
-  -- a byte as the code reads it is a byte of the sector
-  pub byte_read : (k v : ℕ) → k < sector_bytes → v ≡ data_byte (from c p) (16 * k) → v ≡ get_or (bytes_at h q p) k 0
-  unfolding sector_byte
-  byte_read k v l e =
-      e ∙ ap (λ (x : List ℕ). data_byte (from x p) (16 * k)) is
-      ∙ sym (tab_in (sector_byte (side_stream h (track_of q) (side_of q)) p) sector_bytes k l)
-
   -- 512 bytes that the code writes over a list of 512 are those of the sector
   pub bytes_read : (d out : List ℕ) → length d ≡ sector_bytes → out ≡ overlay d 0 sector_bytes (sector_byte c p) → out ≡ bytes_at h q p
   bytes_read d out l e =
       e ∙ overlay_all d sector_bytes (sector_byte c p) l ∙ ap (λ (x : List ℕ). tab (sector_byte x p) sector_bytes) is
-
-module _ (h : List ℕ) (q p : ℕ) (bytes : List ℕ) where
-  -- where one byte differs, the bytes are not the same
-  pub reads_differ : (k : ℕ) → get_or (bytes_at h q p) k 0 ≢ get_or bytes k 0 → same (bytes_at h q p) bytes ≡ false
-  reads_differ k n = ne_same (bytes_at h q p) bytes (λ e. n (ap (λ (xs : List ℕ). get_or xs k 0) e))
-
-  -- where each byte is the same, the bytes are
-  pub reads_same : length bytes ≡ sector_bytes → ((k : ℕ) → k < sector_bytes → get_or (bytes_at h q p) k 0 ≡ get_or bytes k 0)
-      → same (bytes_at h q p) bytes ≡ true
-  reads_same l e =
-      eq_same (bytes_at h q p) bytes
-      (sym (eq_tab bytes (sector_byte (side_stream h (track_of q) (side_of q)) p) sector_bytes l
-      (λ k b. sym (e k b) ∙ tab_in (sector_byte (side_stream h (track_of q) (side_of q)) p) sector_bytes k b)))

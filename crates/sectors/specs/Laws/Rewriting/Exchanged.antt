@@ -1,62 +1,73 @@
 -- What holds while bytes of an image are exchanged for a look at the result: the way back, and both tables right.
 -- Rests on the laws of exchanged bytes (Changed) and of faults.
-use Rattle.std.specs.Prelude.{Bool, ◌&&◌, List, ◌≡◌, ℕ, ◌+◌, ◌-◌, ◌*◌, ◌<◌, length}
+use Rattle.std.specs.Prelude.{Some, None, Bool, ◌&&◌, List, ◌≡◌, ℕ, ◌+◌, ◌-◌, ◌*◌, ◌<◌, length}
 use Rattle.std.proofs.Math.Bool.{true, false, not}
 use Rattle.std.proofs.Math.Path.{refl, ap}
 use Rattle.std.proofs.Common.{sym, ◌∙◌, arith}
 use Rattle.laws.specs.Below.{all}
+use Rattle.std.specs.Option.{is_some as found}
 use Rattle.laws.specs.Options.{is_some, or_else}
 use Rattle.laws.specs.Laws.All.{all_at, all_is}
 use Rattle.laws.specs.Laws.Cases.{by_test, by_order}
 use Rattle.laws.specs.Laws.Tests.{true≢false, and_false_left}
-use Rattle.sector_rules.specs.declared.Fault.{Fault}
-use Rattle.sector_rules.specs.declared.Fault.TheVariants.{At, Sound}
+use Rattle.sector_rules.specs.Faults.{Fault}
 use Rattle.sector_rules.specs.Faults.{refusal_at}
 use Rattle.sector_rules.specs.Geometry.{tracks, sides, sectors, all_sectors}
 use Rattle.sector_rules.specs.Hfe.{version1_fault, table_fault}
 use Rattle.sector_rules.specs.Rewritten.{hfe_refusal, sector_right, result_right}
 use Rattle.sector_rules.proofs.Laws.Base.Versions.{version1_plain}
-use Rattle.sectors.specs.declared.SideBytes.{SideBytes}
+use Rattle.sectors.specs.declared.Exchange.{Exchange}
+use Rattle.sectors.specs.declared.Trial.{Trial}
 use Rattle.sectors.specs.Laws.Unpacking.Sides.{PlainImage}
-use Rattle.sectors.specs.Laws.Rewriting.Changed.{SideBytesFit, Taken, changed, changed_size, changed_back}
+use Rattle.sectors.specs.Laws.Rewriting.Changed.{SideBytesFit, Taken, changed, changed_back}
+
+-- the image with the new bytes
+abbrev pub exchanged : List ℕ → Exchange → List ℕ
+exchanged h x = changed h x.bytes x.new
 
 -- an image whose sides are read as they are stored, and the bytes of it that are exchanged
-pub record Exchange (h : List ℕ) (w : SideBytes) (old : List ℕ) : Type 0 where
-  pub fits : SideBytesFit w (length h)
-  pub taken : Taken h w old
+pub record Exchangeable (h : List ℕ) (x : Exchange) : Type 0 where
+  pub fits : SideBytesFit x.bytes (length h)
+  pub taken : Taken h x.bytes x.old
   pub plain : PlainImage h
 
--- the same, with new bytes for them, with which the sides are read so too
-pub record Exchanges (h : List ℕ) (w : SideBytes) (old new : List ℕ) : Type 0 where
-  pub exchange : Exchange h w old
-  pub after : PlainImage (changed h w new)
+-- the same, where the sides are read so with the new bytes too
+pub record Exchanges (h : List ℕ) (x : Exchange) : Type 0 where
+  pub exchange : Exchangeable h x
+  pub after : PlainImage (exchanged h x)
 
-module _ (h : List ℕ) (w : SideBytes) (old : List ℕ) (x : Exchange h w old) (new : List ℕ) where
-  -- the bytes lie within the image with the new ones too
-  pub fits_after : SideBytesFit w (length (changed h w new))
-  fits_after = rw (changed_size h w new) x.fits
+-- whether image sector q is as a trial asks
+abbrev pub tried : List ℕ → Trial → ℕ → Bool
+tried h t q = sector_right h (exchanged h t.exchange) t.sector t.content.now q
 
+module _ (h : List ℕ) (x : Exchange) (e : Exchangeable h x) where
   -- with the old bytes the image is what it was
-  pub goes_back : (g : List ℕ) → g ≡ changed h w new → changed g w old ≡ h
-  goes_back g e = rw e (changed_back h w old new x.taken)
+  pub goes_back : (g : List ℕ) → g ≡ exchanged h x → changed g x.bytes x.old ≡ h
+  goes_back g is = rw is (changed_back h x.bytes x.old x.new e.taken)
 
 -- ---- header and table
 
--- whether a judgement found no fault
-abbrev pub is_sound : Fault → Bool
-is_sound (At o) = false
-is_sound Sound = true
-
 module _ (g : List ℕ) where
-  -- header and table are right exactly where neither 2 nor 3 is given
-  pub sound_both : (is_sound (version1_fault g) && is_sound (table_fault g)) ≡ not (is_some (hfe_refusal g))
+  -- with a wrong header 2 is given
+  pub header_wrong : found (version1_fault g) ≡ true → not (is_some (hfe_refusal g)) ≡ false
   unfolding is_some or_else
-  sound_both = both (version1_fault g) (table_fault g)
+  header_wrong e = given (version1_fault g) (table_fault g) e
     where
-      both : (a b : Fault) → (is_sound a && is_sound b) ≡ not (is_some (or_else (refusal_at 2 a) (refusal_at 3 b)))
-      both (At o) b = refl
-      both Sound (At o) = refl
-      both Sound Sound = refl
+      given : (a b : Fault) → found a ≡ true → not (is_some (or_else (refusal_at 2 a) (refusal_at 3 b))) ≡ false
+      given (Some o) b z = refl
+      given None b z = true≢false false z refl
+
+  -- with a right one the table decides
+  pub table_decides : found (version1_fault g) ≡ false → (r : Bool) → found (table_fault g) ≡ not r → r ≡ not (is_some (hfe_refusal g))
+  unfolding is_some or_else
+  table_decides e r q = given (version1_fault g) (table_fault g) e r q
+    where
+      given : (a b : Fault) → found a ≡ false → (r : Bool) → found b ≡ not r → r ≡ not (is_some (or_else (refusal_at 2 a) (refusal_at 3 b)))
+      given (Some o) b z r y = true≢false true refl z
+      given None (Some o) z true y = y
+      given None (Some o) z false y = refl
+      given None None z true y = refl
+      given None None z false y = y
 
   -- where neither is given the sides are read as they are stored
   pub sound_plain : not (is_some (hfe_refusal g)) ≡ true → PlainImage g
@@ -67,14 +78,14 @@ module _ (g : List ℕ) where
         version = version1_plain g (first (version1_fault g) (table_fault g) e);
       }
     where
-      first : (a b : Fault) → not (is_some (or_else (refusal_at 2 a) (refusal_at 3 b))) ≡ true → a ≡ Sound
-      first (At o) b z = true≢false false z refl
-      first Sound b z = refl
+      first : (a b : Fault) → not (is_some (or_else (refusal_at 2 a) (refusal_at 3 b))) ≡ true → a ≡ None
+      first (Some o) b z = true≢false false z refl
+      first None b z = refl
 
-      second : (a b : Fault) → not (is_some (or_else (refusal_at 2 a) (refusal_at 3 b))) ≡ true → b ≡ Sound
-      second (At o) b z = true≢false false z refl
-      second Sound (At o) z = true≢false false z refl
-      second Sound Sound z = refl
+      second : (a b : Fault) → not (is_some (or_else (refusal_at 2 a) (refusal_at 3 b))) ≡ true → b ≡ None
+      second (Some o) b z = true≢false false z refl
+      second None (Some o) z = true≢false false z refl
+      second None None z = refl
 
 -- ---- all sectors, side by side
 

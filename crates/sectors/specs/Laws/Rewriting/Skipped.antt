@@ -1,26 +1,25 @@
 -- A side that need not be read again: none of its bytes is exchanged, and its table entry says what it said.
 -- Rests on side_untouched and the laws of an image with other side bytes (Rewrite of sector_rules).
-use Rattle.std.specs.Prelude.{Bool, not, ◌&&◌, ◌||◌, List, ◌⊎◌, ◌≢◌, ◌≡◌, ℕ, ◌+◌, ◌-◌, ◌*◌, ◌/◌, ◌%◌, ◌≤◌, ◌<◌, ltb, eqb, length}
+use Rattle.std.specs.Prelude.{List, ◌⊎◌, ◌≢◌, ◌≡◌, ℕ, ◌+◌, ◌-◌, ◌*◌, ◌/◌, ◌%◌, ◌≤◌, ◌<◌, ltb}
 use Rattle.std.proofs.Math.Bool.{true, false}
-use Rattle.std.proofs.Common.{inl, inr, ⊎_elim, sym, ap, ◌∙◌, le-leb}
+use Rattle.std.proofs.Common.{⊎_elim, sym, ◌∙◌}
 use Rattle.std.proofs.Math.Path.{refl}
 use native.Mathlib.Omega.{arith}
-use Rattle.std.proofs.Math.Dec.{leb}
 use Rattle.std.proofs.Math.ListN.{get_or}
 use Rattle.std.proofs.lemmas.Bool.{lt-leb}
 use Rattle.laws.specs.Below.{all}
 use Rattle.laws.specs.Numbers.{quotient_up, low_first}
 use Rattle.laws.specs.Laws.All.{all_is}
-use Rattle.laws.specs.Laws.Cases.{by_test, by_equal}
-use Rattle.laws.specs.Laws.Tests.{true_le, false_eq, not_was, and_left, and_right, or_none, or_other}
+use Rattle.laws.specs.Laws.Cases.{by_test}
+use Rattle.laws.specs.Laws.Tests.{true≢false, true_lt, lt_true}
 use Rattle.sector_rules.specs.Geometry.{sides, sectors}
 use Rattle.sector_rules.specs.Hfe.{is_version3, entry_place, track_start, track_length, track_unit_bytes, side_stream}
 use Rattle.sector_rules.specs.Unpacked.{track_of, side_of, sector_at, sector_bytes_at}
 use Rattle.sector_rules.specs.Rewritten.{side_byte_of, is_side_byte, sector_right}
-use Rattle.sector_rules.proofs.Laws.Rewrite.Base.{in_side_parts, with_out}
+use Rattle.sector_rules.proofs.Laws.Rewrite.Base.{in_side_is, in_side_parts, with_out}
 use Rattle.sector_rules.proofs.Laws.Rewrite.Untouched.{side_untouched}
 use Rattle.sectors.specs.declared.SideBytes.{SideBytes}
-use Rattle.sectors.specs.Laws.Rewriting.Changed.{stored_place, SideBytesFit, changed}
+use Rattle.sectors.specs.Laws.Rewriting.Changed.{stored_place, changed}
 use Rattle.sectors.specs.Laws.Rewriting.Compared.{right_same}
 
 -- n bytes of the image from at on are not exchanged
@@ -45,42 +44,30 @@ module _ (start s b n k : ℕ) where
   unfolding is_side_byte
   among_before l = rw (lt-leb start k l)
 
-  -- the tests that are left for a byte at or after the track's beginning
-  pub among_is : start ≤ k
-      → (eqb ((k - start) % 512 / 256) s && leb b (side_byte_of (k - start)) && ltb (side_byte_of (k - start)) (b + n)) ≡ is_side_byte start (b + n) s b n k
-  unfolding is_side_byte
-  among_is l =
-      rw (le-leb start k l)
-      (twice (eqb ((k - start) % 512 / 256) s && leb b (side_byte_of (k - start))) (ltb (side_byte_of (k - start)) (b + n)))
-    where
-      twice : (x y : Bool) → (x && y) ≡ (x && y && y)
-      twice true true = refl
-      twice true false = refl
-      twice false y = refl
+  -- a byte of the other side is not
+  pub among_other : ((k - start) % 512 / 256 ≢ s) → is_side_byte start (b + n) s b n k ≡ false
+  among_other e =
+      by_test (is_side_byte start (b + n) s b n k) (λ t. absurd (e (in_side_parts start (b + n) s b n k t).1)) (λ t. t)
 
-module _ (w : SideBytes) where
-  -- of no byte none is exchanged
-  pub kept_none : (at : ℕ) → Kept w at 0
-  kept_none at = record { each = λ j l. absurd (omega arith) }
+  -- a byte before the first of them is not
+  pub among_low : side_byte_of (k - start) < b → is_side_byte start (b + n) s b n k ≡ false
+  among_low l =
+      by_test (is_side_byte start (b + n) s b n k)
+      (λ t.
+      let p = in_side_parts start (b + n) s b n k t in
+      let q : b ≤ side_byte_of (k - start) = p.2 in absurd (omega arith))
+      (λ t. t)
 
-  -- one byte more that is not exchanged
-  pub kept_more : (at j : ℕ) → Kept w at j → is_side_byte w.start (w.first + w.count) w.side w.first w.count (at + j) ≡ false → Kept w at (j + 1)
-  kept_more at j x e = record { each = λ i l. by_equal i j (λ q. rw q e) (λ q. x.each i (omega arith)) }
-
-  -- the three tests, of which one holds
-  pub units_told : (s start end : ℕ)
-      → (not (eqb s w.side) || leb end (w.start + 512 * (w.first / 256)) || leb (w.start + 512 * ((w.first + w.count) / 256 + 1)) start) ≡ true
-      → UnitsApart w s start end
-  units_told s start end e =
-      by_test (eqb s w.side)
-      (λ q. by_test (leb end (w.start + 512 * (w.first / 256)))
-      (λ l. record { way = inr (inl (true_le l)) })
-      (λ l. record { way = inr (inr (true_le (or_other _ _ e (or_none _ _ (ap not q) l)))) }))
-      (λ q. record { way = inl (false_eq q) })
-
--- the two tests by which a side is not read again
-pub skip_told : (n k : ℕ) (u : Bool) → (not (eqb n k) && u) ≡ true → (n ≢ k) × (u ≡ true)
-skip_told n k u e = (false_eq (not_was (eqb n k) (and_left (not (eqb n k)) u e)), and_right (not (eqb n k)) u e)
+  -- from it on a byte of the side is before the last one's end
+  pub among_high : start ≤ k → (k - start) % 512 / 256 ≡ s → b ≤ side_byte_of (k - start) →
+      ltb (side_byte_of (k - start)) (b + n) ≡ is_side_byte start (b + n) s b n k
+  among_high l e m =
+      by_test (ltb (side_byte_of (k - start)) (b + n))
+      (λ t. let h = true_lt t in t ∙ sym (in_side_is start (b + n) s b n k l e m h h))
+      (λ t.
+      by_test (is_side_byte start (b + n) s b n k)
+      (λ u. let p = in_side_parts start (b + n) s b n k u in true≢false (ltb (side_byte_of (k - start)) (b + n)) (lt_true p.3) t)
+      (λ u. t ∙ sym u))
 
 -- ---- the table
 
@@ -159,13 +146,13 @@ module _ (h : List ℕ) (w : SideBytes) (t s : ℕ) (hs : s < 2) (aligned : w.st
 
 -- ---- the side
 
-module _ (h : List ℕ) (w : SideBytes) (new : List ℕ) (n : ℕ) (fits : SideBytesFit w (length h)) (version : is_version3 (changed h w new) ≡ is_version3 h)
+module _ (h : List ℕ) (w : SideBytes) (new : List ℕ) (n : ℕ) (version : is_version3 (changed h w new) ≡ is_version3 h)
     (x : Untouched h w n) where
   same_side : side_stream (changed h w new) (n / sides) (n % sides) ≡ side_stream h (n / sides) (n % sides)
   same_side =
       side_untouched h (changed h w new) (n / sides) (n % sides) (omega arith) version (same_start h w new (n / sides) x.table x.entry)
       (same_long h w new (n / sides) x.table x.entry)
-      (λ b l. kept_byte h w new _ (not_among h w (n / sides) (n % sides) (omega arith) fits.aligned x.apart b l))
+      (λ b l. kept_byte h w new _ (not_among h w (n / sides) (n % sides) (omega arith) w.aligned x.apart b l))
 
   sector_same : (k : ℕ) → k < sectors → sector_at (changed h w new) (sectors * n + k) ≡ sector_at h (sectors * n + k)
   unfolding sector_at

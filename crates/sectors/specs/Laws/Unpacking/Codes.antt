@@ -1,6 +1,6 @@
 -- Version 3: the reply for the codes of a side and of all sides, and the cells of a side in the buffer.
 -- Rests on the laws of the two versions (Base.Versions of sector_rules) and of the first value that is there.
-use Rattle.std.specs.Prelude.{true, false, cond, List, [], ◌≡◌, ℕ, ◌+◌, ◌*◌, ◌/◌, ◌%◌, ◌^◌, ◌<◌, ltb}
+use Rattle.std.specs.Prelude.{Option as Answer, Some, None, true, false, cond, List, [], ◌≡◌, ℕ, ◌+◌, ◌*◌, ◌/◌, ◌%◌, ◌^◌, ◌<◌, ltb}
 use Rattle.std.proofs.Math.Option.{Option, none, some}
 use Rattle.std.proofs.Math.Path.{refl}
 use Rattle.std.proofs.Common.{sym, ap, ◌∙◌, arith}
@@ -10,8 +10,6 @@ use Rattle.laws.specs.Laws.Options.{first_some_next}
 use Rattle.cells.specs.Stream.{hfe_side}
 use Rattle.cells.specs.Codes.{stored_bytes, Decoded, Cells, WrongCode, coded, cells_of, wrong_of}
 use Rattle.cells.specs.declared.Side.{Side}
-use Rattle.cells.specs.declared.Expected.{Expected}
-use Rattle.cells.specs.declared.Expected.TheVariants.{Any, Rate, Count, Partial, Wrong}
 use Rattle.sector_rules.specs.declared.Reply.{Reply}
 use Rattle.sector_rules.specs.Replies.{reply_with, done}
 use Rattle.sector_rules.specs.Geometry.{tracks, sides}
@@ -34,12 +32,9 @@ abbrev pub first_code_reply : List ℕ → Reply
 first_code_reply h = refusal_reply (first_code_refusal h)
 
 -- the reply for the n-th side by what the code finds on it
-abbrev side_answer : ℕ → Expected → Reply
-side_answer n (Wrong p) = reply_with 18 (n / sides) (n % sides) p
-side_answer n Any = done
-side_answer n (Rate p) = done
-side_answer n (Count p) = done
-side_answer n (Partial p k) = done
+abbrev side_answer : ℕ → Answer ℕ → Reply
+side_answer n (Some p) = reply_with 18 (n / sides) (n % sides) p
+side_answer n None = done
 
 -- ---- one side
 
@@ -49,7 +44,7 @@ answer_is n (Cells c) = refl
 answer_is n (WrongCode p) = refl
 
 -- the reply for what the code finds on the n-th side is that side's
-pub side_reply : (h : List ℕ) (n : ℕ) (part : List ℕ) (side : Side) (e : Expected) → part ≡ track_part h (n / sides)
+pub side_reply : (h : List ℕ) (n : ℕ) (part : List ℕ) (side : Side) (e : Answer ℕ) → part ≡ track_part h (n / sides)
     → side ≡ hfe_side (n % sides) (track_length h (n / sides)) → e ≡ wrong_of (coded (stored_bytes part side)) → side_answer n e ≡ refusal_reply
     (side_refusal h n)
 unfolding coded_side

@@ -1,6 +1,6 @@
 -- What judging hands on: the places of the bytes of all sectors that were judged good, or the reply for the first bad one.
 -- Rests on the laws of unpacking (Base.Unpacked of sector_rules) and of the lowest number that passes a test.
-use Rattle.std.specs.Prelude.{true, false, cond, List, ◌≡◌, refl, ℕ, ◌+◌, ◌≤◌, ◌<◌, eqb, length, get_or, set}
+use Rattle.std.specs.Prelude.{None, Ok, Err, true, false, cond, List, ◌≡◌, refl, ℕ, ◌+◌, ◌≤◌, ◌<◌, eqb, length, get_or, set}
 use Rattle.std.proofs.Math.Option.{Option, none, some}
 use Rattle.std.proofs.Common.{sym, ◌∙◌, arith, get_or-set_same, get_or-set_other}
 use Rattle.std.proofs.Math.Path.{ap}
@@ -8,10 +8,10 @@ use borrow.Author.Tests.{lt-ltb, eq-eqb, ne_eqb, eqb-false}
 use Rattle.laws.specs.Lists.{tab}
 use Rattle.laws.specs.Laws.Cases.{by_equal}
 use Rattle.laws.specs.Laws.Lowest.{lowest_none, lowest_some}
-use Rattle.sector_rules.specs.declared.Fault.TheVariants.{Sound}
 use Rattle.sector_rules.specs.declared.Reply.{Reply}
-use Rattle.sector_rules.specs.declared.Sector.{Sector}
-use Rattle.sector_rules.specs.declared.Sector.TheVariants.{Delivered}
+use Rattle.sector_rules.specs.declared.SectorFault.{SectorFault}
+use Rattle.sector_rules.specs.declared.SectorFault.TheVariants.{Missing, Repeated, NoField, Damaged}
+use Rattle.sector_rules.specs.Search.{Sector}
 use Rattle.sector_rules.specs.Replies.{done, unless}
 use Rattle.sector_rules.specs.Geometry.{all_sectors, image_bytes}
 use Rattle.sector_rules.specs.Hfe.{hfe_header_fault, table_fault}
@@ -21,7 +21,7 @@ use Rattle.sector_rules.specs.Unpacked.{place_of}
 
 -- the sectors below n are good, and the places of their bytes are noted
 pub record Noted (h places : List ℕ) (n : ℕ) : Type 0 where
-  pub each : (m : ℕ) → m < n → sector_at h m ≡ Delivered (get_or places m 0)
+  pub each : (m : ℕ) → m < n → sector_at h m ≡ Ok (get_or places m 0)
 
 -- the sectors below n are judged: all are good, or the reply is that of the first bad one
 pub record SectorsJudged (h places : List ℕ) (n : ℕ) (r : Reply) : Type 0 where
@@ -45,6 +45,13 @@ pub record SidesUnpacked (h p q : List ℕ) (r : Reply) : Type 0 where
 
 -- ---- sector by sector
 
+-- a sector that gives no bytes is bad
+pub fault_is_bad : (f : SectorFault) → is_bad (Err f) ≡ true
+fault_is_bad Missing = refl
+fault_is_bad Repeated = refl
+fault_is_bad NoField = refl
+fault_is_bad Damaged = refl
+
 module _ (h places : List ℕ) where
   -- before the first sector nothing is noted
   pub noted_none : Noted h places 0
@@ -58,8 +65,8 @@ module _ (h places : List ℕ) where
           each =
               λ k b.
               by_equal k m
-              (λ (z : k ≡ m). rw z (sym is ∙ good_is x e ∙ ap Delivered (sym (get_or-set_same places m (place_of x) 0 l))))
-              (λ (z : k ≡ m → ⊥). noted.each k (omega arith) ∙ ap Delivered (sym (get_or-set_other places m k (place_of x) 0 z)));
+              (λ (z : k ≡ m). rw z (sym is ∙ good_is x e ∙ ap Ok (sym (get_or-set_same places m (place_of x) 0 l))))
+              (λ (z : k ≡ m → ⊥). noted.each k (omega arith) ∙ ap Ok (sym (get_or-set_other places m k (place_of x) 0 z)));
         }
 
     -- the first bad one
@@ -119,7 +126,7 @@ module _ (h p q : List ℕ) (r : Reply) where
   sectors_after c x = record { answer = x.answer ∙ rw c; after = rw x.answer x.after }
 
 -- where header and table are right, the codes decide, and then the sectors
-pub sides_reply : (h : List ℕ) (n : ℕ) → least_hfe ≤ length h → n ≡ image_bytes → hfe_header_fault h ≡ Sound → table_fault h ≡ Sound
+pub sides_reply : (h : List ℕ) (n : ℕ) → least_hfe ≤ length h → n ≡ image_bytes → hfe_header_fault h ≡ None → table_fault h ≡ None
     → unpack_reply h n ≡ unless (first_code_refusal h) (λ (x : Reply). x) (sectors_reply h)
 unfolding unless
 sides_reply h n l e f g = by (first_code_refusal h) refl

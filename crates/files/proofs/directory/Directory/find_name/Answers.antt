@@ -1,0 +1,21 @@
+-- `find_name` meets its contract: the search over the numbers below the end finds the first that passes.
+-- Rests on: the laws in laws::FirstBelow; the contracts of dir_end and slot_has_name.
+-- Assumes nothing.
+use mathlib.Core.Path.{◌≡◌, ap, ◌∙◌}
+use mathlib.Core.Bool.{true, false, ◌&&◌}
+use Prim.Native.Nat.{ℕ}
+use Rattle.std.proofs.Common.{rules, tests}
+use Rattle.std.proofs.lemmas.Iterator.{first_from_Range}
+use Rattle.laws.specs.Below.{first_below}
+use Rattle.laws.specs.Laws.FirstBelow.{first_below_told}
+use Rattle.file_rules.specs.Disk.{disk_of}
+use Rattle.file_rules.specs.Directory.{name_eq, slot_name, held}
+use Rattle.files.proofs.directory.Directory.find_name.Goals as goal
+
+pub returns : goal.returns
+returns c =
+    let disk = disk_of c.args.self.now.disk.now.image.now in
+    let test = λ (k : ℕ). held disk k && name_eq (slot_name disk k) c.args.name.now in
+    first_below_told test _ c.find.result
+    (first_from_Range _ _ _ _ (λ k. test k ≡ true) (λ k. test k ≡ false) c.find.ensures.ran (λ x q k. search (rules, tests)) (λ x q k. search (rules, tests)))
+    ∙ ap (first_below test) c.dir_end.ensures.0

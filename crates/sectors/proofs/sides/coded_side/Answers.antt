@@ -1,8 +1,0 @@
--- `coded_side` meets its contract.
--- Rests on: the laws in Unpacking/Sides; the contracts of side_cells and nth_side.
--- Assumes nothing.
-use Rattle.sectors.specs.Laws.Unpacking.Sides.{image_gives}
-use Rattle.sectors.proofs.sides.coded_side.Goals as goal
-
-pub returns : goal.returns
-returns c = image_gives _ _ _ c.side_cells-side.ensures _ c.nth_side.ensures.0

@@ -1,8 +1,0 @@
--- `write_coded_side` meets its contract.
--- Rests on: the laws in Unpacking/Sides; the contracts of side_cells and write_side.
--- Assumes nothing.
-use Rattle.sectors.specs.Laws.Unpacking.Sides.{side_written}
-use Rattle.sectors.proofs.sides.write_coded_side.Goals as goal
-
-pub returns : goal.returns
-returns c = side_written _ _ _ _ _ _ c.side_cells-side.ensures c.write_side.ensures
