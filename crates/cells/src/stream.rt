@@ -26,6 +26,13 @@ impl Side {
         let at = self.first as usize + self.stride as usize * (b / 256) + b % 256;
         part.get(at).copied().unwrap_or(0)
     }
+
+    // How many cells there are from place i on, whatever bytes the part has: none past the side's end (§3.2).
+    pub fn cells_from(self, i: usize) -> usize
+        ensures { ((part : List ℕ) → result ≡ length (from (stream part self) i)) × (result < 2 ^ 32) }
+    {
+        (self.cells as usize).saturating_sub(i)
+    }
 }
 
 // The cells that one side of a track stores (§3.1 §3.2), read from the bytes of the track's part: a clause sees the list
@@ -71,7 +78,7 @@ impl<'a> Cells<'a> {
     pub fn cells_from(&self, i: usize) -> usize
         ensures { (result ≡ length (from self.now i)) × (result < 2 ^ 32) × ((k : ℕ) → get_or (from self.now i) k 0 < 2) }
     {
-        self.len().saturating_sub(i)
+        self.side.cells_from(i)
     }
 
     // Cell k of those from place i on (§3.2).

@@ -19,9 +19,11 @@ pub fn byte(s: &[u8], at: usize, k: usize) -> u8
 pub fn copy_into(dst: &mut [u8], at: usize, src: &[u8])
     ensures { dst.new ≡ put dst.old at src.now }
 {
-    let start = at.min(dst.len());
-    let end = at.saturating_add(src.len()).min(dst.len());
-    dst[start..end].copy_from_slice(&src[..end - start]);
+    // Byte by byte: `copy_from_slice` is a call of memmove, which nothing else in the archive for C needs.
+    let n = dst.len().saturating_sub(at).min(src.len());
+    for (i, byte) in src[..n].iter().enumerate() {
+        dst[at + i] = *byte;
+    }
 }
 
 // Sets the n bytes from at on to v; those past the end of dst are left out.

@@ -1,4 +1,4 @@
--- Laws that only proofs of code need. Some also define what contracts of private functions cite: the map of a sound disk (SoundMap, NotSound), the tie of
+-- Laws that only proofs of code need. Some also define what contracts of private functions cite: the image of a sound disk (SoundImage, NotSound), the tie of
 -- a table (MapLoaded, Located, Chained, Tallied, HashesNoted, PartsAt, InStep) or of a part of a call (Gave, Walked) to the definitions.
 pub mod Loading
 pub mod Judging

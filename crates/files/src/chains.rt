@@ -4,19 +4,20 @@ ghost use Rattle.std.specs.Prelude.{◌≡◌, None, get_or};
 ghost use Rattle.sector_rules.specs.Geometry.{blocks};
 ghost use Rattle.files.specs.Laws.Loading.Chains.{Chained};
 
+use crate::block_row::BlockRow;
 use crate::map::loaded_record;
 use crate::records::{FILES, bearer};
-use crate::sizes::{BlockRow, MapNumbers};
+use crate::sizes::{BLOCKS, MapNumbers};
 use sectors::Geometry;
 
 // The first block of each file, if a record bears it, and after each block the next of its file.
 #[derive(Clone, Copy)]
 pub struct Chains {
-    pub first: [Option<u16>; FILES],
-    pub next: BlockRow,
+    pub first: BlockRow<FILES>,
+    pub next: BlockRow<BLOCKS>,
 }
 
-// Chains all blocks, from the last one down. The chains are lent, not returned: they have 18 KiB, and each copy of them
+// Chains all blocks, from the last one down. The chains are lent, not returned: they have 9 KiB, and each copy of them
 // would stand on the stack.
 pub fn load_chains(map: &MapNumbers, chains: &mut Chains)
     requires { Chained chains.old.first chains.old.next map.now blocks }
@@ -24,8 +25,9 @@ pub fn load_chains(map: &MapNumbers, chains: &mut Chains)
 {
     for b in (0..Geometry::BLOCKS).rev() {
         if let Some(f) = bearer(loaded_record(map, b)) {
-            chains.next[b] = chains.first[f];
-            chains.first[f] = Some(b as u16);
+            let after = chains.first.get(f);
+            chains.next.put(b, after);
+            chains.first.put(f, Some(b));
         }
     }
 }
@@ -34,12 +36,5 @@ pub fn load_chains(map: &MapNumbers, chains: &mut Chains)
 pub fn first_block(chains: &Chains, f: usize) -> Option<usize>
     ensures { result ≡ get_or chains.now.first f None }
 {
-    block_at(&chains.first, f)
-}
-
-// The block in place k of a row, if there is one.
-pub fn block_at(row: &[Option<u16>], k: usize) -> Option<usize>
-    ensures { result ≡ get_or row.now k None }
-{
-    row.get(k).copied().flatten().map(usize::from)
+    chains.first.get(f)
 }

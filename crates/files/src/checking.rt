@@ -3,7 +3,7 @@ ghost use Rattle.std.specs.Prelude.{◌≡◌, MatchResult, ◌&&◌, ◌+◌, �
 ghost use Rattle.sector_rules.specs.Geometry.{sector_bytes, image_bytes};
 ghost use Rattle.file_rules.specs.Sizes.{slot_count};
 ghost use Rattle.file_rules.specs.Disk.{disk_of};
-ghost use Rattle.file_rules.specs.Directory.{held, dir_end};
+ghost use Rattle.file_rules.specs.Directory.{slot_entry, held, dir_end};
 ghost use Rattle.file_rules.specs.Check.{entry_right, file_right, refusal19, start_refusal, refusal10, refusal11, disk_refusal};
 ghost use Rattle.file_rules.specs.Calls as Calls;
 ghost use Rattle.files.specs.Laws.Judging.SoundImage.{NotSound};
@@ -11,6 +11,7 @@ ghost use Rattle.files.specs.Laws.Loading.NameHashes.{HashesNoted, TellsNew};
 ghost use Rattle.files.specs.Laws.Judging.Sound.{Tables, map_refusal};
 ghost use Rattle.files.specs.Refusals.{disk_refused, refusal_of, disk_replied};
 
+use crate::block_row::BlockRow;
 use crate::blocks::blocks_of;
 use crate::chains::{Chains, first_block, load_chains};
 use crate::directory::Directory;
@@ -19,18 +20,17 @@ use crate::loaded::LoadedDisk;
 use crate::map::map_fault;
 use crate::names::{HASHES, NotedHashes, new_by_hash, note_hash};
 use crate::parts::parts_right;
-use crate::records::FILES;
 use crate::refusals::DiskRefusal;
 use crate::sizes::{MapNumbers, NAME_MOST, SLOT_BYTES, SLOT_COUNT};
 use crate::sound::SoundDisk;
+use file_rules::Entry;
 use sectors::Geometry;
 
-// Whether a held slot is sound: its length, its name (§7.21), and its blocks (§7.20).
-fn entry_right(dir: &Directory<'_>, chains: &Chains, unnoted: bool, k: usize) -> bool
-    requires { Tables dir.now.disk.now.image.now dir.now.disk.now.map dir.now.blocks chains.now.first chains.now.next × (k < slot_count) × TellsNew unnoted (disk_of dir.now.disk.now.image.now) k }
+// Whether the held slot k, whose entry is given, is sound: its length, its name (§7.21), and its blocks (§7.20).
+fn entry_right(dir: &Directory<'_>, chains: &Chains, unnoted: bool, k: usize, e: &Entry) -> bool
+    requires { Tables dir.now.disk.now.image.now dir.now.disk.now.map dir.now.blocks chains.now.first chains.now.next × (k < slot_count) × (e.now ≡ slot_entry (disk_of dir.now.disk.now.image.now) k) × TellsNew unnoted (disk_of dir.now.disk.now.image.now) k }
     ensures { result ≡ entry_right (disk_of dir.now.disk.now.image.now) k }
 {
-    let e = dir.read_entry(k);
     let length = e.length as usize;
     let namelen = e.namelen as usize;
     if (SLOT_BYTES <= length) & ((1 <= namelen) & (namelen <= NAME_MOST)) {
@@ -70,8 +70,9 @@ fn file_right(
         );
     }
     if is_listed(dir, end, f) {
-        let unnoted = note_hash(dir, f, noted);
-        return entry_right(dir, chains, unnoted, f);
+        let entry = dir.read_entry(f);
+        let unnoted = note_hash(dir, f, &entry, noted);
+        return entry_right(dir, chains, unnoted, f, &entry);
     }
     first_block(chains, f).is_none()
 }
@@ -105,12 +106,12 @@ fn judge_files(disk: &LoadedDisk<'_>) -> Result<(), DiskRefusal>
 {
     let dir = Directory::of(disk);
     let mut chains = Chains {
-        first: [None; FILES],
-        next: [None; Geometry::BLOCKS],
+        first: BlockRow::none(),
+        next: BlockRow::none(),
     };
     load_chains(&disk.map, &mut chains);
     let end = dir_end(disk.image);
-    let mut noted = [false; HASHES];
+    let mut noted = [0; HASHES / 8];
     for f in 0..SLOT_COUNT {
         if !file_right(&dir, &chains, &mut noted, end, f) {
             return Err(DiskRefusal::UnsoundFile(f));

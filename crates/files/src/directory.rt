@@ -9,12 +9,12 @@ ghost use Rattle.file_rules.specs.Disk.{disk_of};
 ghost use Rattle.file_rules.specs.Directory.{lowered, name_eq, entry_of, name_of, slot_byte, slot_entry, slot_name, held, dir_end};
 ghost use Rattle.files.specs.Laws.Loading.Slots.{slot_place, Located, located_prop};
 
+use crate::block_row::BlockRow;
 use crate::blocks::byte_place;
-use crate::chains::block_at;
 use crate::header::dir_end;
 use crate::loaded::LoadedDisk;
 use crate::parts::file_blocks;
-use crate::sizes::{BLOCK_SLOTS, BlockRow, NAME_MOST, SLOT_BYTES};
+use crate::sizes::{BLOCK_SLOTS, BLOCKS, NAME_MOST, SLOT_BYTES};
 use file_rules::Entry;
 use sectors::Geometry;
 
@@ -22,7 +22,7 @@ use sectors::Geometry;
 #[derive(Drop)]
 pub struct Directory<'a> {
     pub disk: &'a LoadedDisk<'a>,
-    pub blocks: BlockRow,
+    pub blocks: BlockRow<BLOCKS>,
     ghost whole: { length disk.now.image.now ≡ image_bytes },
     ghost located: { Located blocks (disk_of disk.now.image.now) } by { located_prop _ _ },
 }
@@ -45,7 +45,7 @@ impl<'a> Directory<'a> {
         requires { k < slot_count }
         ensures { (result ≡ slot_place self.now.blocks k) × (result ≤ image_bytes) }
     {
-        match block_at(&self.blocks, k / BLOCK_SLOTS) {
+        match self.blocks.get(k / BLOCK_SLOTS) {
             Some(b) => byte_place(b, k % BLOCK_SLOTS * SLOT_BYTES),
             None => Geometry::IMAGE_BYTES,
         }
@@ -59,7 +59,9 @@ impl<'a> Directory<'a> {
         fields::bytes_at(self.disk.image, self.slot_place(k))
     }
 
-    // Whether slot k is held; slot 0 never is (§6.12).
+    // Whether slot k is held; slot 0 never is (§6.12). Inlined into the walk of all file numbers it makes each of its
+    // turns longer, also those of numbers past the directory's end.
+    #[inline(never)]
     pub fn held_slot(&self, k: usize) -> bool
         requires { k < slot_count }
         ensures { result ≡ held (disk_of self.now.disk.now.image.now) k }
@@ -145,6 +147,14 @@ pub fn lowered_byte(x: u8) -> u8
     x.to_ascii_lowercase()
 }
 
+// Whether two bytes of names agree: equal once they are lowered (§6.14). Most that agree do so as they stand, which is
+// looked at first.
+fn bytes_agree(x: u8, y: u8) -> bool
+    ensures { result ≡ eqb (lowered x) (lowered y) }
+{
+    x == y || lowered_byte(x) == lowered_byte(y)
+}
+
 // Whether the slot at a place has this name: the same length, and at each place bytes that are equal once they are
 // lowered (§6.14).
 fn entry_has_name(image: &[u8], at: usize, name: &[u8]) -> bool
@@ -152,6 +162,8 @@ fn entry_has_name(image: &[u8], at: usize, name: &[u8]) -> bool
     ensures { result ≡ name_eq (name_of (entry_of (element_at image.now at))) name.now }
 {
     name_length(image, at) == name.len()
-        && name.iter().enumerate().all(|(i, x)| lowered_byte(fields::byte(image, at + 16, i))
-            == lowered_byte(*x))
+        && name
+            .iter()
+            .enumerate()
+            .all(|(i, x)| bytes_agree(fields::byte(image, at + 16, i), *x))
 }

@@ -3,6 +3,7 @@
 
 mod adding;
 mod batching;
+mod block_row;
 mod blocks;
 mod chains;
 mod checking;

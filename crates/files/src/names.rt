@@ -5,16 +5,18 @@ ghost use Rattle.laws.specs.Below.{all};
 ghost use Rattle.sector_rules.specs.Geometry.{image_bytes};
 ghost use Rattle.file_rules.specs.Sizes.{slot_count};
 ghost use Rattle.file_rules.specs.Disk.{disk_of};
-ghost use Rattle.file_rules.specs.Directory.{name_eq, name_of, entry_of, slot_name, held, dir_end};
+ghost use Rattle.file_rules.specs.Directory.{name_eq, name_of, entry_of, slot_entry, slot_name, held, dir_end};
 ghost use Rattle.files.specs.Laws.Loading.NameHashes.{hash_count, name_hash, HashesNoted, TellsNew};
 
 use crate::directory::{Directory, lowered_byte, name_of};
+use file_rules::Entry;
 
-// How many hashes there are: a prime. With more a call that judges a full disk would use more than 40,000 bytes of stack.
-pub const HASHES: usize = 2039;
+// How many hashes there are.
+pub const HASHES: usize = 16384;
 
-// Which hashes the names of the slots judged before have.
-pub type NotedHashes = [bool; HASHES];
+// Which hashes the names of the slots judged before have: a bit for each, eight to a byte, the lowest first. A bool for
+// each would take 16 KiB of stack.
+pub type NotedHashes = [u8; HASHES / 8];
 
 // The hash of a name: that of its bytes once they are lowered, so that equal names have one hash (§6.14).
 fn name_hash(name: &[u8]) -> usize
@@ -27,16 +29,16 @@ fn name_hash(name: &[u8]) -> usize
     hash
 }
 
-// Notes the hash of the name of the held slot k, and tells whether no lower slot has it: then the name is new.
-pub fn note_hash(dir: &Directory<'_>, k: usize, noted: &mut NotedHashes) -> bool
-    requires { (k < slot_count) × ((ltb k (dir_end (disk_of dir.now.disk.now.image.now)) && held (disk_of dir.now.disk.now.image.now) k) ≡ true) × HashesNoted noted.old (disk_of dir.now.disk.now.image.now) k }
+// Notes the hash of the name of the held slot k, whose entry is given, and tells whether no lower slot has it: then the
+// name is new.
+pub fn note_hash(dir: &Directory<'_>, k: usize, entry: &Entry, noted: &mut NotedHashes) -> bool
+    requires { (k < slot_count) × (entry.now ≡ slot_entry (disk_of dir.now.disk.now.image.now) k) × ((ltb k (dir_end (disk_of dir.now.disk.now.image.now)) && held (disk_of dir.now.disk.now.image.now) k) ≡ true) × HashesNoted noted.old (disk_of dir.now.disk.now.image.now) k }
     ensures { TellsNew result (disk_of dir.now.disk.now.image.now) k × HashesNoted noted.new (disk_of dir.now.disk.now.image.now) (k + 1) }
 {
-    let entry = dir.read_entry(k);
-    let hash = name_hash(name_of(&entry));
-    let unnoted = !noted[hash];
-    noted[hash] = true;
-    unnoted
+    let hash = name_hash(name_of(entry));
+    let byte = noted[hash / 8];
+    noted[hash / 8] = byte | (1 << (hash % 8));
+    (byte >> (hash % 8)) % 2 == 0
 }
 
 // Whether no slot below k is held and has this name (§7.21): `new_name`, for the name of slot k.

@@ -8,10 +8,11 @@ ghost use Rattle.files.specs.Laws.Loading.Chains.{Chained};
 ghost use Rattle.files.specs.Laws.Loading.Tally.{Tallied};
 ghost use Rattle.files.specs.Laws.Loading.Parts.{record_cell, parts_in, PartsAt};
 
-use crate::chains::{Chains, block_at, first_block};
+use crate::block_row::BlockRow;
+use crate::chains::{Chains, first_block};
 use crate::map::{loaded_record, part_block};
 use crate::records::part_of;
-use crate::sizes::{BlockRow, MapNumbers};
+use crate::sizes::{BLOCKS, MapNumbers};
 use sectors::Geometry;
 
 // How often each of the first n parts of a file stands, and in cell n how many later ones there are.
@@ -28,7 +29,7 @@ fn tally_parts(map: &MapNumbers, chains: &Chains, f: usize, n: usize) -> PartTal
         if let Some(s) = part_of(loaded_record(map, b), f) {
             tally[s.min(n)] += 1;
         }
-        at = block_at(&chains.next, b);
+        at = chains.next.get(b);
     }
     tally
 }
@@ -50,14 +51,14 @@ pub fn parts_right(map: &MapNumbers, chains: &Chains, f: usize, n: usize) -> boo
 }
 
 // The blocks of file f in sequence (`part_block`). From the last block down, so that the lowest of several stays (§6.10).
-pub fn file_blocks(map: &MapNumbers, f: usize) -> BlockRow
+pub fn file_blocks(map: &MapNumbers, f: usize) -> BlockRow<BLOCKS>
     ensures { PartsAt result map.now f }
 {
-    let mut row = [None; Geometry::BLOCKS];
+    let mut row = BlockRow::none();
     for b in (0..Geometry::BLOCKS).rev() {
         if let Some(s) = part_of(loaded_record(map, b), f) {
             if s < Geometry::BLOCKS {
-                row[s] = Some(b as u16);
+                row.put(s, Some(b));
             }
         }
     }
@@ -66,12 +67,12 @@ pub fn file_blocks(map: &MapNumbers, f: usize) -> BlockRow
 
 // The block that is sequence s of file f (`part_block`), from its blocks (§6.10); a sequence that no row has is looked for
 // in the map.
-pub fn nth_block(map: &MapNumbers, row: &BlockRow, f: usize, s: usize) -> Option<usize>
+pub fn nth_block(map: &MapNumbers, row: &BlockRow<BLOCKS>, f: usize, s: usize) -> Option<usize>
     requires { PartsAt row.now map.now f }
     ensures { result ≡ first_below (λ (b : ℕ). is_part f s (loaded_record map.now b)) blocks }
 {
     if s < Geometry::BLOCKS {
-        return block_at(row, s);
+        return row.get(s);
     }
     part_block(map, f, s)
 }

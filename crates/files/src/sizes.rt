@@ -2,6 +2,9 @@
 pub use file_rules::NAME_MOST;
 use sectors::Geometry;
 
+// Blocks of a disk (§1.1).
+pub const BLOCKS: usize = Geometry::BLOCKS;
+
 // Bytes of a block (§1.1).
 pub const BLOCK_BYTES: usize = Geometry::BLOCK_SECTORS * Geometry::SECTOR_BYTES;
 
@@ -28,6 +31,3 @@ pub const TITLE_MOST: usize = 10;
 
 // A loaded map: the number of each block's record.
 pub type MapNumbers = [u32; Geometry::BLOCKS];
-
-// The blocks of a file in sequence, or the block after each in its file's chain.
-pub type BlockRow = [Option<u16>; Geometry::BLOCKS];

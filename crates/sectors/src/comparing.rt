@@ -46,7 +46,8 @@ fn sector_reads(hfe: &[u8], q: usize, p: usize, bytes: &[u8; Geometry::SECTOR_BY
     requires { PlainImage hfe.now × (q < all_sectors) }
     ensures { result ≡ same (bytes_at hfe.now q p) bytes.now }
 {
-    read_sector(hfe, q, p) == *bytes
+    let cells = sector_cells(hfe, q);
+    (0..Geometry::SECTOR_BYTES).all(|k| cells.data_byte(p, 16 * k) == bytes[k])
 }
 
 // Whether header and table of an image are right (§8.17).

@@ -15,7 +15,7 @@ use cells::Cells;
 // What the nine sectors of a side give, each judged alone (`sector_of`), R from 1 (§4.6). On a side whose runs were
 // recorded apart, with damage anywhere but no new run, a sector gives its recorded bytes or none (§10.4). Each comes with
 // the cell place of its data (`data_place`), also where the CRC does not hold (§8.16).
-fn side_sectors(cells: &Cells, track: u8, head: u8) -> [SectorField; Geometry::SECTORS]
+pub fn side_sectors(cells: &Cells, track: u8, head: u8) -> [SectorField; Geometry::SECTORS]
     ensures { SideGives result cells.now track head }
 {
     scan(cells, track, head).map(|found| sector_found(cells, found))

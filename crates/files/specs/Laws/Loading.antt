@@ -6,5 +6,6 @@ pub mod Loaded
 pub mod Tally
 pub mod Parts
 pub mod Chains
+pub mod BlockRows
 pub mod Slots
 pub mod NameHashes

@@ -8,23 +8,15 @@ use Rattle.files.proofs.chains.load_chains.Goals as goal
 pub loop-b-init : goal.loop-b-init
 loop-b-init c = (omega arith, c.requires)
 
-pub offset_bounds-chains-f : goal.offset_bounds-chains-f
-offset_bounds-chains-f c = record { fits = omega (arith, (bearer_told _ _ (sym c.in-Some.ensures)).0) }
-
-pub bounds-chains-f : goal.bounds-chains-f
-bounds-chains-f c = (bearer_told _ _ (sym c.in-Some.ensures)).0
-
-pub offset_bounds-chains-f-in-Some : goal.offset_bounds-chains-f-in-Some
-offset_bounds-chains-f-in-Some c = record { fits = omega (arith, (bearer_told _ _ (sym c.in-Some.ensures)).0) }
-
-pub bounds-chains-f-in-Some : goal.bounds-chains-f-in-Some
-bounds-chains-f-in-Some c = (bearer_told _ _ (sym c.in-Some.ensures)).0
+pub put-requires-in-Some : goal.put-requires-in-Some
+put-requires-in-Some c = (omega arith, ((bearer_told _ _ (sym c.in-Some.ensures)).0, omega arith))
 
 pub loop-b-preserved-in-Some : goal.loop-b-preserved-in-Some
 loop-b-preserved-in-Some c = (
   omega arith,
-  chain_more _ _ _ _ _ (omega arith) (omega arith) c.loop-b.invariant.1 _
-      (ap bearer (sym c.loaded_record.ensures) ∙ sym c.in-Some.ensures),
+  rw (c.put-in-Some.ensures, c.put.ensures, c.get-after.ensures)
+      (chain_more _ _ _ _ _ (omega arith) (omega arith) c.loop-b.invariant.1 _
+      (ap bearer (sym c.loaded_record.ensures) ∙ sym c.in-Some.ensures)),
 )
 
 pub loop-b-preserved : goal.loop-b-preserved

@@ -1,6 +1,6 @@
 -- `file_right` meets its contract.
 -- Rests on: the laws in Loading/Chains, Loading/NameHashes and Judging/Sound; the contracts of dir_bytes, blocks_of,
--- parts_right, is_listed, note_hash, entry_right and first_block.
+-- parts_right, is_listed, read_entry, note_hash, entry_right and first_block.
 -- Assumes nothing.
 use mathlib.Core.Path.{◌≡◌, sym, ap, ◌∙◌}
 use mathlib.Core.Bool.{Bool, true, false, not, ◌&&◌}
@@ -38,12 +38,13 @@ listed_so d f end r t e q h = ap (λ (x : ℕ). ltb f x && held d f) (sym e) ∙
 pub note_hash-unnoted-requires : goal.note_hash-unnoted-requires
 note_hash-unnoted-requires c = (
   c.requires.1,
+  c.read_entry-entry.ensures,
   listed_so _ _ _ _ true c.requires.2 c.is_listed.ensures c.if-is_listed.true,
   c.requires.3,
 )
 
 pub entry_right-requires : goal.entry_right-requires
-entry_right-requires c = (c.requires.0, c.requires.1, c.note_hash-unnoted.ensures.0)
+entry_right-requires c = (c.requires.0, c.requires.1, c.read_entry-entry.ensures, c.note_hash-unnoted.ensures.0)
 
 pub returns-then-is_listed : goal.returns-then-is_listed
 returns-then-is_listed c = (

@@ -14,7 +14,7 @@ use mathlib.Core.Bool.{not}
 use Rattle.files.proofs.checking.judge_files.Goals as goal
 
 pub load_chains-requires : goal.load_chains-requires
-load_chains-requires c = chain_none sequences blocks refl refl _
+load_chains-requires c = rw (c.none.ensures, c.none-2.ensures) (chain_none sequences blocks refl refl _)
 
 pub loop-f-init : goal.loop-f-init
 loop-f-init c = (omega arith, below_none _, hashes_none _)

@@ -6,13 +6,14 @@ use Rattle.files.specs.Laws.Loading.Parts.{part_of, from_none, from_part, from_f
 use Rattle.files.proofs.parts.file_blocks.Goals as goal
 
 pub loop-b-init : goal.loop-b-init
-loop-b-init c = (omega arith, from_none _ _)
+loop-b-init c = (omega arith, rw c.none-row.ensures (from_none _ _))
 
 pub loop-b-preserved-then-s-lt-BLOCKS : goal.loop-b-preserved-then-s-lt-BLOCKS
 loop-b-preserved-then-s-lt-BLOCKS c = (
   omega arith,
-  from_part _ _ _ _ _ (omega arith) (omega arith) c.loop-b.invariant.1 _
-      (ap (part_of c.args.f) (sym c.loaded_record.ensures) ∙ sym c.in-Some.ensures) c.if-s-lt-BLOCKS.true,
+  rw c.put.ensures
+      (from_part _ _ _ _ _ (omega arith) (omega arith) c.loop-b.invariant.1 _
+      (ap (part_of c.args.f) (sym c.loaded_record.ensures) ∙ sym c.in-Some.ensures) c.if-s-lt-BLOCKS.true),
 )
 
 pub loop-b-preserved-else-s-lt-BLOCKS : goal.loop-b-preserved-else-s-lt-BLOCKS

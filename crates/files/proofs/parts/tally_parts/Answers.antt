@@ -1,5 +1,5 @@
 -- `tally_parts` meets its contract: the records before the block that the walk is at are counted.
--- Rests on: the laws in Loading/Tally and Loading/Chains; the contracts of first_block, loaded_record, part_of and block_at.
+-- Rests on: the laws in Loading/Tally and Loading/Chains; the contracts of first_block, loaded_record, part_of and BlockRow::get.
 -- Assumes nothing.
 use Rattle.std.proofs.Common.{suc, refl, arith, sym, ◌∙◌, ap}
 use Rattle.sector_rules.specs.Geometry.{blocks}
@@ -25,7 +25,7 @@ loop-at-preserved c =
     let part = ap (part_of c.args.f) (sym c.loaded_record.ensures) ∙ sym c.part_of.ensures in
     elim c.match-part_of.branch [
       | in-Some-part_of w ↦
-          rw (w.tally-is, c.block_at-at.ensures)
+          rw (w.tally-is, c.get-at.ensures)
           (tallied_next _ _ _ _ _ _ _ c.requires.0 c.requires.1 m _ _ _ (part ∙ w.in-Some-part_of.is) w.min.ensures refl)
       | in_default-part_of w ↦ absurd (tallied_part _ _ _ _ _ _ _ c.requires.0 c.requires.1 m (part ∙ w.in_default-part_of.is))
     ]

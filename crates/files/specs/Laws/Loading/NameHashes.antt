@@ -1,6 +1,7 @@
 -- Hashes of names: a number for each name, by which most names are told apart at once.
 -- Rests on the slots (Slots) and on when names are equal (file_rules, Names).
-use Rattle.std.specs.Prelude.{◌≡◌, refl, Bool, false, ◌&&◌, List, ℕ, zero, suc, ◌+◌, ◌*◌, ◌%◌, ◌<◌, ltb, length, set, replicate}
+use Rattle.std.specs.Prelude.{◌≡◌, ◌≢◌, refl, Bool, false, ◌&&◌, List, ℕ, zero, suc, ◌+◌, ◌*◌, ◌/◌, ◌%◌, ◌<◌, ltb, length, set, replicate}
+use Rattle.std.specs.Int.{bit_at}
 use Rattle.std.proofs.Math.Path.{sym, ap}
 use Rattle.std.proofs.Common.{ap₂, ◌∙◌, add-one, arith, length-set, get_or-set_same, get_or-set_other}
 use Rattle.std.proofs.Math.Bool.{true, not}
@@ -18,7 +19,7 @@ use Rattle.file_rules.proofs.Laws.Base.Names.{equal_length, equal_byte}
 
 -- how many hashes there are
 abbrev pub hash_count : ℕ
-hash_count = 2039
+hash_count = 16384
 
 -- the hash of the first n bytes of g, once they are lowered
 unfoldable pub row_hash : (ℕ → ℕ) → ℕ → ℕ
@@ -80,20 +81,43 @@ hash_entry d k m e name q p h = rw (h, p, q)
 abbrev pub listed_slot : Disk → ℕ → Bool
 listed_slot d k = ltb k (dir_end d) && held d k
 
+-- the bit of a hash in the noted bytes: 1 where it is noted
+abbrev pub noted_bit : List ℕ → ℕ → ℕ
+noted_bit noted hash = bit_at (get_or noted (hash / 8) 0) (hash % 8)
+
 -- the hashes of the names of all listed slots below k are noted
-pub record HashesNoted (noted : List Bool) (d : Disk) (k : ℕ) : Type 0 where
-  pub long : length noted ≡ hash_count
-  pub below : (j : ℕ) → j < k → listed_slot d j ≡ true → get_or noted (name_hash (slot_name d j)) false ≡ true
+pub record HashesNoted (noted : List ℕ) (d : Disk) (k : ℕ) : Type 0 where
+  pub long : length noted ≡ hash_count / 8
+  pub below : (j : ℕ) → j < k → listed_slot d j ≡ true → noted_bit noted (name_hash (slot_name d j)) ≡ 1
 
 -- what a hash that was not noted tells: the name of slot k is new
 abbrev pub TellsNew : Bool → Disk → ℕ → Type 0
 TellsNew unnoted d k = unnoted ≡ true → new_name d k ≡ true
 
 -- at first none is noted
-pub hashes_none : (d : Disk) → HashesNoted (replicate hash_count false) d 0
-hashes_none d = record { long = length-replicate {A = Bool} hash_count false; below = λ j h t. absurd (omega arith) }
+pub hashes_none : (d : Disk) → HashesNoted (replicate (hash_count / 8) 0) d 0
+hashes_none d = record { long = length-replicate {A = ℕ} (hash_count / 8) 0; below = λ j h t. absurd (omega arith) }
 
-module _ (noted : List Bool) (d : Disk) (k : ℕ) (m : HashesNoted noted d k) where
+module _ (noted : List ℕ) (hash v : ℕ) (room : hash / 8 < length noted) (own : bit_at v (hash % 8) ≡ 1)
+    (others : (i : ℕ) → i ≢ hash % 8 → bit_at v i ≡ bit_at (get_or noted (hash / 8) 0) i) where
+  -- a hash whose bit is set is noted
+  bit_noted : noted_bit (set noted (hash / 8) v) hash ≡ 1
+  bit_noted = ap (λ (x : ℕ). bit_at x (hash % 8)) (get_or-set_same noted (hash / 8) v 0 room) ∙ own
+
+  -- every other hash stays noted
+  bit_kept : (h : ℕ) → noted_bit noted h ≡ 1 → noted_bit (set noted (hash / 8) v) h ≡ 1
+  bit_kept h t =
+      by_equal (h / 8) (hash / 8)
+      (λ q.
+      by_equal (h % 8) (hash % 8)
+      (λ r. ap₂ (λ (x i : ℕ). bit_at (get_or (set noted (hash / 8) v) x 0) i) q r ∙ bit_noted)
+      (λ r.
+      ap (λ (x : ℕ). bit_at (get_or (set noted (hash / 8) v) x 0) (h % 8)) q
+      ∙ ap (λ (x : ℕ). bit_at x (h % 8)) (get_or-set_same noted (hash / 8) v 0 room) ∙ others (h % 8) r
+      ∙ ap (λ (x : ℕ). bit_at (get_or noted x 0) (h % 8)) (sym q) ∙ t))
+      (λ q. ap (λ (x : ℕ). bit_at x (h % 8)) (get_or-set_other noted (hash / 8) (h / 8) v 0 q) ∙ t)
+
+module _ (noted : List ℕ) (d : Disk) (k : ℕ) (m : HashesNoted noted d k) where
   -- a slot that is not listed has no hash to note
   pub hashes_skip : listed_slot d k ≡ false → HashesNoted noted d (k + 1)
   hashes_skip t =
@@ -104,24 +128,24 @@ module _ (noted : List Bool) (d : Disk) (k : ℕ) (m : HashesNoted noted d k) wh
       }
 
   module _ (hash : ℕ) (e : hash ≡ name_hash (slot_name d k)) where
-    room : hash < length noted
-    room = omega (arith, m.long, hash_lt (slot_name d k))
-
-    -- the hash of slot k is noted
-    pub hashes_more : HashesNoted (set noted hash true) d (k + 1)
-    hashes_more =
+    -- the hash of slot k is noted: its bit is set, and those of other hashes stay
+    pub hashes_more : (v : ℕ) → bit_at v (hash % 8) ≡ 1
+        → ((i : ℕ) → i ≢ hash % 8 → bit_at v i ≡ bit_at (get_or noted (hash / 8) 0) i)
+        → HashesNoted (set noted (hash / 8) v) d (k + 1)
+    hashes_more v own others =
+        let room : hash / 8 < length noted = omega (arith, m.long, hash_lt (slot_name d k)) in
         record {
-          long = length-set noted hash true ∙ m.long;
+          long = length-set noted (hash / 8) v ∙ m.long;
           below = λ j h u.
-              by_equal (name_hash (slot_name d j)) hash
-              (λ q. ap (λ (x : ℕ). get_or (set noted hash true) x false) q ∙ get_or-set_same noted hash true false room)
-              (λ q.
-              get_or-set_other noted hash (name_hash (slot_name d j)) true false q
-              ∙ by_equal j k (λ i. absurd (q (ap (λ (x : ℕ). name_hash (slot_name d x)) i ∙ sym e))) (λ i. m.below j (omega arith) u));
+              by_equal j k
+              (λ i.
+              ap (λ (x : ℕ). noted_bit (set noted (hash / 8) v) (name_hash (slot_name d x))) i
+              ∙ ap (noted_bit (set noted (hash / 8) v)) (sym e) ∙ bit_noted noted hash v room own others)
+              (λ i. bit_kept noted hash v room own others (name_hash (slot_name d j)) (m.below j (omega arith) u));
         }
 
     -- a hash that no lower slot has tells that the name is new
-    pub unnoted_new : listed_slot d k ≡ true → get_or noted hash false ≡ false → new_name d k ≡ true
+    pub unnoted_new : listed_slot d k ≡ true → noted_bit noted hash ≡ 0 → new_name d k ≡ true
     unfolding new_name
     unnoted_new t z =
         let end : k < dir_end d = true_lt (and_left (ltb k (dir_end d)) (held d k) t) in
@@ -133,8 +157,8 @@ module _ (noted : List Bool) (d : Disk) (k : ℕ) (m : HashesNoted noted d k) wh
         and_true (lt_true {a = j} {b = dir_end d} (omega arith)) (and_left (held d j) (name_eq (slot_name d j) (slot_name d k)) u) in
         let same : name_hash (slot_name d j) ≡ hash =
         hash_same (slot_name d j) (slot_name d k) (and_right (held d j) (name_eq (slot_name d j) (slot_name d k)) u) ∙ sym e in
-        let here : get_or noted hash false ≡ true = ap (λ (x : ℕ). get_or noted x false) (sym same) ∙ m.below j l listed in
-        true≢false (get_or noted hash false) here z)
+        let one : noted_bit noted hash ≡ 1 = ap (noted_bit noted) (sym same) ∙ m.below j l listed in
+        absurd (omega arith))
         (λ u. ap not u))
 
 -- slot 0 is not listed

@@ -2,7 +2,6 @@
 -- Rests on the laws of what a sector gives (Base.Unpacked of sector_rules) and of lists.
 use Rattle.std.specs.Prelude.{Ok, Err, Bool, true, false, ◌&&◌, ◌≢◌, ◌≡◌, ℕ, suc, ◌+◌, ◌<◌, length, get_or}
 use mathlib.Core.List.{List, [], ◌∷◌}
-use lib.Pointwise.{pointwise}
 use Rattle.std.proofs.Math.Path.{refl, sym, ap}
 use Rattle.std.proofs.Common.{◌∙◌, arith}
 use Rattle.std.proofs.Math.Bool.{cond}
@@ -10,9 +9,12 @@ use Rattle.std.proofs.Math.Dec.{eqb}
 use Rattle.std.proofs.lemmas.Bool.{eqb-false}
 use Rattle.laws.specs.Changes.{overlay}
 use Rattle.laws.specs.Lists.{tab, same}
+use Rattle.laws.specs.Below.{all}
+use Rattle.laws.specs.Laws.All.{all_is, all_at}
 use Rattle.laws.specs.Laws.Cases.{by_test}
 use Rattle.laws.specs.Laws.Same.{same_eq, eq_same}
-use Rattle.laws.specs.Laws.Tests.{true≢false, and_true, and_false_left, eq_true, eq_false, cond_true, cond_false}
+use Rattle.laws.specs.Laws.Tab.{tab_in, eq_tab}
+use Rattle.laws.specs.Laws.Tests.{true_eq, true≢false, and_true, and_false_left, eq_true, eq_false, cond_true, cond_false}
 use Rattle.laws.specs.Laws.Overlay.{overlay_all}
 use Rattle.sector_rules.specs.Search.{Sector}
 use Rattle.sectors.specs.declared.SectorField.{SectorField}
@@ -31,13 +33,17 @@ use Rattle.sector_rules.specs.Unpacked.{place_of}
 abbrev pub bytes_at : List ℕ → ℕ → ℕ → List ℕ
 bytes_at h q p = tab (sector_byte (side_stream h (track_of q) (side_of q)) p) sector_bytes
 
--- lists of bytes are equal in code if they are the same by the test
-pub equal_same : (xs ys : List ℕ) → pointwise eqb xs ys ≡ same xs ys
-unfolding same
-equal_same [] [] = refl
-equal_same [] (y ∷ ys) = refl
-equal_same (x ∷ xs) [] = refl
-equal_same (x ∷ xs) (y ∷ ys) = ap (λ (b : Bool). eqb x y && b) (equal_same xs ys)
+-- a row that a rule gives is the same as a list if each of its elements is
+pub rule_same : (f : ℕ → ℕ) (n : ℕ) (ys : List ℕ) → length ys ≡ n → all (λ (k : ℕ). eqb (f k) (get_or ys k 0)) n ≡ same (tab f n) ys
+rule_same f n ys l =
+    by_test (all (λ (k : ℕ). eqb (f k) (get_or ys k 0)) n)
+    (λ t. t ∙ sym (eq_same (tab f n) ys (sym (eq_tab ys f n l (λ k h. sym (true_eq (all_at (λ (i : ℕ). eqb (f i) (get_or ys i 0)) n t k h)))))))
+    (λ t.
+    by_test (same (tab f n) ys)
+    (λ u. absurd (true≢false (all (λ (k : ℕ). eqb (f k) (get_or ys k 0)) n)
+    (all_is (λ (k : ℕ). eqb (f k) (get_or ys k 0)) n
+    (λ k h. eq_true (sym (tab_in f n k h) ∙ ap (λ (xs : List ℕ). get_or xs k 0) (same_eq (tab f n) ys u)))) t))
+    (λ u. t ∙ sym u))
 
 -- ---- one answer
 

@@ -51,13 +51,13 @@ with_side d h places n =
 -- ---- what the sectors give
 
 -- the search's answer gives what the sector gives
-found_gives : (found : List Found) (c : List ℕ) (t s k : ℕ) → Scanned found c t s → k < sectors
+pub found_gives : (found : List Found) (c : List ℕ) (t s k : ℕ) → Scanned found c t s → k < sectors
     → sector_found c (get_or found k Nothing) ≡ sector_of c t s (k + 1)
 unfolding sector_of
 found_gives found c t s k x h = rw (x.each k h)
 
 -- the search's answer gives the place of the sector's data
-found_place : (found : List Found) (c : List ℕ) (t s k : ℕ) → Scanned found c t s → k < sectors
+pub found_place : (found : List Found) (c : List ℕ) (t s k : ℕ) → Scanned found c t s → k < sectors
     → data_place_of c (get_or found k Nothing) ≡ data_place c t s (k + 1)
 unfolding data_place
 found_place found c t s k x h = rw (x.each k h)

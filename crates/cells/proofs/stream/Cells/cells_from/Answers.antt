@@ -1,9 +1,12 @@
 -- `Cells::cells_from` meets its contract.
--- Rests on: the laws in Stream; the contract of len.
+-- Rests on: the laws in Stream; the contract of Side::cells_from.
 -- Assumes nothing.
-use native.Mathlib.Omega.{arith}
-use Rattle.cells.proofs.Laws.Stream.{from_length, from_bit}
+use Rattle.cells.proofs.Laws.Stream.{from_bit, stream_bit}
 use Rattle.cells.proofs.stream.Cells.cells_from.Goals as goal
 
 pub returns : goal.returns
-returns c = (rw from_length (omega arith), omega arith, from_bit _ _ c.len.ensures.2)
+returns c = (
+  rw (← c.self.view_is) (c.cells_from.ensures.0 _),
+  c.cells_from.ensures.1,
+  rw (← c.self.view_is) (from_bit _ _ (stream_bit _ _)),
+)
