@@ -29,11 +29,11 @@ pub numbers_back : (l : List ℕ) → map number_stored (map stored_block l) ≡
 numbers_back [] = refl
 numbers_back (x ∷ l) = ap₂ (λ (y : ℕ) (m : List ℕ). y ∷ m) (number_back x) (numbers_back l)
 
--- a row of noughts has no block
-pub none_stored : (n : ℕ) → map stored_block (replicate n 0) ≡ replicate {A = Option ℕ} n None
-none_stored zero = refl
-none_stored (suc n) = ap (λ (l : List (Option ℕ)). None ∷ l) (none_stored n)
+-- a row of zeroes has no block
+pub row_empty : (n : ℕ) → map stored_block (replicate n 0) ≡ replicate {A = Option ℕ} n None
+row_empty zero = refl
+row_empty (suc n) = ap (λ (l : List (Option ℕ)). None ∷ l) (row_empty n)
 
 -- a row in which a number is set has the block that it stands for
-pub block_stored : (l : List ℕ) (k v : ℕ) (b : Option ℕ) → stored_block v ≡ b → map stored_block (set l k v) ≡ set (map stored_block l) k b
-block_stored l k v b e = map-set stored_block l k v ∙ ap (λ (x : Option ℕ). set (map stored_block l) k x) e
+pub row_put : (l : List ℕ) (k v : ℕ) (b : Option ℕ) → stored_block v ≡ b → map stored_block (set l k v) ≡ set (map stored_block l) k b
+row_put l k v b e = map-set stored_block l k v ∙ ap (λ (x : Option ℕ). set (map stored_block l) k x) e
